@@ -18,26 +18,30 @@ use Rattle.sva_model.specs.Steps.{reply, world_after}
 use Rattle.sva_model.specs.Claims.{Fits}
 
 -- a page request that is filed of the job's group asks for the page
-pub record IsAskedFor (w : World) (job page : ℕ) : Type 0 where
+pub record IsAskedFor (world : World) (job page : ℕ) : Type 0 where
   pub filing : ℕ
-  pub filed : filing < (job_part w job).filings
-  pub of_group : (job_part w job).group_of ((job_part w job).filing filing) ≡ (w.job job).group
-  pub of_page : (job_part w job).asked_page ((job_part w job).filing filing) ≡ page
+  pub filed : filing < (job_part world job).filings
+  pub of_group : (job_part world job).group_of ((job_part world job).filing filing) ≡ (world.job job).group
+  pub of_page : (job_part world job).asked_page ((job_part world job).filing filing) ≡ page
 
 -- one asks to write it
-pub record IsAskedToWrite (w : World) (job page : ℕ) : Type 0 where
+pub record IsAskedToWrite (world : World) (job page : ℕ) : Type 0 where
   pub filing : ℕ
-  pub filed : filing < (job_part w job).filings
-  pub of_group : (job_part w job).group_of ((job_part w job).filing filing) ≡ (w.job job).group
-  pub of_page : (job_part w job).asked_page ((job_part w job).filing filing) ≡ page
-  pub writes : (job_part w job).asks_write ((job_part w job).filing filing) ≡ true
+  pub filed : filing < (job_part world job).filings
+  pub of_group : (job_part world job).group_of ((job_part world job).filing filing) ≡ (world.job job).group
+  pub of_page : (job_part world job).asked_page ((job_part world job).filing filing) ≡ page
+  pub writes : (job_part world job).asks_write ((job_part world job).filing filing) ≡ true
 
 -- A success maps pages that are asked for, and no other; each page that is asked for is mapped after it; and a page that it maps
 -- may be written exactly where some request asks to write it.
-pub record MapsWhatIsAsked (w v : World) (job : ℕ) : Type 0 where
-  pub asked : (m : ℕ) → w.mappings.made ≤ m → m < v.mappings.made → IsAskedFor w job (v.mappings.page m)
-  pub all : (page : ℕ) → IsAskedFor w job page → is_mapped v (job_space w job) page ≡ true
-  pub writable : (m : ℕ) → w.mappings.made ≤ m → m < v.mappings.made → (v.mappings.write m ≡ true) ↔ IsAskedToWrite w job (v.mappings.page m)
+pub record MapsWhatIsAsked (before after : World) (job : ℕ) : Type 0 where
+  pub asked : (mapping : ℕ) → before.mappings.made ≤ mapping → mapping < after.mappings.made → IsAskedFor before job (after.mappings.page mapping)
+  pub all : (page : ℕ) → IsAskedFor before job page → is_mapped after (job_space before job) page ≡ true
+  pub writable :
+      (mapping : ℕ)
+      → before.mappings.made ≤ mapping
+      → mapping < after.mappings.made
+      → (after.mappings.write mapping ≡ true) ↔ IsAskedToWrite before job (after.mappings.page mapping)
 
 -- each reply that is answered by a success, after every list of steps, maps so for the job in the worker's hand
 abbrev pub AlwaysMapsWhatIsAsked : Type 0
@@ -50,19 +54,19 @@ AlwaysMapsWhatIsAsked =
 
 -- the stage of the binding that a job names
 abbrev pub stage_of : World → (job : ℕ) → Stage
-stage_of w job = (job_part w job).stage (job_binding w job)
+stage_of world job = (job_part world job).stage (job_binding world job)
 
 -- What a worker's reply is answered, and so which code is sent (section 10.4.2): at an open unit the verdict of the worker where the
 -- binding is Live, and Invalid Request where it stops or drains; else nothing is sent and the job is dropped.
-pub record RepliesBy (w : World) (job : ℕ) (verdict : Verdict) (said : Answer) : Type 0 where
-  pub success : (count : ℕ) → said ≡ answer.Success count → ((job_part w job).phase ≡ Open) × (stage_of w job ≡ Live) × (verdict ≡ verdict_is.Success)
-  pub failure : said ≡ answer.Failure → ((job_part w job).phase ≡ Open) × (stage_of w job ≡ Live) × (verdict ≡ verdict_is.Failure)
+pub record RepliesBy (world : World) (job : ℕ) (verdict : Verdict) (said : Answer) : Type 0 where
+  pub success : (count : ℕ) → said ≡ answer.Success count → ((job_part world job).phase ≡ Open) × (stage_of world job ≡ Live) × (verdict ≡ verdict_is.Success)
+  pub failure : said ≡ answer.Failure → ((job_part world job).phase ≡ Open) × (stage_of world job ≡ Live) × (verdict ≡ verdict_is.Failure)
   pub invalid :
       said ≡ answer.Invalid
-      → ((job_part w job).phase ≡ Open)
-      × (((stage_of w job ≡ Live) × (verdict ≡ verdict_is.Invalid))
-      ⊎ (((marked : Bool) × (stage_of w job ≡ Stopping marked)) ⊎ ((wait : ℕ) × (stage_of w job ≡ Draining wait))))
-  pub dropped : said ≡ answer.Dropped → ((job_part w job).phase ≢ Open) ⊎ (is_before_invalidating (stage_of w job) ≡ false)
+      → ((job_part world job).phase ≡ Open)
+      × (((stage_of world job ≡ Live) × (verdict ≡ verdict_is.Invalid))
+      ⊎ (((marked : Bool) × (stage_of world job ≡ Stopping marked)) ⊎ ((wait : ℕ) × (stage_of world job ≡ Draining wait))))
+  pub dropped : said ≡ answer.Dropped → ((job_part world job).phase ≢ Open) ⊎ (is_before_invalidating (stage_of world job) ≡ false)
   pub one_of_four :
       ((count : ℕ) × (said ≡ answer.Success count)) ⊎ ((said ≡ answer.Failure) ⊎ ((said ≡ answer.Invalid) ⊎ (said ≡ answer.Dropped)))
 

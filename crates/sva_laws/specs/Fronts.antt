@@ -18,124 +18,127 @@ use Rattle.sva_model.specs.Claims.{Fits, IsBeforeInvalidating, HasAnswered}
 
 -- an endpoint with its unit after a list of steps
 abbrev pub part_after : PasidRule → Config → List Step → (endpoint : ℕ) → Endpoint
-part_after rule config steps e = (world_after rule config steps).part e
+part_after rule config steps endpoint = (world_after rule config steps).part endpoint
 
 -- A wait is void by a reset that has ended: at an earlier moment it was submitted and void, and a reset-done of the endpoint was
 -- delivered since.
-pub record IsVoidByPastReset (rule : PasidRule) (config : Config) (steps : List Step) (e wait : ℕ) : Type 0 where
+pub record IsVoidByPastReset (rule : PasidRule) (config : Config) (steps : List Step) (endpoint wait : ℕ) : Type 0 where
   pub before : List Step
   pub since : List Step
   pub steps_are : steps ≡ before ++ since
-  pub submitted : wait < (part_after rule config before e).orders
-  pub void : (part_after rule config before e).order_state wait ≡ Void
-  pub ended : (part_after rule config before e).resets < (part_after rule config steps e).resets
+  pub submitted : wait < (part_after rule config before endpoint).orders
+  pub void : (part_after rule config before endpoint).order_state wait ≡ Void
+  pub ended : (part_after rule config before endpoint).resets < (part_after rule config steps endpoint).resets
 
 -- It is void by a reset that hasn't ended: it is void, the unit is in reset, and at an earlier moment it was queued, since which
 -- no reset-done of the endpoint was delivered.
-pub record IsVoidByPresentReset (rule : PasidRule) (config : Config) (steps : List Step) (e wait : ℕ) : Type 0 where
-  pub void : (part_after rule config steps e).order_state wait ≡ Void
-  pub in_reset : (part_after rule config steps e).phase ≢ Open
+pub record IsVoidByPresentReset (rule : PasidRule) (config : Config) (steps : List Step) (endpoint wait : ℕ) : Type 0 where
+  pub void : (part_after rule config steps endpoint).order_state wait ≡ Void
+  pub in_reset : (part_after rule config steps endpoint).phase ≢ Open
   pub before : List Step
   pub since : List Step
   pub steps_are : steps ≡ before ++ since
-  pub submitted : wait < (part_after rule config before e).orders
-  pub queued : (part_after rule config before e).order_state wait ≡ Queued
-  pub goes_on : (part_after rule config before e).resets ≡ (part_after rule config steps e).resets
+  pub submitted : wait < (part_after rule config before endpoint).orders
+  pub queued : (part_after rule config before endpoint).order_state wait ≡ Queued
+  pub goes_on : (part_after rule config before endpoint).resets ≡ (part_after rule config steps endpoint).resets
 
 -- it was taken, by a pump that answered so, or it is void by a reset that has ended
 abbrev pub IsPast : PasidRule → Config → List Step → (endpoint wait : ℕ) → Type 0
-IsPast rule config steps e wait = ((part_after rule config steps e).order_state wait ≡ Done) ⊎ IsVoidByPastReset rule config steps e wait
+IsPast rule config steps endpoint wait = ((part_after rule config steps endpoint).order_state wait ≡ Done) ⊎ IsVoidByPastReset rule config steps endpoint wait
 
 -- it stands in the queue, or it is void by a reset that hasn't ended
 abbrev pub IsAhead : PasidRule → Config → List Step → (endpoint wait : ℕ) → Type 0
-IsAhead rule config steps e wait = ((part_after rule config steps e).order_state wait ≡ Queued) ⊎ IsVoidByPresentReset rule config steps e wait
+IsAhead rule config steps endpoint wait =
+    ((part_after rule config steps endpoint).order_state wait ≡ Queued) ⊎ IsVoidByPresentReset rule config steps endpoint wait
 
 -- The front is one more than the greatest cookie of a wait that was taken or is void by a reset that has ended, and 0 where there
 -- is none: each of these has its cookie below the front, and no other wait has; and the front is 0, or one of them is just below it.
-pub record IsFrontOf (rule : PasidRule) (config : Config) (steps : List Step) (e : ℕ) : Type 0 where
+pub record IsFrontOf (rule : PasidRule) (config : Config) (steps : List Step) (endpoint : ℕ) : Type 0 where
   pub past :
-      (wait c : ℕ) (x : Bool)
-      → wait < (part_after rule config steps e).orders
-      → (part_after rule config steps e).order wait ≡ Wait c x
-      → (c < (part_after rule config steps e).front) ↔ IsPast rule config steps e wait
+      (wait cookie : ℕ) (drains : Bool)
+      → wait < (part_after rule config steps endpoint).orders
+      → (part_after rule config steps endpoint).order wait ≡ Wait cookie drains
+      → (cookie < (part_after rule config steps endpoint).front) ↔ IsPast rule config steps endpoint wait
   pub ahead :
-      (wait c : ℕ) (x : Bool)
-      → wait < (part_after rule config steps e).orders
-      → (part_after rule config steps e).order wait ≡ Wait c x
-      → ((part_after rule config steps e).front ≤ c) ↔ IsAhead rule config steps e wait
+      (wait cookie : ℕ) (drains : Bool)
+      → wait < (part_after rule config steps endpoint).orders
+      → (part_after rule config steps endpoint).order wait ≡ Wait cookie drains
+      → ((part_after rule config steps endpoint).front ≤ cookie) ↔ IsAhead rule config steps endpoint wait
   pub greatest :
-      ((part_after rule config steps e).front ≡ 0)
-      ⊎ ((wait c : ℕ)
-      × (x : Bool)
-      × (wait < (part_after rule config steps e).orders)
-      × ((part_after rule config steps e).order wait ≡ Wait c x)
-      × ((part_after rule config steps e).front ≡ suc c)
-      × IsPast rule config steps e wait)
+      ((part_after rule config steps endpoint).front ≡ 0)
+      ⊎ ((wait cookie : ℕ)
+      × (drains : Bool)
+      × (wait < (part_after rule config steps endpoint).orders)
+      × ((part_after rule config steps endpoint).order wait ≡ Wait cookie drains)
+      × ((part_after rule config steps endpoint).front ≡ suc cookie)
+      × IsPast rule config steps endpoint wait)
 
 -- after every list of steps the number that a unit keeps as its front is what the look back over the list makes of it
 abbrev pub AlwaysFrontOf : Type 0
-AlwaysFrontOf = (rule : PasidRule) (config : Config) (steps : List Step) (e : ℕ) → Fits config → IsFrontOf rule config steps e
+AlwaysFrontOf = (rule : PasidRule) (config : Config) (steps : List Step) (endpoint : ℕ) → Fits config → IsFrontOf rule config steps endpoint
 
 -- What is waited for at an endpoint, by the binding that the space had there just before `step` took the mapping out of it: where
 -- the unit was open then, the wait that this step submitted, or the one behind the invalidation of the binding's PASID, which is in
 -- the queue now, or void by a reset that hasn't ended; and where it was in reset, the end of that reset, which hasn't come.
-pub data IsTarget (rule : PasidRule) (config : Config) (before : List Step) (step : Step) (since : List Step) (e binding : ℕ) : TargetWire → Type 0 where
+pub data IsTarget (rule : PasidRule) (config : Config) (before : List Step) (step : Step) (since : List Step) (endpoint binding : ℕ) : TargetWire → Type 0 where
   submitted :
-      (wait c : ℕ) (x : Bool)
-      → (part_after rule config before e).phase ≡ Open
-      → IsBeforeInvalidating (part_after rule config before e) binding
-      → (part_after rule config before e).orders ≤ wait
-      → (part_after rule config (before ++ step ∷ []) e).orders ≡ suc wait
-      → (part_after rule config (before ++ step ∷ []) e).order wait ≡ Wait c x
-      → IsAhead rule config (before ++ step ∷ since) e wait
-      → IsTarget rule config before step since e binding (Cookie (number config.first c))
+      (wait cookie : ℕ) (drains : Bool)
+      → (part_after rule config before endpoint).phase ≡ Open
+      → IsBeforeInvalidating (part_after rule config before endpoint) binding
+      → (part_after rule config before endpoint).orders ≤ wait
+      → (part_after rule config (before ++ step ∷ []) endpoint).orders ≡ suc wait
+      → (part_after rule config (before ++ step ∷ []) endpoint).order wait ≡ Wait cookie drains
+      → IsAhead rule config (before ++ step ∷ since) endpoint wait
+      → IsTarget rule config before step since endpoint binding (Cookie (number config.first cookie))
   invalidating :
-      (invalidation wait c : ℕ) (x : Bool)
-      → (part_after rule config before e).phase ≡ Open
-      → (part_after rule config before e).stage binding ≡ Invalidating invalidation wait
-      → (part_after rule config before e).order wait ≡ Wait c x
-      → IsAhead rule config (before ++ step ∷ since) e wait
-      → IsTarget rule config before step since e binding (Cookie (number config.first c))
+      (invalidation wait cookie : ℕ) (drains : Bool)
+      → (part_after rule config before endpoint).phase ≡ Open
+      → (part_after rule config before endpoint).stage binding ≡ Invalidating invalidation wait
+      → (part_after rule config before endpoint).order wait ≡ Wait cookie drains
+      → IsAhead rule config (before ++ step ∷ since) endpoint wait
+      → IsTarget rule config before step since endpoint binding (Cookie (number config.first cookie))
   reset_end :
-      (part_after rule config before e).phase ≢ Open
-      → (part_after rule config (before ++ step ∷ since) e).phase ≢ Open
-      → (part_after rule config before e).resets ≡ (part_after rule config (before ++ step ∷ since) e).resets
-      → IsTarget rule config before step since e binding ResetEnd
+      (part_after rule config before endpoint).phase ≢ Open
+      → (part_after rule config (before ++ step ∷ since) endpoint).phase ≢ Open
+      → (part_after rule config before endpoint).resets ≡ (part_after rule config (before ++ step ∷ since) endpoint).resets
+      → IsTarget rule config before step since endpoint binding ResetEnd
 
 -- What a host keeps of it: nothing where each unreleased binding of the space that the endpoint had just before that step has
 -- answered, and so where it had none; else that target.
-pub record KeepsTargets (rule : PasidRule) (config : Config) (before : List Step) (step : Step) (since : List Step) (m e : ℕ) (owed : Owed) : Type 0 where
+pub record KeepsTargets
+    (rule : PasidRule) (config : Config) (before : List Step) (step : Step) (since : List Step)
+    (mapping endpoint : ℕ) (owed : Owed) : Type 0 where
   pub none :
-      (target_wire config.first (part_after rule config (before ++ step ∷ since) e) owed ≡ None)
-      ↔ ((b : ℕ)
-      → is_unreleased ((part_after rule config before e).stage b) ≡ true
-      → (part_after rule config before e).space b ≡ (world_after rule config before).mappings.space m
+      (target_wire config.first (part_after rule config (before ++ step ∷ since) endpoint) owed ≡ None)
+      ↔ ((binding : ℕ)
+      → is_unreleased ((part_after rule config before endpoint).stage binding) ≡ true
+      → (part_after rule config before endpoint).space binding ≡ (world_after rule config before).mappings.space mapping
       → HasAnswered
-      (part_after rule config before e)
-      (part_after rule config (before ++ step ∷ []) e)
-      (part_after rule config (before ++ step ∷ since) e)
-      b
-      ((world_after rule config before).mappings.page m))
+      (part_after rule config before endpoint)
+      (part_after rule config (before ++ step ∷ []) endpoint)
+      (part_after rule config (before ++ step ∷ since) endpoint)
+      binding
+      ((world_after rule config before).mappings.page mapping))
   pub some :
-      (b : ℕ)
-      → is_unreleased ((part_after rule config before e).stage b) ≡ true
-      → (part_after rule config before e).space b ≡ (world_after rule config before).mappings.space m
+      (binding : ℕ)
+      → is_unreleased ((part_after rule config before endpoint).stage binding) ≡ true
+      → (part_after rule config before endpoint).space binding ≡ (world_after rule config before).mappings.space mapping
       → (HasAnswered
-      (part_after rule config before e)
-      (part_after rule config (before ++ step ∷ []) e)
-      (part_after rule config (before ++ step ∷ since) e)
-      b
-      ((world_after rule config before).mappings.page m)
+      (part_after rule config before endpoint)
+      (part_after rule config (before ++ step ∷ []) endpoint)
+      (part_after rule config (before ++ step ∷ since) endpoint)
+      binding
+      ((world_after rule config before).mappings.page mapping)
       → ⊥)
       → (target : TargetWire)
-      × (target_wire config.first (part_after rule config (before ++ step ∷ since) e) owed ≡ Some target)
-      × IsTarget rule config before step since e b target
+      × (target_wire config.first (part_after rule config (before ++ step ∷ since) endpoint) owed ≡ Some target)
+      × IsTarget rule config before step since endpoint binding target
 
 -- of each mapping that a step of a list took out of its space, and at each endpoint, a host keeps so after the whole list
 abbrev pub AlwaysKeepsTargets : Type 0
 AlwaysKeepsTargets =
-    (rule : PasidRule) (config : Config) (before : List Step) (step : Step) (since : List Step) (m e : ℕ) (owed : ℕ → Owed)
+    (rule : PasidRule) (config : Config) (before : List Step) (step : Step) (since : List Step) (mapping endpoint : ℕ) (owed : ℕ → Owed)
     → Fits config
-    → (world_after rule config before).mappings.state m ≡ Present
-    → (world_after rule config (before ++ step ∷ [])).mappings.state m ≡ Gone owed
-    → KeepsTargets rule config before step since m e (owed e)
+    → (world_after rule config before).mappings.state mapping ≡ Present
+    → (world_after rule config (before ++ step ∷ [])).mappings.state mapping ≡ Gone owed
+    → KeepsTargets rule config before step since mapping endpoint (owed endpoint)

@@ -35,22 +35,26 @@ use Rattle.sva_model.specs.Claims.{Fits, Usable, IsPresent, IsAt, IsWithheld, Is
 -- each usable translation has an unreleased owner, and is present or leads to a withheld frame
 abbrev pub AlwaysOwned : Type 0
 AlwaysOwned =
-    (rule : PasidRule) (config : Config) (steps : List Step) (e b q m : ℕ)
+    (rule : PasidRule) (config : Config) (steps : List Step) (endpoint binding page mapping : ℕ)
     → Fits config
-    → Usable (world_after rule config steps) e b q m
-    → is_unreleased (((world_after rule config steps).part e).stage b) ≡ true
+    → Usable (world_after rule config steps) endpoint binding page mapping
+    → is_unreleased (((world_after rule config steps).part endpoint).stage binding) ≡ true
 
 -- the second half of it: the owner's live space maps the page to the same frame with the same write flag, or that frame is withheld
 abbrev pub AlwaysPresentOrWithheld : Type 0
 AlwaysPresentOrWithheld =
-    (rule : PasidRule) (config : Config) (steps : List Step) (e b q m : ℕ)
+    (rule : PasidRule) (config : Config) (steps : List Step) (endpoint binding page mapping : ℕ)
     → Fits config
-    → Usable (world_after rule config steps) e b q m
-    → IsPresent (world_after rule config steps) e b q m ⊎ IsWithheld rule config steps ((world_after rule config steps).mappings.frame m)
+    → Usable (world_after rule config steps) endpoint binding page mapping
+    → IsPresent (world_after rule config steps) endpoint binding page mapping
+    ⊎ IsWithheld rule config steps ((world_after rule config steps).mappings.frame mapping)
 
 -- after every list of steps page requests, markers and responses stay with the binding that asked (PCI Express Base 5.0, section 10.4)
 abbrev pub AlwaysMatched : Type 0
-AlwaysMatched = (rule : PasidRule) (config : Config) (steps : List Step) (e : ℕ) → Fits config → IsMatched ((world_after rule config steps).part e)
+AlwaysMatched =
+    (rule : PasidRule) (config : Config) (steps : List Step) (endpoint : ℕ)
+    → Fits config
+    → IsMatched ((world_after rule config steps).part endpoint)
 
 -- each frame is at one page of one live space, or withheld, or free; and the step reads the same of it as the look back over the list
 abbrev pub AlwaysDivided : Type 0
@@ -66,17 +70,17 @@ AlwaysAddsUp =
 
 -- the place that the step reads is Withheld exactly where the look back over the list says so
 abbrev pub AlwaysWithheldExactly : Type 0
-AlwaysWithheldExactly = (rule : PasidRule) (config : Config) (steps : List Step) (f : ℕ) → Fits config
-    → (place (world_after rule config steps) f ≡ Withheld) ↔ IsWithheld rule config steps f
+AlwaysWithheldExactly = (rule : PasidRule) (config : Config) (steps : List Step) (frame : ℕ) → Fits config
+    → (place (world_after rule config steps) frame ≡ Withheld) ↔ IsWithheld rule config steps frame
 
 -- a withheld frame is free after the very step that leaves no endpoint in debt for it, and isn't mapped again by that step
 abbrev pub FreeByTheLastAnswer : Type 0
 FreeByTheLastAnswer =
-    (rule : PasidRule) (config : Config) (steps : List Step) (step : Step) (f : ℕ)
+    (rule : PasidRule) (config : Config) (steps : List Step) (step : Step) (frame : ℕ)
     → Fits config
-    → IsWithheld rule config steps f
-    → (IsWithheld rule config (steps ++ step ∷ []) f → ⊥)
-    → place (world_after rule config (steps ++ step ∷ [])) f ≡ Free
+    → IsWithheld rule config steps frame
+    → (IsWithheld rule config (steps ++ step ∷ []) frame → ⊥)
+    → place (world_after rule config (steps ++ step ∷ [])) frame ≡ Free
 
 -- What an unmapping that is accepted answers: the frames that its pages had just before, in the order of the pages; and each of
 -- them is said to be free exactly where it is free after the step, and withheld exactly where the look back says so.
@@ -85,12 +89,12 @@ pub record IsTold (rule : PasidRule) (config : Config) (steps : List Step) (of_s
   pub numbered : number (world_after rule config steps) space ≡ of_space
   pub frames : List ℕ
   pub one_a_page : length frames ≡ count
-  pub was_there : (k f : ℕ) → slice_get frames k ≡ Some f → IsAt (world_after rule config steps) f space (page + k)
+  pub was_there : (offset frame : ℕ) → slice_get frames offset ≡ Some frame → IsAt (world_after rule config steps) frame space (page + offset)
   pub said : (answer ≡ FreeFrames frames) ⊎ (answer ≡ WithheldFrames frames)
-  pub free : (k f : ℕ) → slice_get frames k ≡ Some f
-      → (answer ≡ FreeFrames frames) ↔ (place (world_after rule config (steps ++ Unmap of_space page count ∷ [])) f ≡ Free)
-  pub withheld : (k f : ℕ) → slice_get frames k ≡ Some f
-      → (answer ≡ WithheldFrames frames) ↔ IsWithheld rule config (steps ++ Unmap of_space page count ∷ []) f
+  pub free : (offset frame : ℕ) → slice_get frames offset ≡ Some frame
+      → (answer ≡ FreeFrames frames) ↔ (place (world_after rule config (steps ++ Unmap of_space page count ∷ [])) frame ≡ Free)
+  pub withheld : (offset frame : ℕ) → slice_get frames offset ≡ Some frame
+      → (answer ≡ WithheldFrames frames) ↔ IsWithheld rule config (steps ++ Unmap of_space page count ∷ []) frame
 
 -- each unmapping of single pages that is accepted, after every list of steps, answers so
 abbrev pub AlwaysTold : Type 0
@@ -107,19 +111,22 @@ pub record IsToldOfRange (rule : PasidRule) (config : Config) (steps : List Step
   pub space : ℕ
   pub numbered : number (world_after rule config steps) space ≡ of_space
   pub frames : ℕ
-  pub counted : frames ≡ count_below (2 ^ order) (λ k. is_mapped (world_after rule config steps) space (page + k))
+  pub counted : frames ≡ count_below (2 ^ order) (λ offset. is_mapped (world_after rule config steps) space (page + offset))
   pub said : (answer ≡ RangeFree frames) ⊎ (answer ≡ RangeWithheld frames)
   pub free :
-      (k f : ℕ)
-      → k < 2 ^ order
-      → IsAt (world_after rule config steps) f space (page + k)
-      → (answer ≡ RangeFree frames) ↔ (place (world_after rule config (steps ++ UnmapRange of_space page order ∷ [])) f ≡ Free)
+      (offset frame : ℕ)
+      → offset < 2 ^ order
+      → IsAt (world_after rule config steps) frame space (page + offset)
+      → (answer ≡ RangeFree frames) ↔ (place (world_after rule config (steps ++ UnmapRange of_space page order ∷ [])) frame ≡ Free)
   pub withheld :
-      (k f : ℕ)
-      → k < 2 ^ order
-      → IsAt (world_after rule config steps) f space (page + k)
-      → (answer ≡ RangeWithheld frames) ↔ IsWithheld rule config (steps ++ UnmapRange of_space page order ∷ []) f
-  pub gone : (k : ℕ) → k < 2 ^ order → is_mapped (world_after rule config (steps ++ UnmapRange of_space page order ∷ [])) space (page + k) ≡ false
+      (offset frame : ℕ)
+      → offset < 2 ^ order
+      → IsAt (world_after rule config steps) frame space (page + offset)
+      → (answer ≡ RangeWithheld frames) ↔ IsWithheld rule config (steps ++ UnmapRange of_space page order ∷ []) frame
+  pub gone :
+      (offset : ℕ)
+      → offset < 2 ^ order
+      → is_mapped (world_after rule config (steps ++ UnmapRange of_space page order ∷ [])) space (page + offset) ≡ false
 
 -- each unmapping of a range that is accepted, after every list of steps, answers so
 abbrev pub AlwaysToldOfRange : Type 0
@@ -143,163 +150,237 @@ AlwaysGiven =
     × IsAt (world_after rule config (steps ++ Map of_space page write ∷ [])) frame space page
 
 -- Labels. What a label finds is the one record that bears it, and each record that bears a label is found by it.
-pub record IsLabelled (p : Endpoint) : Type 0 where
-  pub pasid : (t b : ℕ) → (p.at_pasid t ≡ Some b) ↔ ((is_unreleased (p.stage b) ≡ true) × (p.pasid b ≡ t))
-  pub tag : (t r : ℕ) → (p.at_tag t ≡ Some r) ↔ ((is_out (p.request r) ≡ true) × (p.request_tag r ≡ t))
-  pub slot : (t u : ℕ) → (p.at_slot t ≡ Some u) ↔ ((p.use_state u ≢ Ended) × (p.use_slot u ≡ t))
-  pub itag : (t k : ℕ) → (p.at_itag t ≡ Some k) ↔ ((is_busy (p.order_state k) ≡ true) × (p.itag k ≡ t))
-  pub index : (t g : ℕ) → (p.at_index t ≡ Some g) ↔ ((is_outstanding (p.group g) ≡ true) × (p.index g ≡ t))
+pub record IsLabelled (part : Endpoint) : Type 0 where
+  pub pasid : (label binding : ℕ) → (part.at_pasid label ≡ Some binding) ↔ ((is_unreleased (part.stage binding) ≡ true) × (part.pasid binding ≡ label))
+  pub tag : (label request : ℕ) → (part.at_tag label ≡ Some request) ↔ ((is_out (part.request request) ≡ true) × (part.request_tag request ≡ label))
+  pub slot : (label used : ℕ) → (part.at_slot label ≡ Some used) ↔ ((part.use_state used ≢ Ended) × (part.use_slot used ≡ label))
+  pub itag : (label order : ℕ) → (part.at_itag label ≡ Some order) ↔ ((is_busy (part.order_state order) ≡ true) × (part.itag order ≡ label))
+  pub index : (label group : ℕ) → (part.at_index label ≡ Some group) ↔ ((is_outstanding (part.group group) ≡ true) × (part.index group ≡ label))
   -- the limits: PASIDs 1 to 32; 32 request tags, ITags and page request group indexes; 16 uses
-  pub pasid_low : (b : ℕ) → is_unreleased (p.stage b) ≡ true → (0 < p.pasid b) × (p.pasid b ≤ 32)
-  pub tag_low : (r : ℕ) → is_out (p.request r) ≡ true → p.request_tag r < 32
-  pub slot_low : (u : ℕ) → p.use_state u ≢ Ended → p.use_slot u < 16
-  pub itag_low : (k : ℕ) → is_busy (p.order_state k) ≡ true → p.itag k < 32
-  pub index_low : (g : ℕ) → is_outstanding (p.group g) ≡ true → p.index g < 32
+  pub pasid_low : (binding : ℕ) → is_unreleased (part.stage binding) ≡ true → (0 < part.pasid binding) × (part.pasid binding ≤ 32)
+  pub tag_low : (request : ℕ) → is_out (part.request request) ≡ true → part.request_tag request < 32
+  pub slot_low : (used : ℕ) → part.use_state used ≢ Ended → part.use_slot used < 16
+  pub itag_low : (order : ℕ) → is_busy (part.order_state order) ≡ true → part.itag order < 32
+  pub index_low : (group : ℕ) → is_outstanding (part.group group) ≡ true → part.index group < 32
   -- a space has one unreleased binding at an endpoint
-  pub one_space : (b d : ℕ) → is_unreleased (p.stage b) ≡ true → is_unreleased (p.stage d) ≡ true → p.space b ≡ p.space d → b ≡ d
+  pub one_space :
+      (binding other : ℕ)
+      → is_unreleased (part.stage binding) ≡ true
+      → is_unreleased (part.stage other) ≡ true
+      → part.space binding ≡ part.space other
+      → binding ≡ other
 
 -- What a message or a step names by a label is the record that it was sent for.
-pub record IsFound (p : Endpoint) : Type 0 where
-  pub start : (c b : ℕ) → p.message c ≡ Some (StartOf b) → IsBearer p b
-  pub stop : (c b : ℕ) → p.message c ≡ Some (StopOf b) → IsBearer p b
-  pub request : (c r : ℕ) → p.phase ≡ Open → p.message c ≡ Some (RequestOf r) → (IsBearer p (p.request_binding r)) × (p.at_tag (p.request_tag r) ≡ Some r)
+pub record IsFound (part : Endpoint) : Type 0 where
+  pub start : (message binding : ℕ) → part.message message ≡ Some (StartOf binding) → IsBearer part binding
+  pub stop : (message binding : ℕ) → part.message message ≡ Some (StopOf binding) → IsBearer part binding
+  pub request :
+      (message request : ℕ)
+      → part.phase ≡ Open
+      → part.message message ≡ Some (RequestOf request)
+      → (IsBearer part (part.request_binding request)) × (part.at_tag (part.request_tag request) ≡ Some request)
   -- a completion finds its request by the tag while the endpoint hasn't reset itself; from then until the reset-done none is out
-  pub completion : (c r : ℕ) (found : Option ℕ) → ((d : ℕ) → p.phase ≢ Cleared d) → p.message c ≡ Some (CompletionOf r found)
-      → p.at_tag (p.request_tag r) ≡ Some r
-  pub none_out : (c r : ℕ) → p.phase ≡ Cleared c → is_out (p.request r) ≡ false
+  pub completion :
+      (message request : ℕ) (found : Option ℕ)
+      → ((other : ℕ) → part.phase ≢ Cleared other)
+      → part.message message ≡ Some (CompletionOf request found)
+      → part.at_tag (part.request_tag request) ≡ Some request
+  pub none_out : (message request : ℕ) → part.phase ≡ Cleared message → is_out (part.request request) ≡ false
   -- in every phase a translation request that is out, and a group of page requests that isn't whole or awaits its response,
   -- is of the binding that bears the PASID, which the endpoint has started
-  pub out : (r : ℕ) → is_out (p.request r) ≡ true → (IsBearer p (p.request_binding r)) × (p.pasid_state (p.request_binding r) ≢ Off)
+  pub out :
+      (request : ℕ)
+      → is_out (part.request request) ≡ true
+      → (IsBearer part (part.request_binding request)) × (part.pasid_state (part.request_binding request) ≢ Off)
   -- a binding whose PASID the endpoint has started bears it
-  pub started : (b : ℕ) → p.pasid_state b ≢ Off → IsBearer p b
-  pub asker : (g : ℕ) → (p.group g ≡ Collecting) ⊎ (p.group g ≡ Awaiting) → (IsBearer p (p.asker g)) × (p.pasid_state (p.asker g) ≢ Off)
-  pub invalidate : (c k : ℕ) → p.message c ≡ Some (InvalidateOf k) → (p.order_state k ≡ Sent) × (p.at_itag (p.itag k) ≡ Some k)
-      × (IsBearer p (binding_of (p.order k)))
-  pub cached : (r m : ℕ) → p.held r ≡ Some m → IsBearer p (p.request_binding r)
+  pub started : (binding : ℕ) → part.pasid_state binding ≢ Off → IsBearer part binding
+  pub asker :
+      (group : ℕ)
+      → (part.group group ≡ Collecting) ⊎ (part.group group ≡ Awaiting)
+      → (IsBearer part (part.asker group)) × (part.pasid_state (part.asker group) ≢ Off)
+  pub invalidate :
+      (message order : ℕ)
+      → part.message message ≡ Some (InvalidateOf order)
+      → (part.order_state order ≡ Sent) × (part.at_itag (part.itag order) ≡ Some order) × (IsBearer part (binding_of (part.order order)))
+  pub cached : (request mapping : ℕ) → part.held request ≡ Some mapping → IsBearer part (part.request_binding request)
   -- of one binding and page one translation is cached: a new one replaces the older
   pub one_held :
-      (r other m n : ℕ)
-      → p.held r ≡ Some m
-      → p.held other ≡ Some n
-      → p.request_binding r ≡ p.request_binding other
-      → p.request_page r ≡ p.request_page other
-      → r ≡ other
-  pub in_use : (u : ℕ) → p.use_state u ≡ Running → IsBearer p (p.use_binding u)
+      (request other mapping other_mapping : ℕ)
+      → part.held request ≡ Some mapping
+      → part.held other ≡ Some other_mapping
+      → part.request_binding request ≡ part.request_binding other
+      → part.request_page request ≡ part.request_page other
+      → request ≡ other
+  pub in_use : (used : ℕ) → part.use_state used ≡ Running → IsBearer part (part.use_binding used)
   -- at an open unit a page request in flight or arrived, and a group that the host has open, finds the group at the endpoint
   -- by its index; so no two groups that the host has open have the same index
-  pub page_request : (r : ℕ) → p.phase ≡ Open → (p.page_request r ≡ InFlight) ⊎ (p.page_request r ≡ Arrived) → p.at_index (p.index (p.group_of r))
-      ≡ Some (p.group_of r)
-  pub open_group : (g : ℕ) → p.phase ≡ Open → is_open_group (p.host_group g) ≡ true → p.at_index (p.index g) ≡ Some g
-  pub one_group : (g h : ℕ) → p.phase ≡ Open → is_open_group (p.host_group g) ≡ true → is_open_group (p.host_group h) ≡ true → p.index g ≡ p.index h → g ≡ h
+  pub page_request :
+      (request : ℕ)
+      → part.phase ≡ Open
+      → (part.page_request request ≡ InFlight) ⊎ (part.page_request request ≡ Arrived)
+      → part.at_index (part.index (part.group_of request)) ≡ Some (part.group_of request)
+  pub open_group : (group : ℕ) → part.phase ≡ Open → is_open_group (part.host_group group) ≡ true → part.at_index (part.index group) ≡ Some group
+  pub one_group :
+      (group other : ℕ)
+      → part.phase ≡ Open
+      → is_open_group (part.host_group group) ≡ true
+      → is_open_group (part.host_group other) ≡ true
+      → part.index group ≡ part.index other
+      → group ≡ other
   -- each is in flight once
-  pub request_once : (c d r : ℕ) → p.message c ≡ Some (RequestOf r) → p.message d ≡ Some (RequestOf r) → c ≡ d
-  pub completion_once : (c d r : ℕ) (f g : Option ℕ) → p.message c ≡ Some (CompletionOf r f) → p.message d ≡ Some (CompletionOf r g) → c ≡ d
-  pub there_or_back : (c d r : ℕ) (f : Option ℕ) → p.message c ≡ Some (RequestOf r) → p.message d ≢ Some (CompletionOf r f)
-  pub invalidate_once : (c d k : ℕ) → p.message c ≡ Some (InvalidateOf k) → p.message d ≡ Some (InvalidateOf k) → c ≡ d
+  pub request_once :
+      (message other request : ℕ)
+      → part.message message ≡ Some (RequestOf request)
+      → part.message other ≡ Some (RequestOf request)
+      → message ≡ other
+  pub completion_once :
+      (message other request : ℕ) (found other_found : Option ℕ)
+      → part.message message ≡ Some (CompletionOf request found)
+      → part.message other ≡ Some (CompletionOf request other_found)
+      → message ≡ other
+  pub there_or_back :
+      (message other request : ℕ) (found : Option ℕ)
+      → part.message message ≡ Some (RequestOf request)
+      → part.message other ≢ Some (CompletionOf request found)
+  pub invalidate_once :
+      (message other order : ℕ)
+      → part.message message ≡ Some (InvalidateOf order)
+      → part.message other ≡ Some (InvalidateOf order)
+      → message ≡ other
 
 -- The bits of an ITag Vector are those of the ITags that the named orders bear, and no other (PCI Express Base 5.0, section
 -- 10.3.2).
-pub record IsVectorOf (p : Endpoint) (names : ℕ → Bool) (vector : ℕ) : Type 0 where
-  pub named : (k : ℕ) → names k ≡ true → is_set vector (p.itag k) ≡ true
-  pub set : (t : ℕ) → t < 32 → is_set vector t ≡ true → (k : ℕ) × (names k ≡ true) × (p.itag k ≡ t)
+pub record IsVectorOf (part : Endpoint) (names : ℕ → Bool) (vector : ℕ) : Type 0 where
+  pub named : (order : ℕ) → names order ≡ true → is_set vector (part.itag order) ≡ true
+  pub set : (tag : ℕ) → tag < 32 → is_set vector tag ≡ true → (order : ℕ) × (names order ≡ true) × (part.itag order ≡ tag)
 
 -- the Completion Count as it is read: a field of three bits, in which 0 stands for 8 (section 10.3.2)
 abbrev pub count_read : (field : ℕ) → ℕ
 count_read zero = 8
-count_read (suc n) = suc n
+count_read (suc below) = suc below
 
 -- What a message in flight carries: the labels and fields of the records that it was sent for, as these records have them
 -- still. So what its receiver finds by them is what `IsLabelled` and `IsFound` say.
-pub record IsCarried (ms : Mappings) (p : Endpoint) : Type 0 where
-  pub start : (c b : ℕ) → p.message c ≡ Some (StartOf b) → p.carried c ≡ StartMessage (p.pasid b)
-  pub stop : (c b : ℕ) → p.message c ≡ Some (StopOf b) → p.carried c ≡ StopMessage (p.pasid b)
-  pub reset : (c : ℕ) → p.message c ≡ Some FunctionReset → p.carried c ≡ ResetMessage
+pub record IsCarried (mappings : Mappings) (part : Endpoint) : Type 0 where
+  pub start : (message binding : ℕ) → part.message message ≡ Some (StartOf binding) → part.carried message ≡ StartMessage (part.pasid binding)
+  pub stop : (message binding : ℕ) → part.message message ≡ Some (StopOf binding) → part.carried message ≡ StopMessage (part.pasid binding)
+  pub reset : (message : ℕ) → part.message message ≡ Some FunctionReset → part.carried message ≡ ResetMessage
   -- a Completion: the tag of its request; the frame of the mapping that it found, which may be read, and written if the
   -- mapping may; or no translation, which has neither flag
-  pub completion : (c r m : ℕ) → p.message c ≡ Some (CompletionOf r (Some m)) → p.carried c
-      ≡ CompletionMessage (p.request_tag r) (ms.frame m) true (ms.write m)
-  pub no_translation : (c r : ℕ) → p.message c ≡ Some (CompletionOf r None) → p.carried c ≡ CompletionMessage (p.request_tag r) 0 false false
+  pub completion : (message request mapping : ℕ) → part.message message ≡ Some (CompletionOf request (Some mapping)) → part.carried message
+      ≡ CompletionMessage (part.request_tag request) (mappings.frame mapping) true (mappings.write mapping)
+  pub no_translation :
+      (message request : ℕ)
+      → part.message message ≡ Some (CompletionOf request None)
+      → part.carried message ≡ CompletionMessage (part.request_tag request) 0 false false
   -- an Invalidate: the ITag of its order, the PASID of the order's binding, and its range by its code, or all pages
-  pub invalidate : (c k : ℕ) → p.message c ≡ Some (InvalidateOf k) → p.carried c
-      ≡ InvalidateMessage (p.itag k) (p.pasid (binding_of (p.order k))) (scope_of (extent_of (p.order k)))
+  pub invalidate : (message order : ℕ) → part.message message ≡ Some (InvalidateOf order) → part.carried message
+      ≡ InvalidateMessage (part.itag order) (part.pasid (binding_of (part.order order))) (scope_of (extent_of (part.order order)))
   -- a Response: the PASID under which the host filed its group, the group's index, and the code
-  pub response : (c g : ℕ) (code : Code) → p.message c ≡ Some (ResponseOf g code) → p.carried c ≡ ResponseMessage (p.pasid (p.filed_under g)) (p.index g) code
-  pub request : (c r : ℕ) → p.message c ≡ Some (RequestOf r) → p.carried c
-      ≡ RequestMessage (p.request_tag r) (p.pasid (p.request_binding r)) (p.request_page r)
+  pub response :
+      (message group : ℕ) (code : Code)
+      → part.message message ≡ Some (ResponseOf group code)
+      → part.carried message ≡ ResponseMessage (part.pasid (part.filed_under group)) (part.index group) code
+  pub request : (message request : ℕ) → part.message message ≡ Some (RequestOf request) → part.carried message
+      ≡ RequestMessage (part.request_tag request) (part.pasid (part.request_binding request)) (part.request_page request)
   -- an Invalidate Completion: the ITags of the orders that it names, and the count by which each of them is owed, as it is
   -- read
   pub invalidated :
-      (c : ℕ) (names : ℕ → Bool)
-      → p.message c ≡ Some (InvalidatedOf names)
+      (message : ℕ) (names : ℕ → Bool)
+      → part.message message ≡ Some (InvalidatedOf names)
       → (vector field : ℕ)
-      × (p.carried c ≡ InvalidatedMessage vector field) × (field < 8) × IsVectorOf p names vector
-      × ((k : ℕ) → names k ≡ true → (left : ℕ) × (p.order_state k ≡ Completing (count_read field) left))
+      × (part.carried message ≡ InvalidatedMessage vector field) × (field < 8) × IsVectorOf part names vector
+      × ((order : ℕ) → names order ≡ true → (left : ℕ) × (part.order_state order ≡ Completing (count_read field) left))
   -- a page request: the PASID of its group's asker, the group's index, and what it asks
-  pub page_request : (c r : ℕ) → p.message c ≡ Some (PageRequestOf r) → p.carried c
-      ≡ PageRequestMessage (p.pasid (p.asker (p.group_of r))) (p.index (p.group_of r)) (p.asked_page r) (p.asks_read r) (p.asks_write r) (p.is_last r)
-  pub marker : (c b : ℕ) → p.message c ≡ Some (MarkerOf b) → p.carried c ≡ MarkerMessage (p.pasid b)
-  pub reset_done : (c : ℕ) → p.message c ≡ Some ResetDone → p.carried c ≡ ResetDoneMessage
+  pub page_request :
+      (message request : ℕ)
+      → part.message message ≡ Some (PageRequestOf request)
+      → part.carried message
+      ≡ PageRequestMessage (part.pasid (part.asker (part.group_of request))) (part.index (part.group_of request))
+      (part.asked_page request) (part.asks_read request) (part.asks_write request) (part.is_last request)
+  pub marker : (message binding : ℕ) → part.message message ≡ Some (MarkerOf binding) → part.carried message ≡ MarkerMessage (part.pasid binding)
+  pub reset_done : (message : ℕ) → part.message message ≡ Some ResetDone → part.carried message ≡ ResetDoneMessage
 
 -- What can't occur.
-pub record NeverOccurs (p : Endpoint) : Type 0 where
+pub record NeverOccurs (part : Endpoint) : Type 0 where
   -- a Reset or a ResetDone in flight at an open unit
-  pub reset : (c : ℕ) → p.phase ≡ Open → p.message c ≢ Some FunctionReset
-  pub reset_done : (c : ℕ) → p.phase ≡ Open → p.message c ≢ Some ResetDone
+  pub reset : (message : ℕ) → part.phase ≡ Open → part.message message ≢ Some FunctionReset
+  pub reset_done : (message : ℕ) → part.phase ≡ Open → part.message message ≢ Some ResetDone
   -- an order in flight to an endpoint that has reset itself
-  pub start : (c d b : ℕ) → p.phase ≡ Cleared c → p.message d ≢ Some (StartOf b)
-  pub stop : (c d b : ℕ) → p.phase ≡ Cleared c → p.message d ≢ Some (StopOf b)
-  pub invalidate : (c d k : ℕ) → p.phase ≡ Cleared c → p.message d ≢ Some (InvalidateOf k)
-  pub response : (c d g : ℕ) (code : Code) → p.phase ≡ Cleared c → p.message d ≢ Some (ResponseOf g code)
+  pub start : (message other binding : ℕ) → part.phase ≡ Cleared message → part.message other ≢ Some (StartOf binding)
+  pub stop : (message other binding : ℕ) → part.phase ≡ Cleared message → part.message other ≢ Some (StopOf binding)
+  pub invalidate : (message other order : ℕ) → part.phase ≡ Cleared message → part.message other ≢ Some (InvalidateOf order)
+  pub response : (message other group : ℕ) (code : Code) → part.phase ≡ Cleared message → part.message other ≢ Some (ResponseOf group code)
   -- a Stop Marker in flight of a binding that isn't Stopping, or whose marker is noted
-  pub marker : (c b : ℕ) → p.message c ≡ Some (MarkerOf b) → p.stage b ≡ Stopping false
+  pub marker : (message binding : ℕ) → part.message message ≡ Some (MarkerOf binding) → part.stage binding ≡ Stopping false
   -- an open group of page requests, or a page request that has arrived, of a binding that is past Draining
-  pub open_group : (g : ℕ) → p.phase ≡ Open → is_open_group (p.host_group g) ≡ true → is_before_invalidating (p.stage (p.filed_under g)) ≡ true
-  pub arrived : (r : ℕ) → p.page_request r ≡ Arrived → is_before_invalidating (p.stage (p.asker (p.group_of r))) ≡ true
+  pub open_group :
+      (group : ℕ)
+      → part.phase ≡ Open
+      → is_open_group (part.host_group group) ≡ true
+      → is_before_invalidating (part.stage (part.filed_under group)) ≡ true
+  pub arrived : (request : ℕ) → part.page_request request ≡ Arrived → is_before_invalidating (part.stage (part.asker (part.group_of request))) ≡ true
   -- a worker that replies at an open unit for a binding that is Invalidating, whether or not a reset has dropped the job
-  pub reply : (g worker invalidation wait : ℕ) → p.phase ≡ Open → (p.host_group g ≡ InHand worker) ⊎ (p.host_group g ≡ InHandDiscarded worker)
-      → p.stage (p.filed_under g) ≢ Invalidating invalidation wait
+  pub reply :
+      (group worker invalidation wait : ℕ)
+      → part.phase ≡ Open
+      → (part.host_group group ≡ InHand worker) ⊎ (part.host_group group ≡ InHandDiscarded worker)
+      → part.stage (part.filed_under group) ≢ Invalidating invalidation wait
   -- a worker that holds, at an open unit, a job that a reset has dropped, for a binding that is Live, Stopping or Draining
-  pub discarded : (g worker : ℕ) → p.phase ≡ Open → p.host_group g ≡ InHandDiscarded worker → is_before_invalidating (p.stage (p.filed_under g)) ≡ false
+  pub discarded :
+      (group worker : ℕ)
+      → part.phase ≡ Open
+      → part.host_group group ≡ InHandDiscarded worker
+      → is_before_invalidating (part.stage (part.filed_under group)) ≡ false
 
 -- page requests that have arrived and aren't filed: their number, and their list in order of arrival
 abbrev pub page_queue : Endpoint → ℕ
-page_queue p = count_below p.page_requests (λ r. is_arrived (p.page_request r))
+page_queue part = count_below part.page_requests (λ request. is_arrived (part.page_request request))
 
 -- the arrivals that stand in the unit's page request queue, oldest first (Intel VT-d, "Page Request Queue")
 abbrev pub waiting : Endpoint → List ℕ
-waiting p = select p.arrivals (is_waiting p)
+waiting part = select part.arrivals (is_waiting part)
 
 -- At most 32 page requests of an endpoint wait for their response (its allocation: section 10.5.2), so the 32 places of its
 -- unit's page request queue are never too few.
-pub record IsLimited (p : Endpoint) : Type 0 where
-  pub outstanding : outstanding p ≤ 32
-  pub page_queue : page_queue p ≤ 32
-  pub waiting : length (waiting p) ≤ 32
+pub record IsLimited (part : Endpoint) : Type 0 where
+  pub outstanding : outstanding part ≤ 32
+  pub page_queue : page_queue part ≤ 32
+  pub waiting : length (waiting part) ≤ 32
 
 -- after every list of steps each label finds the one record that bears it, at its own endpoint and unit, and is within its limit
 abbrev pub AlwaysLabelled : Type 0
-AlwaysLabelled = (rule : PasidRule) (config : Config) (steps : List Step) (e : ℕ) → Fits config → IsLabelled ((world_after rule config steps).part e)
+AlwaysLabelled =
+    (rule : PasidRule) (config : Config) (steps : List Step) (endpoint : ℕ)
+    → Fits config
+    → IsLabelled ((world_after rule config steps).part endpoint)
 
 -- after every list of steps each label that a receiver reads still means the record for which its message was sent
 abbrev pub AlwaysFound : Type 0
-AlwaysFound = (rule : PasidRule) (config : Config) (steps : List Step) (e : ℕ) → Fits config → IsFound ((world_after rule config steps).part e)
+AlwaysFound = (rule : PasidRule) (config : Config) (steps : List Step) (endpoint : ℕ) → Fits config → IsFound ((world_after rule config steps).part endpoint)
 
 -- after no list of steps does an endpoint, its unit or a worker meet one of these cases
 abbrev pub NeverOccurring : Type 0
-NeverOccurring = (rule : PasidRule) (config : Config) (steps : List Step) (e : ℕ) → Fits config → NeverOccurs ((world_after rule config steps).part e)
+NeverOccurring =
+    (rule : PasidRule) (config : Config) (steps : List Step) (endpoint : ℕ)
+    → Fits config
+    → NeverOccurs ((world_after rule config steps).part endpoint)
 
 -- after every list of steps no endpoint is beyond its allocation, and no unit's page request queue is overfull
 abbrev pub AlwaysLimited : Type 0
-AlwaysLimited = (rule : PasidRule) (config : Config) (steps : List Step) (e : ℕ) → Fits config → IsLimited ((world_after rule config steps).part e)
+AlwaysLimited =
+    (rule : PasidRule) (config : Config) (steps : List Step) (endpoint : ℕ)
+    → Fits config
+    → IsLimited ((world_after rule config steps).part endpoint)
 
 -- is it an invalidate completion in flight, and one that names the order?
 abbrev pub names_order : (order : ℕ) → Option Subject → Bool
-names_order k (Some (InvalidatedOf names)) = names k
-names_order k _ = false
+names_order order (Some (InvalidatedOf names)) = names order
+names_order order _ = false
 
 -- how many of the first so many messages are completions in flight that name the order
 abbrev pub completions : (messages : ℕ) → Endpoint → (order : ℕ) → ℕ
-completions n p k = count_below n (λ c. names_order k (p.message c))
+completions messages part order = count_below messages (λ message. names_order order (part.message message))
 
 -- how many completions an order is owed yet; 0 as long as the endpoint hasn't finished it, and once the last has come
 abbrev pub left_of : OrderState → ℕ
@@ -314,90 +395,109 @@ is_answerable _ = false
 
 -- The places of a group on the way to its response: its last request is in flight or arrived; or the host has it whole, as
 -- a job or in a worker's hand; or the response is in flight. The host's state of the group tells the three apart.
-pub data IsOnItsWay (p : Endpoint) (g : ℕ) : Type 0 where
-  asked : (last : ℕ) → p.group_of last ≡ g → p.is_last last ≡ true → (p.page_request last ≡ InFlight) ⊎ (p.page_request last ≡ Arrived)
-      → (p.host_group g ≡ NotFiled) ⊎ (p.host_group g ≡ PartFiled) → IsOnItsWay p g
-  is_job : p.host_group g ≡ Job → IsOnItsWay p g
-  in_hand : (worker : ℕ) → p.host_group g ≡ InHand worker → IsOnItsWay p g
-  answered : (c : ℕ) (code : Code) → p.message c ≡ Some (ResponseOf g code) → p.host_group g ≡ Replied → IsOnItsWay p g
+pub data IsOnItsWay (part : Endpoint) (group : ℕ) : Type 0 where
+  asked : (last : ℕ) → part.group_of last ≡ group → part.is_last last ≡ true → (part.page_request last ≡ InFlight) ⊎ (part.page_request last ≡ Arrived)
+      → (part.host_group group ≡ NotFiled) ⊎ (part.host_group group ≡ PartFiled) → IsOnItsWay part group
+  is_job : part.host_group group ≡ Job → IsOnItsWay part group
+  in_hand : (worker : ℕ) → part.host_group group ≡ InHand worker → IsOnItsWay part group
+  answered : (message : ℕ) (code : Code) → part.message message ≡ Some (ResponseOf group code) → part.host_group group ≡ Replied → IsOnItsWay part group
 
 -- What is awaited at an open unit is on its way, once. Each busy ITag has exactly one of: its Invalidate in flight, an
 -- invalidation that the endpoint has taken, or completions owed, each of them in flight.
-pub record IsUnderWay (n : ℕ) (p : Endpoint) : Type 0 where
-  pub sent : (k : ℕ) → p.order_state k ≡ Sent → p.message (p.invalidate_message k) ≡ Some (InvalidateOf k)
-  pub sent_only : (c k : ℕ) → p.message c ≡ Some (InvalidateOf k) → p.order_state k ≡ Sent
-  pub owed : (k : ℕ) → p.phase ≡ Open → completions n p k ≡ left_of (p.order_state k)
-  pub completing : (k count left : ℕ) → p.order_state k ≡ Completing count left → (0 < left) × (left ≤ count) × (count ≤ 8)
-  pub never_lapsed : (k : ℕ) → p.phase ≡ Open → p.order_state k ≢ Lapsed
+pub record IsUnderWay (messages : ℕ) (part : Endpoint) : Type 0 where
+  pub sent : (order : ℕ) → part.order_state order ≡ Sent → part.message (part.invalidate_message order) ≡ Some (InvalidateOf order)
+  pub sent_only : (message order : ℕ) → part.message message ≡ Some (InvalidateOf order) → part.order_state order ≡ Sent
+  pub owed : (order : ℕ) → part.phase ≡ Open → completions messages part order ≡ left_of (part.order_state order)
+  pub completing : (order count left : ℕ) → part.order_state order ≡ Completing count left → (0 < left) × (left ≤ count) × (count ≤ 8)
+  pub never_lapsed : (order : ℕ) → part.phase ≡ Open → part.order_state order ≢ Lapsed
   -- each translation request that is out has its request or its completion in flight
-  pub request : (r : ℕ) → p.phase ≡ Open → is_out (p.request r) ≡ true → (c : ℕ)
-      × ((p.message c ≡ Some (RequestOf r)) ⊎ ((found : Option ℕ) × (p.message c ≡ Some (CompletionOf r found))))
+  pub request : (request : ℕ) → part.phase ≡ Open → is_out (part.request request) ≡ true → (message : ℕ)
+      × ((part.message message ≡ Some (RequestOf request)) ⊎ ((found : Option ℕ) × (part.message message ≡ Some (CompletionOf request found))))
   -- a page request is in flight exactly where a message in flight speaks of it, and one does
-  pub asked : (r : ℕ) → (p.page_request r ≡ InFlight) ↔ ((c : ℕ) × (p.message c ≡ Some (PageRequestOf r)))
-  pub asked_once : (c d r : ℕ) → p.message c ≡ Some (PageRequestOf r) → p.message d ≡ Some (PageRequestOf r) → c ≡ d
+  pub asked : (request : ℕ) → (part.page_request request ≡ InFlight) ↔ ((message : ℕ) × (part.message message ≡ Some (PageRequestOf request)))
+  pub asked_once :
+      (message other request : ℕ)
+      → part.message message ≡ Some (PageRequestOf request)
+      → part.message other ≡ Some (PageRequestOf request)
+      → message ≡ other
   -- each group that awaits its response, or is stale, is in one place on the way to it
-  pub group : (g : ℕ) → p.phase ≡ Open → is_answerable (p.group g) ≡ true → IsOnItsWay p g
+  pub group : (group : ℕ) → part.phase ≡ Open → is_answerable (part.group group) ≡ true → IsOnItsWay part group
   -- a response in flight is to a group that awaits it, or is stale, and that the host has answered
-  pub responded : (c g : ℕ) (code : Code) → p.message c ≡ Some (ResponseOf g code) → (is_answerable (p.group g) ≡ true) × (p.host_group g ≡ Replied)
+  pub responded :
+      (message group : ℕ) (code : Code)
+      → part.message message ≡ Some (ResponseOf group code)
+      → (is_answerable (part.group group) ≡ true) × (part.host_group group ≡ Replied)
   -- a group has at most one last page request
   pub one_last :
-      (r other : ℕ)
-      → r < p.page_requests
-      → other < p.page_requests
-      → p.is_last r ≡ true
-      → p.is_last other ≡ true
-      → p.group_of r ≡ p.group_of other
-      → r ≡ other
+      (request other : ℕ)
+      → request < part.page_requests
+      → other < part.page_requests
+      → part.is_last request ≡ true
+      → part.is_last other ≡ true
+      → part.group_of request ≡ part.group_of other
+      → request ≡ other
   -- while a page request of it is in flight or arrived, the host doesn't have the group whole
-  pub unfiled : (r : ℕ) → p.phase ≡ Open → (p.page_request r ≡ InFlight) ⊎ (p.page_request r ≡ Arrived) → (p.host_group (p.group_of r) ≡ NotFiled)
-      ⊎ (p.host_group (p.group_of r) ≡ PartFiled)
+  pub unfiled :
+      (request : ℕ)
+      → part.phase ≡ Open
+      → (part.page_request request ≡ InFlight) ⊎ (part.page_request request ≡ Arrived)
+      → (part.host_group (part.group_of request) ≡ NotFiled) ⊎ (part.host_group (part.group_of request) ≡ PartFiled)
   -- a wait is done only behind orders that are done or void
-  pub ahead : (wait k : ℕ) → is_wait (p.order wait) ≡ true → p.order_state wait ≡ Done → k < wait → (p.order_state k ≡ Done) ⊎ (p.order_state k ≡ Void)
+  pub ahead :
+      (wait order : ℕ)
+      → is_wait (part.order wait) ≡ true
+      → part.order_state wait ≡ Done
+      → order < wait
+      → (part.order_state order ≡ Done) ⊎ (part.order_state order ≡ Void)
   -- an order is void only by a reset: at an open unit a reset-done has been delivered
-  pub void : (k : ℕ) → k < p.orders → p.order_state k ≡ Void → (p.phase ≢ Open) ⊎ (0 < p.resets)
-  pub response_once : (c d g : ℕ) (code other : Code) → p.message c ≡ Some (ResponseOf g code) → p.message d ≡ Some (ResponseOf g other) → c ≡ d
+  pub void : (order : ℕ) → order < part.orders → part.order_state order ≡ Void → (part.phase ≢ Open) ⊎ (0 < part.resets)
+  pub response_once :
+      (message second group : ℕ) (code other : Code)
+      → part.message message ≡ Some (ResponseOf group code)
+      → part.message second ≡ Some (ResponseOf group other)
+      → message ≡ second
 
 -- after every list of steps nothing is awaited at an open unit that isn't on its way
 abbrev pub AlwaysUnderWay : Type 0
-AlwaysUnderWay = (rule : PasidRule) (config : Config) (steps : List Step) (e : ℕ) → Fits config
-    → IsUnderWay (world_after rule config steps).messages ((world_after rule config steps).part e)
+AlwaysUnderWay = (rule : PasidRule) (config : Config) (steps : List Step) (endpoint : ℕ) → Fits config
+    → IsUnderWay (world_after rule config steps).messages ((world_after rule config steps).part endpoint)
 
 -- after every list of steps each message in flight carries what its records bear just then
 abbrev pub AlwaysCarried : Type 0
-AlwaysCarried = (rule : PasidRule) (config : Config) (steps : List Step) (e : ℕ) → Fits config
-    → IsCarried (world_after rule config steps).mappings ((world_after rule config steps).part e)
+AlwaysCarried = (rule : PasidRule) (config : Config) (steps : List Step) (endpoint : ℕ) → Fits config
+    → IsCarried (world_after rule config steps).mappings ((world_after rule config steps).part endpoint)
 
 -- A worker's hand holds a job that was made, of a group that is in that worker's hand at the host, whether or not a reset has
 -- dropped it since; so no two hands hold jobs of the same group. And back: of a group that is in a worker's hand, that worker
 -- holds the job; and a group that is a job has an entry in the job table, which is queued as long, and no group has two entries.
-pub record HoldsJobs (w : World) : Type 0 where
-  pub made : (worker job : ℕ) → w.hand worker ≡ Some job → job < w.jobs
+pub record HoldsJobs (world : World) : Type 0 where
+  pub made : (worker job : ℕ) → world.hand worker ≡ Some job → job < world.jobs
   pub in_hand :
       (worker job : ℕ)
-      → w.hand worker ≡ Some job
-      → ((w.part (w.job job).endpoint).host_group (w.job job).group ≡ InHand worker)
-      ⊎ ((w.part (w.job job).endpoint).host_group (w.job job).group ≡ InHandDiscarded worker)
+      → world.hand worker ≡ Some job
+      → ((world.part (world.job job).endpoint).host_group (world.job job).group ≡ InHand worker)
+      ⊎ ((world.part (world.job job).endpoint).host_group (world.job job).group ≡ InHandDiscarded worker)
   pub one_hand :
       (worker other job same : ℕ)
-      → w.hand worker ≡ Some job
-      → w.hand other ≡ Some same
-      → (w.job job).endpoint ≡ (w.job same).endpoint
-      → (w.job job).group ≡ (w.job same).group
+      → world.hand worker ≡ Some job
+      → world.hand other ≡ Some same
+      → (world.job job).endpoint ≡ (world.job same).endpoint
+      → (world.job job).group ≡ (world.job same).group
       → worker ≡ other
   pub held :
       (endpoint group worker : ℕ)
-      → ((w.part endpoint).host_group group ≡ InHand worker) ⊎ ((w.part endpoint).host_group group ≡ InHandDiscarded worker)
-      → (job : ℕ) × (w.hand worker ≡ Some job) × ((w.job job).endpoint ≡ endpoint) × ((w.job job).group ≡ group)
+      → ((world.part endpoint).host_group group ≡ InHand worker) ⊎ ((world.part endpoint).host_group group ≡ InHandDiscarded worker)
+      → (job : ℕ) × (world.hand worker ≡ Some job) × ((world.job job).endpoint ≡ endpoint) × ((world.job job).group ≡ group)
   pub queued :
       (endpoint group : ℕ)
-      → (w.part endpoint).host_group group ≡ Job
-      → (job : ℕ) × (job < w.jobs) × ((w.job job).endpoint ≡ endpoint) × ((w.job job).group ≡ group)
+      → (world.part endpoint).host_group group ≡ Job
+      → (job : ℕ) × (job < world.jobs) × ((world.job job).endpoint ≡ endpoint) × ((world.job job).group ≡ group)
   pub one_job :
       (job same : ℕ)
-      → job < w.jobs
-      → same < w.jobs
-      → (w.job job).endpoint ≡ (w.job same).endpoint
-      → (w.job job).group ≡ (w.job same).group
+      → job < world.jobs
+      → same < world.jobs
+      → (world.job job).endpoint ≡ (world.job same).endpoint
+      → (world.job job).group ≡ (world.job same).group
       → job ≡ same
 
 -- after every list of steps the workers' hands, the job table and the groups at the host agree
@@ -406,9 +506,14 @@ AlwaysHoldsJobs = (rule : PasidRule) (config : Config) (steps : List Step) → F
 
 -- The look-up columns of the mappings: at a space and a page is found exactly the mapping that is present there; and of a frame
 -- exactly the last mapping that led to it.
-pub record FindsMappings (ms : Mappings) : Type 0 where
-  pub at : (space page m : ℕ) → (ms.at space page ≡ Some m) ↔ ((ms.state m ≡ Present) × (ms.space m ≡ space) × (ms.page m ≡ page))
-  pub latest : (frame m : ℕ) → (ms.latest frame ≡ Some m) ↔ ((m < ms.made) × (ms.frame m ≡ frame) × ((k : ℕ) → k < ms.made → ms.frame k ≡ frame → k ≤ m))
+pub record FindsMappings (mappings : Mappings) : Type 0 where
+  pub at :
+      (space page mapping : ℕ)
+      → (mappings.at space page ≡ Some mapping) ↔ ((mappings.state mapping ≡ Present) × (mappings.space mapping ≡ space) × (mappings.page mapping ≡ page))
+  pub latest :
+      (frame mapping : ℕ)
+      → (mappings.latest frame ≡ Some mapping)
+      ↔ ((mapping < mappings.made) × (mappings.frame mapping ≡ frame) × ((other : ℕ) → other < mappings.made → mappings.frame other ≡ frame → other ≤ mapping))
 
 -- after every list of steps a space and a page, and a frame, find the mapping that they should
 abbrev pub AlwaysFindsMappings : Type 0
@@ -416,16 +521,16 @@ AlwaysFindsMappings = (rule : PasidRule) (config : Config) (steps : List Step) �
 
 -- how many translations an endpoint has cached
 abbrev pub cached_translations : Endpoint → ℕ
-cached_translations p = count_below p.requests (λ r. is_some (p.held r))
+cached_translations part = count_below part.requests (λ request. is_some (part.held request))
 
 -- Limits of the host: live spaces, pages of a space, and page requests that are filed of a group which is open; the descriptors in
 -- a unit's invalidation queue; and those of an endpoint: the translations that it caches.
-pub record KeepsLimits (w : World) : Type 0 where
-  pub spaces : live_spaces w ≤ 64
-  pub pages : (space : ℕ) → pages_of w space ≤ 1024
-  pub requests : (e group : ℕ) → is_open_group ((w.part e).host_group group) ≡ true → length (asks (w.part e) group) ≤ 32
-  pub queued : (e : ℕ) → queue_length (w.part e) ≤ 64
-  pub cached : (e : ℕ) → cached_translations (w.part e) ≤ 64
+pub record KeepsLimits (world : World) : Type 0 where
+  pub spaces : live_spaces world ≤ 64
+  pub pages : (space : ℕ) → pages_of world space ≤ 1024
+  pub requests : (endpoint group : ℕ) → is_open_group ((world.part endpoint).host_group group) ≡ true → length (asks (world.part endpoint) group) ≤ 32
+  pub queued : (endpoint : ℕ) → queue_length (world.part endpoint) ≤ 64
+  pub cached : (endpoint : ℕ) → cached_translations (world.part endpoint) ≤ 64
 
 -- after every list of steps no more is kept than these limits allow
 abbrev pub AlwaysKeepsLimits : Type 0

@@ -111,8 +111,8 @@ bindings_under world pasid = count_below world.config.endpoints (λ e. is_borne_
 -- the space of the binding that bears it at the lowest endpoint
 abbrev pub space_under : World → (pasid : ℕ) → ℕ
 space_under world pasid =
-    let p = world.part (lowest world.config.endpoints (λ e. is_borne_at (world.part e) pasid)) in
-    p.space (the (p.at_pasid pasid))
+    let part = world.part (lowest world.config.endpoints (λ endpoint. is_borne_at (world.part endpoint) pasid)) in
+    part.space (the (part.at_pasid pasid))
 
 -- A PASID at an endpoint: the binding that bears it, and its state there.
 

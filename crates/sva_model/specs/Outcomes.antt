@@ -163,8 +163,8 @@ ask_outcome part endpoint pasid page tag = at_one (answer.Tag tag) endpoint (Loc
 -- a use of a cached translation begins in the slot
 abbrev pub begin_outcome : World → Endpoint → (endpoint pasid page slot : ℕ) → Outcome
 begin_outcome world part endpoint pasid page slot =
-    let r = Labels.cached part (Labels.bearer part pasid) page in
-    at_one (answer.Use slot (world.mappings.frame (the (part.held r)))) endpoint (LocalAct.Begin r (the (part.held r)) slot)
+    let request = Labels.cached part (Labels.bearer part pasid) page in
+    at_one (answer.Use slot (world.mappings.frame (the (part.held request)))) endpoint (LocalAct.Begin request (the (part.held request)) slot)
 
 -- a use ends; one that a reset had ended is dead
 abbrev pub end_outcome : Endpoint → (endpoint used : ℕ) → Outcome
@@ -173,8 +173,8 @@ end_outcome part endpoint used = at_one (if is_running (part.use_state used) the
 -- a page request is sent, of a new group or of one that still collects
 abbrev pub fault_outcome : Endpoint → (endpoint pasid page : ℕ) → (read write last : Bool) → Option ℕ → Outcome
 fault_outcome part endpoint pasid page read write last None =
-    let i = Labels.lowest_label Limits.groups part.at_index in
-    at_one (answer.Group i) endpoint (LocalAct.Group (Labels.bearer part pasid) i page read write last)
+    let index = Labels.lowest_label Limits.groups part.at_index in
+    at_one (answer.Group index) endpoint (LocalAct.Group (Labels.bearer part pasid) index page read write last)
 fault_outcome part endpoint pasid page read write last (Some index) =
     at_one (answer.Group index) endpoint (LocalAct.Request (the (part.at_index index)) page read write last)
 

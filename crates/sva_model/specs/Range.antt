@@ -33,7 +33,7 @@ pub record Code : Type 0 where
 -- the code of 2^order pages from `base` on
 abbrev pub encode_by : (base order : ℕ) → Code
 encode_by base zero = record { page = base; s = false }
-encode_by base (suc j) = record { page = base + (2 ^ j - 1); s = true }
+encode_by base (suc below) = record { page = base + (2 ^ below - 1); s = true }
 
 -- the code of a range
 abbrev pub encode : Range → Code

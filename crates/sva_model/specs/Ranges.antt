@@ -6,7 +6,7 @@ use Rattle.sva_model.specs.Range.{Range, IsRange, Code, pages_in, is_in, encode,
 -- no code of a range: the page is no page number, or the range would have more than 2^9 pages, since S is set and so are
 -- the nine lowest bits of the page
 abbrev pub IsNoCode : Code → Type 0
-IsNoCode c = (Limits.page_numbers ≤ c.page) ⊎ ((c.s ≡ true) × (c.page % 2 ^ Limits.most_order ≡ 2 ^ Limits.most_order - 1))
+IsNoCode code = (Limits.page_numbers ≤ code.page) ⊎ ((code.s ≡ true) × (code.page % 2 ^ Limits.most_order ≡ 2 ^ Limits.most_order - 1))
 
 -- A range is read from its own code, so two ranges have two codes. A code that is read gives a range within its limits,
 -- of which it is the code. A page is in a range exactly where its number, its low bits cleared, is the range's base; so two

@@ -18,24 +18,24 @@ pub record Line : Type 0 where
 
 -- the step is accepted with this answer
 abbrev pub says : Step → Answer → Line
-says s a = record { step = s; reply = Ok a }
+says asked answered = record { step = asked; reply = Ok answered }
 
 -- the step is refused for this cause
 abbrev pub refused : Step → Refusal → Line
-refused s r = record { step = s; reply = Err r }
+refused asked cause = record { step = asked; reply = Err cause }
 
 -- one page, as an Invalidate Request names it
 abbrev pub one_page : (page : ℕ) → Scope
-one_page q = Coded (record { page = q; s = false })
+one_page page = Coded (record { page = page; s = false })
 
 -- the invalidation of one page of a binding
 abbrev pub page_of : (binding page : ℕ) → Order
-page_of b q = RangeOf b (record { base = q; order = 0 })
+page_of binding page = RangeOf binding (record { base = page; order = 0 })
 
--- n lines, of which each goes by its place
+-- so many lines, of which each goes by its place
 abbrev pub lines : ℕ → (ℕ → Line) → List Line
-lines zero f = []
-lines (suc n) f = lines n f ++ f n ∷ []
+lines zero line_at = []
+lines (suc place) line_at = lines place line_at ++ line_at place ∷ []
 
 -- a config, by its numbers in the order of the line `config`, and the first number of each counter
 abbrev pub config : (endpoints frames workers first : ℕ) → Config
@@ -48,9 +48,9 @@ steps_of row = map (λ l. l.step) row
 -- by a rule of PASIDs the answers of the definitions over the row's steps are the row's answers, and so are the counts at its
 -- end
 abbrev pub IsRowBy : PasidRule → Config → List Line → (free mapped withheld : ℕ) → Type 0
-IsRowBy rule c row free mapped withheld =
-    (replies (opened rule c) (steps_of row) ≡ map (λ l. l.reply) row)
-    × (counts (world_after rule c (steps_of row)) ≡ record { free = free; mapped = mapped; withheld = withheld })
+IsRowBy rule limits row free mapped withheld =
+    (replies (opened rule limits) (steps_of row) ≡ map (λ l. l.reply) row)
+    × (counts (world_after rule limits (steps_of row)) ≡ record { free = free; mapped = mapped; withheld = withheld })
 
 -- by that of one PASID for each space
 abbrev pub IsRow : Config → List Line → (free mapped withheld : ℕ) → Type 0

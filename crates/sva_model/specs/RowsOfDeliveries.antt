@@ -19,7 +19,7 @@ use Rattle.sva_model.specs.Steps.{world_after}
 
 -- the messages of a run at one endpoint, as they were sent, are these
 abbrev pub AreSent : Config → List Line → (count : ℕ) → List Message → Type 0
-AreSent c row count messages = tabulate count (((world_after PerSpace c (steps_of row)).part 0).carried) ≡ messages
+AreSent limits row count messages = tabulate count (((world_after PerSpace limits (steps_of row)).part 0).carried) ≡ messages
 
 -- the eleven kinds in turn: the response finds its group stale, and the reset its unit closed
 abbrev pub each_kind_at_an_open_unit : List Line

@@ -193,11 +193,11 @@ NumbersApart = IsRow (config 3 8 3 100) numbers_apart 7 1 0
 
 -- a message as it was sent, whatever its endpoint
 abbrev pub carried_after : World → ℕ → Message
-carried_after w c = (w.part (w.link_of c)).carried c
+carried_after world message = (world.part (world.link_of message)).carried message
 
 -- the messages of a run as they were sent, from the first on, are these
 abbrev pub AreSentInAll : Config → List Line → (count : ℕ) → List Message → Type 0
-AreSentInAll c row count messages = tabulate count (carried_after (world_after PerSpace c (steps_of row))) ≡ messages
+AreSentInAll limits row count messages = tabulate count (carried_after (world_after PerSpace limits (steps_of row))) ≡ messages
 
 -- each with its own labels, pages and flags
 abbrev pub NumbersApartAsSent : Type 0
@@ -248,11 +248,11 @@ NumbersApartAsSent =
 
 -- the orders of a unit, in the order of submission
 abbrev pub orders_of : Endpoint → List Order
-orders_of p = tabulate p.orders p.order
+orders_of part = tabulate part.orders part.order
 
 -- those of an endpoint's unit after a run are these
 abbrev pub AreOrdered : Config → List Line → (endpoint : ℕ) → List Order → Type 0
-AreOrdered c row e orders = orders_of ((world_after PerSpace c (steps_of row)).part e) ≡ orders
+AreOrdered limits row endpoint orders = orders_of ((world_after PerSpace limits (steps_of row)).part endpoint) ≡ orders
 
 -- pages of an unmap with the wait behind them; a wait that drains; a PASID with the wait behind it
 abbrev pub NumbersApartAsOrdered : Type 0
@@ -749,9 +749,9 @@ TagsGivenBack = IsRow (config 1 5 1 0) tags_given_back 0 0 5
 
 -- what the page requests of an endpoint ask for, to read and to write, in the order in which they were sent
 abbrev pub AreAsked : Config → List Line → (endpoint : ℕ) → (read write : List Bool) → Type 0
-AreAsked c row e read write =
-    let p = (world_after PerSpace c (steps_of row)).part e in
-    (tabulate p.page_requests p.asks_read ≡ read) × (tabulate p.page_requests p.asks_write ≡ write)
+AreAsked limits row endpoint read write =
+    let part = (world_after PerSpace limits (steps_of row)).part endpoint in
+    (tabulate part.page_requests part.asks_read ≡ read) × (tabulate part.page_requests part.asks_write ≡ write)
 
 abbrev pub NumbersApartAsAsked : Type 0
 NumbersApartAsAsked =

@@ -41,7 +41,7 @@ full_space = mapped_space 1024
 -- the maps of the first pages of the first space, in order of pages
 unfoldable pub maps_of : (pages first : ℕ) → List Step
 maps_of zero first = []
-maps_of (suc n) first = maps_of n first ++ step.Map first n false ∷ []
+maps_of (suc page) first = maps_of page first ++ step.Map first page false ∷ []
 
 -- a Space, and a map of each page, reach the full space
 abbrev pub FullSpaceReached : Type 0
@@ -53,9 +53,9 @@ FullSpaceReached =
 
 -- as IsRow, from a world that is there
 abbrev pub IsRowAfter : World → List Line → (free mapped withheld : ℕ) → Type 0
-IsRowAfter w row free mapped withheld =
-    (replies w (steps_of row) ≡ map (λ l. l.reply) row)
-    × (counts (run w (steps_of row)) ≡ record { free = free; mapped = mapped; withheld = withheld })
+IsRowAfter world row free mapped withheld =
+    (replies world (steps_of row) ≡ map (λ l. l.reply) row)
+    × (counts (run world (steps_of row)) ≡ record { free = free; mapped = mapped; withheld = withheld })
 
 -- the sixty-fifth live space, and the last number of a space
 abbrev pub causes_of_space : List Line

@@ -21,7 +21,7 @@ use Rattle.sva_model.specs.Wire.Descriptor.{RangeDescriptor, PasidDescriptor, Wa
 
 -- what a host keeps after a run
 abbrev pub kept_after : Config → List Line → Wire
-kept_after c row = wire (world_after PerSpace c (steps_of row))
+kept_after limits row = wire (world_after PerSpace limits (steps_of row))
 
 -- two pages are unmapped while one is in use; the invalidation of the other is owed three completions, of which one has come
 abbrev pub invalidations_under_way : List Line
@@ -126,7 +126,7 @@ pub record Groups : Type 0 where
 
 -- the same as an endpoint keeps it with its unit
 abbrev pub groups_of : EndpointWire → Groups
-groups_of p = record { groups = p.device.groups; page_queue = p.page_queue; host_groups = p.host_groups }
+groups_of endpoint = record { groups = endpoint.device.groups; page_queue = endpoint.page_queue; host_groups = endpoint.host_groups }
 
 abbrev pub GroupsUnderWay : Type 0
 GroupsUnderWay =
@@ -184,12 +184,12 @@ pub record Drain : Type 0 where
 
 -- the same of all bindings and units, as it is kept
 abbrev pub drain_in : Wire → Drain
-drain_in w =
+drain_in kept =
     record {
-      stages = map (λ b. b.stage) w.bindings;
-      queues = map (λ p. p.unit.queue) w.parts;
-      fronts = map (λ p. p.unit.front) w.parts;
-      ends = map (λ p. p.unit.waits_end) w.parts;
+      stages = map (λ binding. binding.stage) kept.bindings;
+      queues = map (λ part. part.unit.queue) kept.parts;
+      fronts = map (λ part. part.unit.front) kept.parts;
+      ends = map (λ part. part.unit.waits_end) kept.parts;
     }
 
 -- a Reset makes the second wait void and leaves the front; the reset-done raises the front past it

@@ -32,7 +32,7 @@ number first name = first + name
 -- the number after that of the last of so many; 0 where there is none
 abbrev pub end_number : (first count : ℕ) → ℕ
 end_number first zero = 0
-end_number first (suc n) = first + suc n
+end_number first (suc before) = first + suc before
 
 -- what is found where the first is there
 abbrev pub chain : {A : Type 0} → (ℕ → Option A) → Option ℕ → Option A

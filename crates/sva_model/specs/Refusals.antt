@@ -198,7 +198,7 @@ quit_refusals world part pasid =
 abbrev pub is_read_only : World → Endpoint → (pasid page : ℕ) → Bool
 is_read_only world part pasid page = not (world.mappings.write (the (part.held (Labels.cached part (Labels.bearer part pasid) page))))
 
--- only a reset order, and a translation request at an open unit, send a message when they are delivered
+-- only a Reset, and a translation request at an open unit, send a message when they are delivered
 abbrev pub delivery_sends : Endpoint → Option Subject → Bool
 delivery_sends part (Some FunctionReset) = true
 delivery_sends part (Some (RequestOf request)) = is_open part.phase

@@ -130,8 +130,8 @@ pub data Subject : Type 0 where
   MarkerOf : (binding : ℕ) → Subject
   ResetDone : Subject
 
--- A unit is open; or in reset (a function level reset, section 6.6.2), where first the reset order is in flight and then the
--- reset-done.
+-- A unit is open; or in reset (a function level reset, section 6.6.2), where first the message Reset is in flight and then
+-- ResetDone.
 pub data Phase : Type 0 where
   Open : Phase
   ResetSent : (message : ℕ) → Phase

@@ -14,16 +14,25 @@ pub enum Verdict {
 
 /// One atomic event of a host, its endpoints and the link between them. A number out of its range isn't an error of the
 /// caller: the step is refused.
+///
+/// A scenario writes each step as a line; its letters stand for the fields in their order (docs/FORMAT.md, section 3).
 #[derive(Clone, Copy, Debug, PartialEq, Eq)]
 pub enum Step {
     /// Makes a new empty address space.
+    ///
+    /// In a scenario `space`. Refused by the first of these that holds: TooManySpaces, NumbersSpent, OutOfMemory.
     Space,
     /// Takes a space away; its frames are free at once.
+    ///
+    /// In a scenario `drop S`. Refused by the first of these that holds: NoSuchSpace, StillBound.
     DropSpace {
         /// The number of a live space, below 2^63.
         space: u64,
     },
     /// Maps a page of a space to the lowest free frame.
+    ///
+    /// In a scenario `map S PAGE r` or `w`. Refused by the first of these that holds: NoSuchSpace, PageRange, Mapped,
+    /// SpaceFull, NoFrame, OutOfMemory.
     Map {
         /// The number of a live space, below 2^63.
         space: u64,
@@ -33,6 +42,9 @@ pub enum Step {
         write: bool,
     },
     /// Takes pages in a row out of a space.
+    ///
+    /// In a scenario `unmap S PAGE [COUNT]`. Refused by the first of these that holds: NoSuchSpace, BadCount,
+    /// PageRange, NotMapped, QueueFull, NumbersSpent.
     Unmap {
         /// The number of a live space, below 2^63.
         space: u64,
@@ -42,6 +54,9 @@ pub enum Step {
         count: u64,
     },
     /// Takes every mapped page of an aligned range out of a space.
+    ///
+    /// In a scenario `unmapr S PAGE K`. Refused by the first of these that holds: NoSuchSpace, BadOrder, PageRange,
+    /// NotAligned, NothingMapped, QueueFull, NumbersSpent.
     UnmapRange {
         /// The number of a live space, below 2^63.
         space: u64,
@@ -53,6 +68,9 @@ pub enum Step {
     },
     /// Binds a space to an endpoint under the PASID that it bears, or else the lowest that no space bears, and sends
     /// Start. A space bears its PASID while it has an unreleased binding at any endpoint.
+    ///
+    /// In a scenario `bind E S`. Refused by the first of these that holds: NoSuchEndpoint, NoSuchSpace, Resetting,
+    /// AlreadyBound, NoPasid, NumbersSpent, OutOfMemory.
     Bind {
         /// The number of the endpoint, below the config's count (at most 8).
         endpoint: u64,
@@ -60,36 +78,55 @@ pub enum Step {
         space: u64,
     },
     /// Begins to take a binding back: sends Stop, or ends one that a reset has cut off.
+    ///
+    /// In a scenario `unbind B`. Refused by the first of these that holds: NoSuchBinding, NotLive, Resetting,
+    /// NumbersSpent, OutOfMemory.
     Unbind {
         /// The number of an unreleased binding, below 2^63.
         binding: u64,
     },
     /// Moves a binding to its next stage.
+    ///
+    /// In a scenario `advance B`. Refused by the first of these that holds: NoSuchBinding, Resetting, NotYet,
+    /// QueueFull, NumbersSpent.
     Advance {
         /// The number of an unreleased binding, below 2^63.
         binding: u64,
     },
     /// Takes the head of an endpoint's invalidation queue (Intel VT-d, "Queued Invalidation Interface").
+    ///
+    /// In a scenario `pump E`. Refused by the first of these that holds: NoSuchEndpoint, Resetting, NumbersSpent,
+    /// OutOfMemory.
     Pump {
         /// The number of the endpoint, below the config's count (at most 8).
         endpoint: u64,
     },
     /// Files the head of an endpoint's page request queue under its binding (Intel VT-d, "Page Request Queue").
+    ///
+    /// In a scenario `serve E`. Refused by the first of these that holds: NoSuchEndpoint, Resetting, OutOfMemory.
     Serve {
         /// The number of the endpoint, below the config's count (at most 8).
         endpoint: u64,
     },
     /// Closes an endpoint's unit and sends it a function level reset (PCI Express Base 5.0, section 6.6.2).
+    ///
+    /// In a scenario `reset E`. Refused by the first of these that holds: NoSuchEndpoint, Resetting, NumbersSpent,
+    /// OutOfMemory.
     Reset {
         /// The number of the endpoint, below the config's count (at most 8).
         endpoint: u64,
     },
     /// A worker takes the oldest job.
+    ///
+    /// In a scenario `take W`. Refused by the first of these that holds: NoSuchWorker, HandsFull, NoJob.
     Take {
         /// The number of the worker, below the config's count (at most 4).
         worker: u64,
     },
     /// A worker answers the job that it holds.
+    ///
+    /// In a scenario `answer W V`. Refused by the first of these that holds: NoSuchWorker, NoJob, BadVerdict, NoFrame,
+    /// SpaceFull, NumbersSpent, OutOfMemory.
     Reply {
         /// The number of the worker, below the config's count (at most 4).
         worker: u64,
@@ -97,6 +134,9 @@ pub enum Step {
         verdict: Verdict,
     },
     /// An endpoint asks for a translation (AT field 01b: PCI Express Base 5.0, section 10.2.1).
+    ///
+    /// In a scenario `ask E P PAGE`. Refused by the first of these that holds: NoSuchEndpoint, PageRange, NotStarted,
+    /// NoTag, NumbersSpent, OutOfMemory.
     Ask {
         /// The number of the endpoint, below the config's count (at most 8).
         endpoint: u64,
@@ -106,6 +146,9 @@ pub enum Step {
         page: u64,
     },
     /// An endpoint begins to use a cached translation (AT field 10b: PCI Express Base 5.0, section 10.2.1).
+    ///
+    /// In a scenario `use E P PAGE r` or `w`. Refused by the first of these that holds: NoSuchEndpoint, PageRange,
+    /// NotStarted, NotHeld, ReadOnly, NoUseSlot.
     BeginUse {
         /// The number of the endpoint, below the config's count (at most 8).
         endpoint: u64,
@@ -117,6 +160,8 @@ pub enum Step {
         write: bool,
     },
     /// An endpoint ends the use in a slot.
+    ///
+    /// In a scenario `end E U`. Refused by the first of these that holds: NoSuchEndpoint, NoSuchUse.
     EndUse {
         /// The number of the endpoint, below the config's count (at most 8).
         endpoint: u64,
@@ -124,6 +169,8 @@ pub enum Step {
         slot: u64,
     },
     /// An endpoint lets go of a cached translation.
+    ///
+    /// In a scenario `evict E P PAGE`. Refused by the first of these that holds: NoSuchEndpoint, PageRange, NotHeld.
     Evict {
         /// The number of the endpoint, below the config's count (at most 8).
         endpoint: u64,
@@ -134,6 +181,9 @@ pub enum Step {
     },
     /// An endpoint sends a page request: the first of a new group, or one more of an unfinished group (PCI Express
     /// Base 5.0, section 10.4.1).
+    ///
+    /// In a scenario `fault E P PAGE A G L`. Refused by the first of these that holds: NoSuchEndpoint, PageRange,
+    /// NotStarted, NoCredit, NoSuchGroup, PriDisabled, NumbersSpent, OutOfMemory.
     Fault {
         /// The number of the endpoint, below the config's count (at most 8).
         endpoint: u64,
@@ -151,6 +201,9 @@ pub enum Step {
         last: bool,
     },
     /// An endpoint completes invalidations (PCI Express Base 5.0, sections 10.3.2 and 10.3.3).
+    ///
+    /// In a scenario `finish E VECTOR COUNT`. Refused by the first of these that holds: NoSuchEndpoint, NotPending,
+    /// InUse, BadCount, NumbersSpent, OutOfMemory.
     Finish {
         /// The number of the endpoint, below the config's count (at most 8).
         endpoint: u64,
@@ -160,6 +213,9 @@ pub enum Step {
         count: u64,
     },
     /// An endpoint stops using a PASID, and sends the Stop Marker (PCI Express Base 5.0, section 10.4.1).
+    ///
+    /// In a scenario `quit E P`. Refused by the first of these that holds: NoSuchEndpoint, NotStopping, Busy,
+    /// NumbersSpent, OutOfMemory.
     Quit {
         /// The number of the endpoint, below the config's count (at most 8).
         endpoint: u64,
@@ -167,16 +223,23 @@ pub enum Step {
         pasid: u64,
     },
     /// The link delivers a message.
+    ///
+    /// In a scenario `deliver M`. Refused by the first of these that holds: NoSuchMessage, Overtakes, NumbersSpent,
+    /// OutOfMemory.
     Deliver {
         /// The number of a message in flight, below 2^63.
         message: u64,
     },
     /// Tells where a frame is.
+    ///
+    /// In a scenario `look F`. Refused by NoFrame alone.
     Look {
         /// The number of the frame, below the config's count (at most 4096).
         frame: u64,
     },
     /// Tells which space bears a PASID.
+    ///
+    /// In a scenario `bearer P`. Refused by BadPasid alone.
     Bearer {
         /// The PASID: 1 to 32 of its 20 bits (PCI Express Base 5.0, section 6.20).
         pasid: u64,

@@ -14,8 +14,8 @@ use Rattle.std.specs.FinMap.{is_sorted}
 use Rattle.std.specs.FinMap.Entries.{where_key}
 use Rattle.std.specs.List.{remove_range}
 use Rattle.sva_cache.specs.declared.cached.Translation.{Translation}
-use Rattle.sva_cache.specs.declared.coverage.Extent.{Extent}
-use Rattle.sva_cache.specs.declared.coverage.Extent.TheVariants.{Pages, All}
+use Rattle.sva_msg.specs.declared.extents.Extent.{Extent}
+use Rattle.sva_msg.specs.declared.extents.Extent.TheVariants.{Pages, All}
 use Rattle.sva_cache.specs.declared.coverage.Invalidation.{Invalidation}
 use Rattle.sva_cache.specs.Coverage.{covers, is_within, first_key, first_key_of, end_key, end_key_of}
 use Rattle.sva_cache.specs.Cache.{Key, Translations, key_cmp, key_cmp_total, smaller_first, place_of, without_covered}

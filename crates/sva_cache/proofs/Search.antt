@@ -1,5 +1,5 @@
 -- A search among the entries of a cache, and what an edit at a place leaves of the finite map.
-use Rattle.std.proofs.Common.{◌≡◌, ℕ, zero, suc, ◌+◌, ◌-◌, ◌*◌, ◌/◌, ◌<◌, ◌≤◌, ◌^◌, List, sym, ◌∙◌, ap, refl, cond, true, false, Bool, ◌&&◌, eqb}
+use Rattle.std.proofs.Common.{◌≡◌, ℕ, zero, suc, ◌+◌, ◌*◌, ◌/◌, ◌<◌, ◌≤◌, ◌^◌, List, sym, ◌∙◌, ap, refl, cond, true, false, Bool, ◌&&◌, eqb}
 use Rattle.std.proofs.Common.{Result, Ok, Err, arith}
 use Rattle.std.specs.Prelude.{T, nat_le}
 use Rattle.std.proofs.lemmas.Bool.Decides.{nat_tests}

@@ -6,6 +6,7 @@ use Rattle.std.specs.Ordering.{nat_cmp, then_cmp, on, is_lt}
 use Rattle.std.specs.Cmp.{IsTotalOrder, then_total, on_total, nat_cmp_total}
 use Rattle.std.specs.Coded.{Coded, code_by, coded×, coded_ℕ, coded_bool}
 use Rattle.std.specs.FinMap as finite
+use Rattle.sva_step.specs.Limits
 use Rattle.sva_cache.specs.declared.coverage.Invalidation.{Invalidation}
 use Rattle.sva_cache.specs.declared.cached.Translation.{Translation}
 use Rattle.sva_cache.specs.Coverage.{covers}
@@ -69,7 +70,7 @@ comparisons cache key = halvings 7 0 (finite.len cache) (place_of cache key) (fi
 
 -- the cache keeps 64 translations: is there a place for that of this page?
 abbrev pub has_room_for : Translations → Key → Bool
-has_room_for cache key = finite.contains_key cache key || nat_lt (finite.len cache) 64
+has_room_for cache key = finite.contains_key cache key || nat_lt (finite.len cache) Limits.cached
 
 -- the cache after an invalidation
 abbrev pub without_covered : Invalidation → Translations → Translations

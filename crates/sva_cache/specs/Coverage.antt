@@ -1,22 +1,9 @@
 -- What an Invalidate Request covers (PCI Express Base 5.0, section 10.3.1).
-use Rattle.std.specs.Prelude.{ℕ, ◌+◌, Bool, true, ◌==◌, ◌&&◌, Option, Some, None}
-use Rattle.sva_model.specs.Range.{Range, is_in, pages_in, decode}
-use Rattle.sva_msg.specs.declared.messages.Scope.{Scope}
-use Rattle.sva_msg.specs.declared.messages.Scope.TheVariants.{All as AllPages, Code}
-use Rattle.sva_cache.specs.declared.coverage.Extent.{Extent}
-use Rattle.sva_cache.specs.declared.coverage.Extent.TheVariants.{Pages, All}
+use Rattle.std.specs.Prelude.{ℕ, ◌+◌, Bool, true, ◌==◌, ◌&&◌}
+use Rattle.sva_model.specs.Range.{is_in, pages_in}
+use Rattle.sva_msg.specs.declared.extents.Extent.{Extent}
+use Rattle.sva_msg.specs.declared.extents.Extent.TheVariants.{Pages, All}
 use Rattle.sva_cache.specs.declared.coverage.Invalidation.{Invalidation}
-
--- the pages of a code that was read: where it is that of no range all pages, so that nothing stays cached that it may have meant
-abbrev pub pages_of : Option Range → Extent
-pages_of (Some range) = Pages range
-pages_of None = All
-
--- the pages that the scope of a message names: all, or the range of its code. For all, too, stands a code that is that of no
--- range: a host sends none (this project's own rule)
-abbrev pub extent_of : Scope → Extent
-extent_of AllPages = All
-extent_of (Code page size) = pages_of (decode (record { page = page; s = size }))
 
 -- is the page one of those covered?
 abbrev pub is_within : Extent → ℕ → Bool

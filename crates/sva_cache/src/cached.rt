@@ -1,3 +1,5 @@
+//! The cached translations, in the order of their keys.
+
 ghost use Rattle.std.specs.Prelude.{◌≡◌, ◌+◌, ◌<◌, ◌≤◌, ◌^◌, true, if◌then◌else◌};
 ghost use Rattle.std.specs.FinMap.{empty, get, insert, remove};
 
@@ -6,9 +8,7 @@ use crate::keys::{CacheKey, Ticks};
 use arrayvec::ArrayVec;
 use std::cmp::Ordering;
 use std::marker::Model;
-
-/// The translations that a cache keeps (a limit of this project).
-pub const CACHED: usize = 64;
+use sva_step::CACHED;
 
 /// A translation: the frame of a page, and whether it may be written (PCI Express Base 5.0, section 10.2.3).
 #[derive(Clone, Copy, Debug, Default, PartialEq, Eq)]
@@ -80,7 +80,7 @@ impl Cache {
         Err(low)
     }
 
-    // How many cached keys are smaller than this one.
+    /// How many cached keys are smaller than this one.
     fn place_of(&self, key: &CacheKey) -> usize
         ensures { result ≡ place_of self.now key.now }
     {

@@ -1,34 +1,9 @@
+//! What an invalidation covers.
+
 ghost use Rattle.std.specs.Prelude.{◌≡◌};
 
 use crate::keys::CacheKey;
-use sva_msg::{Range, Scope};
-
-/// Which pages of a PASID an Invalidate Request covers (PCI Express Base 5.0, section 10.3.1).
-#[derive(Clone, Copy, Debug, PartialEq, Eq)]
-pub enum Extent {
-    /// Those of a range: 2^k aligned pages, k from 0 to 9.
-    Pages(Range),
-    /// Every page.
-    All,
-}
-
-impl Extent {
-    ghost use Rattle.sva_cache.specs.Coverage.{extent_of};
-
-    /// The pages that the scope of an Invalidate Request names. A code that is that of no range, which this host never sends,
-    /// stands for every page, so that nothing is kept that it may have meant (this project's own rule).
-    pub fn of(scope: Scope) -> Extent
-        ensures { result ≡ extent_of scope }
-    {
-        match scope {
-            Scope::All => Extent::All,
-            Scope::Code { page, s } => match Range::decode(page, s) {
-                Some(range) => Extent::Pages(range),
-                None => Extent::All,
-            },
-        }
-    }
-}
+use sva_msg::Extent;
 
 /// What an Invalidate Request covers: pages of one PASID (PCI Express Base 5.0, section 10.3.1).
 #[derive(Clone, Copy, Debug, PartialEq, Eq)]
@@ -53,7 +28,7 @@ impl Invalidation {
         self.pasid == pasid && within
     }
 
-    // The key from which the covered ones are a run.
+    /// The key from which the covered ones are a run.
     pub(crate) fn first(&self) -> CacheKey
         ensures { result ≡ first_key self.now }
     {
@@ -64,7 +39,7 @@ impl Invalidation {
         CacheKey::new(u64::from(self.pasid), page)
     }
 
-    // The key that ends that run, which isn't covered any more.
+    /// The key that ends that run, which isn't covered any more.
     pub(crate) fn end(&self) -> CacheKey
         ensures { result ≡ end_key self.now }
     {

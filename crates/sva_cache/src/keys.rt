@@ -1,3 +1,5 @@
+//! The keys of cached translations, and the count of their comparisons.
+
 ghost use Rattle.std.specs.Prelude.{◌≡◌, ◌+◌, ◌<◌, ◌^◌};
 ghost use Rattle.sva_cache.specs.Cache.{key_cmp};
 

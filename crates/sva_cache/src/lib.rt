@@ -1,5 +1,5 @@
-// The translation cache of an endpoint, which it keeps in the order of its keys, and what an invalidation covers of it. No
-// call takes memory.
+//! The translation cache of an endpoint, which it keeps in the order of its keys, and what an invalidation covers of it. No
+//! call takes memory.
 #![tactic(auto)]
 
 mod cached;
@@ -7,5 +7,6 @@ mod coverage;
 mod keys;
 
 pub use cached::{Cache, Translation};
-pub use coverage::{Extent, Invalidation};
+pub use coverage::Invalidation;
 pub use keys::{CacheKey, Ticks};
+pub use sva_msg::Extent;

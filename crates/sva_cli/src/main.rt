@@ -1,4 +1,4 @@
-// The program svahost: reads a scenario from standard input, and writes its report to standard output.
+//! The program svahost: reads a scenario from standard input, and writes its report to standard output.
 #![tactic(auto)]
 
 use std::io;

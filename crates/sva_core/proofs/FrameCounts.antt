@@ -9,7 +9,7 @@ use Rattle.sva_model.specs.Steps.{counts, is_mapped_at, is_withheld_at}
 use Rattle.sva_model.specs.Wire.{PlaceWire, places_wire, place_wire_by, withheld_wire}
 use Rattle.sva_model.specs.Wire.PlaceWire.{FreeWire, MappedWire, WithheldWire}
 use Rattle.sva_labels.specs.Finding.{is_free}
-use Rattle.sva_memory.specs.Steps.{is_mapped_place, is_withheld_place}
+use Rattle.sva_address_spaces.specs.Steps.{is_mapped_place, is_withheld_place}
 
 -- what a frame's place on the wire tells of its place
 abbrev kind : PlaceWire → Place

@@ -12,15 +12,16 @@ use Rattle.sva_model.specs.Steps.{Reply, reply, next, world_after}
 use Rattle.sva_model.specs.Wire.{Wire, wire}
 use Rattle.sva_laws.proofs.Lookback.{after_one}
 use Rattle.sva_labels.specs.Finding.{is_free}
-use Rattle.sva_labels.specs.Host.{LabelsAreNames, first_wire, reply_of, next_of}
+use Rattle.sva_refinement.specs.Refinement.{LabelsAreNames}
+use Rattle.sva_labels.specs.Host.{first_wire, reply_of, next_of}
 use Rattle.sva_labels.specs.Sound.{IsSound}
-use Rattle.sva_labels.specs.Spaces.{HaveSpaces}
-use Rattle.sva_labels.proofs.BoundSpaces.{always_have_spaces}
-use Rattle.sva_labels.proofs.Sounds.{always_sound}
-use Rattle.sva_labels.proofs.WholeLists.{opened_is}
-use Rattle.sva_memory.specs.Steps.{Counted, is_mapped_place, is_withheld_place}
-use Rattle.sva_served.specs.Steps.{ByLabels}
-use Rattle.sva_served.specs.Applied.{TakesNoMemory}
+use Rattle.sva_labels.specs.Sound.{HaveSpaces}
+use Rattle.sva_refinement.proofs.BoundSpaces.{always_have_spaces}
+use Rattle.sva_refinement.proofs.Sounds.{always_sound}
+use Rattle.sva_refinement.proofs.WholeLists.{opened_is}
+use Rattle.sva_address_spaces.specs.Steps.{Counted, is_mapped_place, is_withheld_place}
+use Rattle.sva_host.specs.Steps.{ByLabels}
+use Rattle.sva_host.specs.Applied.{TakesNoMemory}
 use Rattle.sva_core.specs.Reached.{FollowsAt, Follows, IsReached, CountsOf, Ran}
 use Rattle.sva_core.proofs.FrameCounts.{free-counted, mapped-counted, withheld-counted}
 

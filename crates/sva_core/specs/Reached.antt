@@ -10,7 +10,7 @@ use Rattle.sva_model.specs.State.{World}
 use Rattle.sva_model.specs.Claims.{Fits}
 use Rattle.sva_model.specs.Steps.{Reply, reply, next, counts, world_after}
 use Rattle.sva_model.specs.Wire.{Wire, wire}
-use Rattle.sva_served.specs.Applied.{TakesNoMemory}
+use Rattle.sva_host.specs.Applied.{TakesNoMemory}
 
 -- what the definitions say of a step at one of their worlds; want of memory changes nothing, and comes only where they
 -- would have accepted the step

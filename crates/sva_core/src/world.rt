@@ -8,19 +8,19 @@ ghost use Rattle.sva_model.specs.Claims.{Fits};
 ghost use Rattle.sva_model.specs.State.{opened};
 ghost use Rattle.sva_model.specs.Wire.{wire};
 ghost use Rattle.sva_core.specs.Reached.{Follows, IsReached, IsOpenRefusal, CountsOf};
-ghost use Rattle.sva_served.specs.Applied.{TakesNoMemory};
+ghost use Rattle.sva_host.specs.Applied.{TakesNoMemory};
 
 use std::alloc::Global;
 use std::marker::Model;
 use sva_frames::Counts;
-use sva_served::Served;
+use sva_host::Host;
 use sva_step::{Answer, Config, Refusal, Step};
 
 /// A host with its endpoints and the link between them. Contracts see what all of it keeps of the records, and that some
 /// list of steps leads there.
 #[derive(Drop)]
 pub struct World {
-    host: Served,
+    host: Host,
 }
 
 impl Model for World {
@@ -45,7 +45,7 @@ impl World {
         if !config.fits() {
             return Err(Refusal::BadConfig);
         }
-        match Served::open(alloc, config) {
+        match Host::open(alloc, config) {
             Ok(host) => Ok(World { host }),
             Err(_) => Err(Refusal::OutOfMemory),
         }

@@ -10,8 +10,9 @@ use Rattle.sva_msg.specs.declared.messages.Kind.TheVariants.{Reset, Completion, 
 use Rattle.sva_cache.specs.declared.coverage.Invalidation.{Invalidation}
 use Rattle.sva_tables.specs.declared.request_tags.RequestTag.{RequestTag}
 use Rattle.sva_tables.specs.declared.request_tags.RequestTag.TheVariants.{Free, Out, Doomed}
-use Rattle.sva_cache.specs.declared.coverage.Extent.{Extent}
-use Rattle.sva_cache.specs.Coverage.{covers, extent_of}
+use Rattle.sva_msg.specs.declared.extents.Extent.{Extent}
+use Rattle.sva_cache.specs.Coverage.{covers}
+use Rattle.sva_msg.specs.Extents.{extent_of}
 use Rattle.sva_tables.specs.RequestTags.{request_at, is_free, doomed_by}
 use Rattle.sva_endpoint.specs.Tables.{Tables}
 use Rattle.sva_endpoint.specs.Steps.{lowest_tag, refusals_of_ask}

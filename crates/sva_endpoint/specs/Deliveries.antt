@@ -14,7 +14,7 @@ use Rattle.sva_tables.specs.declared.request_tags.RequestTag.TheVariants.{Free, 
 use Rattle.sva_tables.specs.declared.groups.GroupPlace.{GroupPlace}
 use Rattle.sva_tables.specs.declared.groups.GroupPlace.TheVariants.{Free as NoGroup, Collecting, Out as GroupOut, Stale}
 use Rattle.sva_cache.specs.declared.coverage.Invalidation.{Invalidation}
-use Rattle.sva_cache.specs.Coverage.{extent_of}
+use Rattle.sva_msg.specs.Extents.{extent_of}
 use Rattle.sva_cache.specs.Cache.{Translations, has_room_for, without_covered}
 use Rattle.sva_tables.specs.PasidStates.{with_state}
 use Rattle.sva_tables.specs.RequestTags.{request_at, doomed_by}

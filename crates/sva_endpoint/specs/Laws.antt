@@ -1,8 +1,9 @@
 -- What holds of an endpoint after every list of permitted calls.
-use Rattle.std.specs.Prelude.{◌≡◌, ◌≢◌, ℕ, ◌<◌, ◌≤◌, ◌↔◌, Bool, true, false, List, Option, Some, None, Ok, Err, length, position, slice_index_or, is_ok}
+use Rattle.std.specs.Prelude.{◌≡◌, ◌≢◌, ℕ, suc, ◌<◌, ◌≤◌, ◌↔◌, Bool, true, false, List, Option, Some, None, Ok, Err, length, position, slice_index_or, is_ok}
 use Rattle.std.specs.Prelude.{IsSome, ◌==◌, ◌&&◌, nat_le, not}
 use Rattle.std.specs.List.{list_any}
 use Rattle.std.specs.FinMap.{len}
+use Rattle.sva_step.specs.Limits
 use Rattle.sva_step.specs.declared.answers.Answer.TheVariants.{Dropped, Dead as EndedDead}
 use Rattle.sva_step.specs.declared.refusals.Refusal.TheVariants.{InUse}
 use Rattle.sva_msg.specs.declared.messages.Scope.{Scope}
@@ -17,7 +18,8 @@ use Rattle.sva_tables.specs.declared.use_slots.UseSlot.TheVariants.{Running, Dea
 use Rattle.sva_tables.specs.declared.taken_table.Taken.{Taken}
 use Rattle.sva_tables.specs.declared.groups.GroupPlace.{GroupPlace}
 use Rattle.sva_tables.specs.declared.groups.GroupPlace.TheVariants.{Free as NoGroup, Collecting, Out as GroupOut, Stale}
-use Rattle.sva_cache.specs.Coverage.{covers, extent_of}
+use Rattle.sva_cache.specs.Coverage.{covers}
+use Rattle.sva_msg.specs.Extents.{extent_of}
 use Rattle.sva_tables.specs.PasidStates.{state_of}
 use Rattle.sva_tables.specs.RequestTags.{request_at}
 use Rattle.sva_tables.specs.UseSlots.{slot_at, is_free as is_free_slot, runs_covered}
@@ -39,20 +41,20 @@ NotesRun tables = (itag slot : ℕ) (taken : Taken) → slice_index_or tables.ta
 -- (PCI Express Base 5.0, section 10.5.2). And what a taken invalidation notes still runs.
 pub record IsSound (tables : Tables) : Type 0 where
   -- a table for the PASIDs 0 to 32, 32 tags, 16 slots, 32 ITags, 32 indexes
-  pub pasids : length tables.pasids ≡ 33
-  pub tags : length tables.tags ≡ 32
-  pub uses : length tables.uses ≡ 16
-  pub taken : length tables.taken ≡ 32
-  pub groups : length tables.groups ≡ 32
+  pub pasids : length tables.pasids ≡ suc Limits.pasids
+  pub tags : length tables.tags ≡ Limits.request_tags
+  pub uses : length tables.uses ≡ Limits.use_slots
+  pub taken : length tables.taken ≡ Limits.itags
+  pub groups : length tables.groups ≡ Limits.groups
   -- there is no PASID 0
   pub no_zero : state_of tables.pasids 0 ≡ Off
   -- at most 64 translations are cached, each under its own PASID and page
-  pub cached : len tables.cache ≤ 64
+  pub cached : len tables.cache ≤ Limits.cached
   -- at most 32 page requests are outstanding
-  pub credit : outstanding tables.groups ≤ 32
+  pub credit : outstanding tables.groups ≤ Limits.page_requests
   -- a group has a request, so an index is free while fewer are outstanding
   pub requests : HaveRequests tables.groups
-  pub index : outstanding tables.groups < 32 → IsSome (position is_free tables.groups)
+  pub index : outstanding tables.groups < Limits.page_requests → IsSome (position is_free tables.groups)
   pub notes : NotesRun tables
 
 -- after every list of permitted calls

@@ -1,8 +1,9 @@
 -- What an endpoint may do, and what each step changes. A step is refused by the first cause in its list that holds.
-use Rattle.std.specs.Prelude.{ℕ, ◌^◌, Bool, true, false, List, [], ◌∷◌, map, position, slice_set, Option, Some, None, Result, Ok, Err, is_none, unwrap_or}
-use Rattle.std.specs.Prelude.{◌==◌, ◌&&◌, ◌||◌, not, nat_lt, if◌then◌else◌}
+use Rattle.std.specs.Prelude.{ℕ, ◌^◌, Bool, true, false, List, [], ◌∷◌, map, position, slice_set, Option, Some, None, Result, is_none, unwrap_or}
+use Rattle.std.specs.Prelude.{◌==◌, ◌&&◌, ◌||◌, not, nat_lt}
 use Rattle.std.specs.List.{list_any, position_or_len}
 use Rattle.std.specs.FinMap.{get, remove}
+use Rattle.sva_step.specs.Limits
 use Rattle.sva_step.specs.declared.refusals.Refusal.{Refusal}
 use Rattle.sva_step.specs.declared.refusals.Refusal.TheVariants.{PageRange, NotStarted, NoTag, NotHeld, ReadOnly, NoUseSlot, NoSuchUse, NoCredit}
 use Rattle.sva_step.specs.declared.refusals.Refusal.TheVariants.{NoSuchGroup, PriDisabled, NotPending, InUse, BadCount, NotStopping, Busy}
@@ -142,8 +143,8 @@ index_for tables (Some index) = index
 abbrev pub refusals_of_fault : Tables → Fault → List Cause
 refusals_of_fault tables fault =
     (is_beyond fault.page, PageRange) ∷ (not (may_send fault.group (state_of tables.pasids fault.pasid)), NotStarted)
-    ∷ (not (nat_lt (outstanding tables.groups) 32), NoCredit) ∷ (not (is_of_group tables fault.pasid fault.group), NoSuchGroup)
-    ∷ (not tables.enabled, PriDisabled) ∷ []
+    ∷ (not (nat_lt (outstanding tables.groups) Limits.page_requests), NoCredit)
+    ∷ (not (is_of_group tables fault.pasid fault.group), NoSuchGroup) ∷ (not tables.enabled, PriDisabled) ∷ []
 
 -- the page request to be sent, with its group index (PCI Express Base 5.0, section 10.4.1); or why there is none
 abbrev pub faulting : Tables → Fault → Result Faulting Refusal
@@ -178,7 +179,7 @@ after_fault tables fault = record tables { groups = slice_set tables.groups (ind
 abbrev pub refusals_of_finish : Tables → ℕ → ℕ → List Cause
 refusals_of_finish tables vector count =
     ((vector == 0) || not (are_pending vector tables.taken), NotPending) ∷ (is_one_waiting vector tables.taken, InUse)
-    ∷ ((count == 0) || nat_lt 8 count, BadCount) ∷ []
+    ∷ ((count == 0) || nat_lt Limits.most_completions count, BadCount) ∷ []
 
 -- the Invalidate Completion to be sent, and how many times; each bears the same vector and count. Or why there is none
 abbrev pub finishing : Tables → ℕ → ℕ → Result Finishing Refusal

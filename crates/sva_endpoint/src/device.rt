@@ -1,3 +1,5 @@
+//! The endpoint, and each of its steps.
+
 ghost use Rattle.std.specs.Prelude.{◌≡◌, Ok, IsOk};
 ghost use Rattle.sva_endpoint.specs.Tables.{fresh};
 ghost use Rattle.sva_endpoint.specs.Steps.{asking, after_ask, lowest_tag, using, after_begin_use, ending, after_end_use, evicting, after_evict};
@@ -12,19 +14,11 @@ use std::marker::Model;
 use sva_cache::{Cache, Extent, Invalidation, Translation};
 use sva_itags::Count;
 use sva_msg::{Code, CountField, Kind, Message};
-use sva_step::{Answer, PAGES, Refusal};
+use sva_step::{Answer, MOST_COMPLETIONS, PAGE_REQUESTS, PAGES, Refusal};
 use sva_tables::{
     GroupPlace, GroupTable, PasidState, PasidStates, RequestTag, RequestTags, Taken, TakenTable,
     Use, UseSlot, UseSlots,
 };
-
-/// How many page requests may be outstanding (Outstanding Page Request Allocation, PCI Express Base 5.0, section 10.5.2; how
-/// many is a limit of this project).
-const PAGE_REQUESTS: u8 = 32;
-
-/// How many completions an invalidation may have: the Completion Count field has three bits, in which 0 stands for 8 (PCI
-/// Express Base 5.0, section 10.3.2).
-const COMPLETIONS: u64 = 8;
 
 /// An endpoint with address translation services, page requests and PASIDs (PCI Express Base 5.0, sections 10.2 to
 /// 10.5). It is seen as its tables, by labels. No call takes memory. Each step has a test, which changes nothing and
@@ -223,7 +217,7 @@ impl Endpoint {
         if !may_send(fault.group, self.pasids.state_of(fault.pasid)) {
             return Err(Refusal::NotStarted);
         }
-        if self.groups.outstanding() >= PAGE_REQUESTS {
+        if self.groups.outstanding() as usize >= PAGE_REQUESTS {
             return Err(Refusal::NoCredit);
         }
         let index = match fault.group {
@@ -279,7 +273,7 @@ impl Endpoint {
         if self.taken.is_one_waiting(vector) {
             return Err(Refusal::InUse);
         }
-        if count == 0 || count > COMPLETIONS {
+        if count == 0 || count > MOST_COMPLETIONS {
             return Err(Refusal::BadCount);
         }
         let count = Count::new(count as u8);
@@ -405,7 +399,7 @@ impl Endpoint {
         Answer::Stopping
     }
 
-    // Clears everything but the slots of uses: those that run are dead from now on.
+    /// Clears everything but the slots of uses: those that run are dead from now on.
     fn reset(&mut self) -> Answer
         ensures answer { result ≡ Answer.Reset }
         ensures after { self.new ≡ after_receive self.old Kind.Reset }
@@ -420,7 +414,7 @@ impl Endpoint {
         Answer::Reset
     }
 
-    // The answer to a translation request comes. `read` clear tells that there is no translation.
+    /// The answer to a translation request comes. `read` clear tells that there is no translation.
     fn complete(&mut self, tag: u8, read: bool, translation: Translation) -> Answer
         ensures answer { result ≡ answer_to_completion self.old.cache read (request_at self.old.tags tag) }
         ensures after { self.new ≡ after_completion self.old tag translation.frame read translation.write }
@@ -470,7 +464,7 @@ impl Endpoint {
     }
 }
 
-// Does the state of its PASID allow a request of this group?
+/// Does the state of its PASID allow a request of this group?
 fn may_send(group: Option<u64>, state: PasidState) -> bool
     ensures { result ≡ may_send group state }
 {

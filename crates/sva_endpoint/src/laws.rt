@@ -1,3 +1,5 @@
+//! The laws of an endpoint, over every list of its calls.
+
 ghost use Rattle.sva_endpoint.specs.Laws.{AlwaysSound, TagsStayTaken, DoomedNeverHeld, FinishWaits, NotesExactly, InUseExactly, DeadUsesStay};
 ghost use Rattle.sva_endpoint.specs.Laws.{ResetsEndUses, StaleGroupsStay, GroupsStay};
 

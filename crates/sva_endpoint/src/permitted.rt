@@ -1,3 +1,5 @@
+//! What the test of each step answers.
+
 ghost use Rattle.std.specs.Prelude.{◌≡◌};
 
 use sva_itags::Count;
@@ -40,7 +42,7 @@ pub struct Fault {
 }
 
 impl Fault {
-    // The Page Request, under this label of its PASID and this index.
+    /// The Page Request, under this label of its PASID and this index.
     pub(crate) fn request(&self, pasid: u32, index: u8) -> PageRequest
         ensures { result ≡ record { pasid = pasid; index = index; page = self.now.page; read = self.now.read; write = self.now.write; last = self.now.last } }
     {

@@ -5,18 +5,18 @@ use Rattle.sva_step.specs.declared.limits.Config.{Config}
 use Rattle.sva_step.specs.declared.steps.Step.{Step}
 use Rattle.sva_model.specs.Steps.{Reply}
 use Rattle.sva_fabric.specs.declared.faults.Fault.{Fault}
-use Rattle.sva_fabric.specs.Receipts.{Seat}
+use Rattle.sva_fabric.specs.Receipts.{PortState}
 use Rattle.sva_fabric.specs.Tokens.{HasCalled, IsFault}
 
-pub of_step : {config : Config} {before after : Seat} {s t : Step} {r : Reply} → HasCalled config before after s r → s ≡ t
+pub of_step : {config : Config} {before after : PortState} {s t : Step} {r : Reply} → HasCalled config before after s r → s ≡ t
     → HasCalled config before after t r
 of_step {config} {before} {after} {s} {t} {r} h is = subst (λ (u : Step). HasCalled config before after u r) is h
 
-pub of_reply : {config : Config} {before after : Seat} {s : Step} {r q : Reply} → HasCalled config before after s r → r ≡ q
+pub of_reply : {config : Config} {before after : PortState} {s : Step} {r q : Reply} → HasCalled config before after s r → r ≡ q
     → HasCalled config before after s q
 of_reply {config} {before} {after} {s} {r} {q} h is = subst (λ (u : Reply). HasCalled config before after s u) is h
 
-pub fault_of : (config : Config) (before after : Seat) {s t : Step} (f : Fault) → IsFault config before after s f → s ≡ t
+pub fault_of : (config : Config) (before after : PortState) {s t : Step} (f : Fault) → IsFault config before after s f → s ≡ t
     → IsFault config before after t f
 fault_of config before after {s} {t} f h is = subst (λ (u : Step). IsFault config before after u f) is h
 

@@ -5,8 +5,9 @@ use Rattle.std.specs.Prelude.{slice_get, if◌then◌else◌}
 use Rattle.std.proofs.lemmas.Option.{slice_get_within}
 use Rattle.std.proofs.lemmas.Bool.Decides.{nat_tests}
 use Rattle.sva_journal.specs.declared.journal.Entry.{Entry}
-use Rattle.sva_fabric.specs.declared.receipts.Receipt.{Receipt}
-use Rattle.sva_fabric.specs.Receipts.{Seat, AreRising, entry_told}
+use Rattle.sva_journal.specs.declared.receipts.Receipt.{Receipt}
+use Rattle.sva_fabric.specs.Receipts.{PortState, AreRising}
+use Rattle.sva_journal.specs.Receipts.{entry_told}
 use Rattle.sva_fabric.specs.Audits.{AllStand, EachStands, calls_of, told_at, told_by, IsToldOnce}
 use Rattle.sva_fabric.specs.Once.{AllRise, AuditsTellOnce}
 
@@ -55,12 +56,12 @@ total_of n entries port (r ∷ rs) many h =
     let rest : total n (λ k. told_at k rs) ≡ length rs = total_of n entries port rs many h.1 in
     total_plus n (λ k. one (nat_eq r.place k)) (λ k. told_at k rs) ∙ omega (arith, first, rest)
 
-total_all : (n : ℕ) (entries : List Entry) (first : ℕ) (seats : List Seat) → length entries ≡ n → EachStands entries first seats
-    → total n (λ k. told_by k seats) ≡ calls_of seats
+total_all : (n : ℕ) (entries : List Entry) (first : ℕ) (states : List PortState) → length entries ≡ n → EachStands entries first states
+    → total n (λ k. told_by k states) ≡ calls_of states
 total_all n entries first [] many h = total_none n
-total_all n entries first (s ∷ seats) many h =
-    total_plus n (λ k. told_at k s.receipts) (λ k. told_by k seats)
-    ∙ omega (arith, total_of n entries first s.receipts many h.0, total_all n entries (first + 1) seats many h.1)
+total_all n entries first (s ∷ states) many h =
+    total_plus n (λ k. told_at k s.receipts) (λ k. told_by k states)
+    ∙ omega (arith, total_of n entries first s.receipts many h.0, total_all n entries (first + 1) states many h.1)
 
 -- behind a receipt none tells of its place, or of one before it
 abbrev AreAbove : ℕ → List Receipt → Type 0
@@ -112,12 +113,12 @@ told_port k entries port (r ∷ rs) h some = go (nat_eq r.place k) refl (told_po
         (entry_told port r, subst (λ (n : ℕ). slice_get entries n ≡ Some (entry_told port r)) same h.0, refl)
     go false is later = later (omega (arith, some, ap one is))
 
-told_from : (k : ℕ) (entries : List Entry) (first : ℕ) (seats : List Seat) → EachStands entries first seats → 0 < told_by k seats
+told_from : (k : ℕ) (entries : List Entry) (first : ℕ) (states : List PortState) → EachStands entries first states → 0 < told_by k states
     → (e : Entry) × (slice_get entries k ≡ Some e) × (first ≤ e.port)
 told_from k entries first [] h some = absurd (omega (arith, some))
-told_from k entries first (s ∷ seats) h some = go (told_at k s.receipts) refl (told_from k entries (first + 1) seats h.1)
+told_from k entries first (s ∷ states) h some = go (told_at k s.receipts) refl (told_from k entries (first + 1) states h.1)
   where
-    go : (n : ℕ) → told_at k s.receipts ≡ n → (0 < told_by k seats → (e : Entry) × (slice_get entries k ≡ Some e) × (first + 1 ≤ e.port))
+    go : (n : ℕ) → told_at k s.receipts ≡ n → (0 < told_by k states → (e : Entry) × (slice_get entries k ≡ Some e) × (first + 1 ≤ e.port))
         → (e : Entry) × (slice_get entries k ≡ Some e) × (first ≤ e.port)
     go zero is behind =
         let later = behind (omega (arith, some, is)) in
@@ -131,18 +132,18 @@ port_in (Some e) = e.port
 port_in _ = 0
 
 -- so all ports together tell of a place at most once
-once_by_all : (k : ℕ) (entries : List Entry) (first : ℕ) (seats : List Seat) → AllRise seats
-    → EachStands entries first seats → told_by k seats ≤ 1
+once_by_all : (k : ℕ) (entries : List Entry) (first : ℕ) (states : List PortState) → AllRise states
+    → EachStands entries first states → told_by k states ≤ 1
 once_by_all k entries first [] rise h = omega arith
-once_by_all k entries first (s ∷ seats) rise h =
-    go (told_at k s.receipts) refl (told_by k seats) refl (once_by_all k entries (first + 1) seats rise.1 h.1)
+once_by_all k entries first (s ∷ states) rise h =
+    go (told_at k s.receipts) refl (told_by k states) refl (once_by_all k entries (first + 1) states rise.1 h.1)
   where
-    go : (a : ℕ) → told_at k s.receipts ≡ a → (b : ℕ) → told_by k seats ≡ b → told_by k seats ≤ 1 → told_by k (s ∷ seats) ≤ 1
+    go : (a : ℕ) → told_at k s.receipts ≡ a → (b : ℕ) → told_by k states ≡ b → told_by k states ≤ 1 → told_by k (s ∷ states) ≤ 1
     go zero is b there rest = omega (arith, is, rest)
     go (suc a) is zero there rest = omega (arith, there, once_at_most k s.receipts rise.0)
     go (suc a) is (suc b) there rest =
         let here = told_port k entries first s.receipts h.0 (omega (arith, is)) in
-        let later = told_from k entries (first + 1) seats h.1 (omega (arith, there)) in
+        let later = told_from k entries (first + 1) states h.1 (omega (arith, there)) in
         let same : here.0.port ≡ later.0.port = ap port_in (sym here.1 ∙ later.1) in
         absurd (omega (arith, same, here.2, later.2))
 
@@ -167,19 +168,19 @@ each_one (suc n) f few all k h =
         lower below
 
 -- where all stand, and are as many as the journal has entries, each place is told once
-pub told_once : (entries : List Entry) (seats : List Seat) → AllRise seats → EachStands entries 0 seats → calls_of seats ≡ length entries
-    → IsToldOnce entries seats
-told_once entries seats rise stand many =
+pub told_once : (entries : List Entry) (states : List PortState) → AllRise states → EachStands entries 0 states → calls_of states ≡ length entries
+    → IsToldOnce entries states
+told_once entries states rise stand many =
     let n : ℕ = length entries in
-    let all : total n (λ k. told_by k seats) ≡ n = total_all n entries 0 seats refl stand ∙ many in (
+    let all : total n (λ k. told_by k states) ≡ n = total_all n entries 0 states refl stand ∙ many in (
       stand,
-      λ k within. each_one n (λ k. told_by k seats) (λ k. once_by_all k entries 0 seats rise stand) all k within,
+      λ k within. each_one n (λ k. told_by k states) (λ k. once_by_all k entries 0 states rise stand) all k within,
     )
 
 pub tell_once : AuditsTellOnce
-tell_once h seats held used audit rise found = told_once h.entries seats rise found.0 found.1.0
+tell_once h states held used audit rise found = told_once h.entries states rise found.0 found.1.0
 
 -- the ports of two rows
-pub rise_both : (xs ys : List Seat) → AllRise xs → AllRise ys → AllRise (xs ++ ys)
+pub rise_both : (xs ys : List PortState) → AllRise xs → AllRise ys → AllRise (xs ++ ys)
 rise_both [] ys h k = k
 rise_both (x ∷ xs) ys h k = (h.0, rise_both xs ys h.1 k)

@@ -6,10 +6,12 @@ use Rattle.sva_frames.specs.declared.pool.Counts.{Counts}
 use Rattle.sva_step.specs.declared.limits.Config.{Config}
 use Rattle.sva_step.specs.declared.steps.Step.{Step}
 use Rattle.sva_journal.specs.declared.journal.Entry.{Entry}
-use Rattle.sva_fabric.specs.declared.receipts.Receipt.{Receipt}
-use Rattle.sva_fabric.specs.declared.running.Strayed.{Strayed}
+use Rattle.sva_journal.specs.declared.receipts.Receipt.{Receipt}
+use Rattle.sva_journal.specs.declared.running.Strayed.{Strayed}
+use Rattle.sva_journal.proofs.TokenLemmas.{length_more}
 use Rattle.sva_journal.specs.Journal.{History, IsLegal, CountsOf, entry_of, with_entry}
-use Rattle.sva_fabric.specs.Receipts.{Seat, Stands, HasStrayed, AreRising, IsAnswered, IsAnsweredAt, IsCounted, IsAstray, last_of, entry_told}
+use Rattle.sva_fabric.specs.Receipts.{PortState, AreRising, IsAnswered, IsCounted, IsAstray, last_of}
+use Rattle.sva_journal.specs.Receipts.{Stands, HasStrayed, IsAnsweredAt, entry_told}
 
 get_before : {A : Type 0} (xs ys : List A) (k : ℕ) (x : A) → slice_get xs k ≡ Some x → slice_get (xs ++ ys) k ≡ Some x
 get_before [] ys k x h = absurd (cc)
@@ -49,7 +51,7 @@ counted config h port last (Ok n) legal of is stands = record { journal = h; leg
 counted config h port last (Err f) legal of is stands = tt
 
 pub astray : (config : Config) (h : History) (port : ℕ) (last : Option Receipt) (r : Result Counts Strayed) → IsLegal h → h.config ≡ config
-    → IfErr r (λ f. HasStrayed h.entries port last f.place f.found) → IfErr r (λ f. IsAstray config port last f.place f.found)
+    → IfErr r (HasStrayed h.entries port last) → IfErr r (IsAstray config port last)
 astray config h port last (Ok n) legal of has = tt
 astray config h port last (Err f) legal of has = (h, legal, of, has)
 
@@ -70,16 +72,12 @@ rising_more (a ∷ b ∷ rs) r P h last = (
   rising_more (b ∷ rs) r P h.1 (subst (λ (o : Option Receipt). IfSome o (λ l. (l.place < r.place) × P l)) (last_next a b rs) last),
 )
 
-pub length_more : {A : Type 0} (xs : List A) (x : A) → length (xs ++ x ∷ []) ≡ length xs + 1
-length_more [] x = refl
-length_more (a ∷ xs) x = omega (arith, length_more xs x)
-
 -- the port behind a call that was answered: its receipts are the old ones and this one, whose place is above theirs; and it counts each
-pub port_more : (number : ℕ) (old grown new : List Receipt) (s : Seat) (r : Receipt) → record { number = number; receipts = old } ≡ s
+pub port_more : (number : ℕ) (old grown new : List Receipt) (s : PortState) (r : Receipt) → record { number = number; receipts = old } ≡ s
     → grown ≡ old → new ≡ grown ++ r ∷ [] → record { number = number; receipts = new } ≡ record s { receipts = s.receipts ++ r ∷ [] }
 port_more number old grown new s r is same more =
     ap (λ (rs : List Receipt). record { number = number; receipts = rs }) (more ∙ ap (λ (rs : List Receipt). rs ++ r ∷ []) same)
-    ∙ ap (λ (t : Seat). record t { receipts = t.receipts ++ r ∷ [] }) is
+    ∙ ap (λ (t : PortState). record t { receipts = t.receipts ++ r ∷ [] }) is
 
 pub rise_more : (config : Config) (port : ℕ) (old grown new : List Receipt) (last : Option Receipt) (step : Step) (r : Receipt) → AreRising old
     → last ≡ last_of old → IsAnswered config port last step r → grown ≡ old → new ≡ grown ++ r ∷ [] → AreRising new

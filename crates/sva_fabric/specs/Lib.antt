@@ -3,4 +3,4 @@ pub mod Receipts
 pub mod Audits
 pub mod Once
 pub mod Tokens
-pub mod Stocks
+pub mod TokenNumbers

@@ -2,16 +2,16 @@
 use Rattle.std.specs.Prelude.{ℕ, Ok, List, [], ◌∷◌}
 use Rattle.sva_journal.specs.Journal.{History}
 use Rattle.sva_fabric.specs.declared.audits.Audit.{Audit}
-use Rattle.sva_fabric.specs.Receipts.{Seat, AreRising}
+use Rattle.sva_fabric.specs.Receipts.{PortState, AreRising}
 use Rattle.sva_fabric.specs.Audits.{IsAudit, IsToldOnce}
 
 -- the places of each port's receipts rise, as those of every `Port` do
-abbrev pub AllRise : List Seat → Type 0
+abbrev pub AllRise : List PortState → Type 0
 AllRise [] = Unit {0}
-AllRise (seat ∷ seats) = AreRising seat.receipts × AllRise seats
+AllRise (state ∷ states) = AreRising state.receipts × AllRise states
 
 -- so of every audit of such ports
 abbrev pub AuditsTellOnce : Type 0
 AuditsTellOnce =
-    (history : History) (seats : List Seat) (held used : ℕ) (audit : Audit)
-    → AllRise seats → IsAudit history seats held used (Ok audit) → IsToldOnce history.entries seats
+    (history : History) (states : List PortState) (held used : ℕ) (audit : Audit)
+    → AllRise states → IsAudit history states held used (Ok audit) → IsToldOnce history.entries states

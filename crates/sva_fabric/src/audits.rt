@@ -1,3 +1,5 @@
+//! What an audit tells.
+
 /// What an audit that finds nothing wrong tells: the length of the journal, and where the frames of its world are.
 #[derive(Clone, Copy, Debug, PartialEq, Eq)]
 pub struct Audit {

@@ -1,38 +1,35 @@
 //! The shared world: a lock, and the calls that take it.
 
-ghost use Rattle.std.specs.Prelude.{◌≡◌, ◌+◌, ◌↔◌, ◌++◌, ◌∷◌, [], true, IfOk, IfErr, OnErr, Err};
+ghost use Rattle.std.specs.Prelude.{◌≡◌, ◌+◌, ◌↔◌, ◌++◌, ◌∷◌, [], true, vec_len, IfOk, IfErr, OnErr, Err};
 ghost use Rattle.sva_step.specs.Steps.{is_plain};
 ghost use Rattle.sva_step.specs.declared.refusals.Refusal.TheVariants as refusal;
 ghost use Rattle.sva_step.specs.Limits.{Fits};
 ghost use Rattle.sva_journal.specs.Reached.{IsOpenRefusal};
 ghost use Rattle.sva_journal.specs.Suiting.{Suits};
 ghost use Rattle.sva_fabric.specs.Receipts.{last_of, IsAnswered, IsRefused, IsCounted, IsAstray};
-ghost use Rattle.sva_fabric.specs.Stocks.{IsHandedIn, IsHandedOut};
-ghost use Rattle.sva_fabric.specs.Audits.{held_by, used_by, seats_of, IsFinished, new_seats};
+ghost use Rattle.sva_journal.specs.Books.{IsHandedIn, IsHandedOut};
+ghost use Rattle.sva_fabric.specs.Audits.{held_by, used_by, states_of, IsFinished, new_ports};
 
+use crate::auditing::audit;
 use crate::audits::{Audit, FirstBadReceipt};
-use crate::blanks::Blanks;
-use crate::gathering::gather;
-use crate::held::Held;
+use crate::gathering::{gather, gather_tokens};
 use crate::opening::open_ports;
 use crate::port::Port;
 use crate::ports::Ports;
-use crate::receipts::Receipt;
-use crate::running::{Running, StepFault, Strayed};
-use crate::tally::Tally;
 use crate::tokens::Tokens;
 use std::alloc::Global;
 use std::sync::{Mutex, Wait};
 use sva_frames::Counts;
+use sva_journal::{Blanks, CallTokens, Ledgers, Receipt, Running, StepFault, Strayed};
 use sva_step::{Config, Refusal, Step};
 
 /// One world that several threads share. Each calls it by a port of its own.
 #[derive(Drop)]
-pub struct Fabric<C: Tally> {
+pub struct Fabric<C: Ledgers> {
     running: Mutex<Running<C>>,
 }
 
-impl<C: Tally> Fabric<C> {
+impl<C: Ledgers> Fabric<C> {
     /// A world of a config, of which nothing was asked, and its ports. A config out of its limits is `BadConfig`; the only other
     /// refusal is `OutOfMemory`. The blanks are those that `Blanks::new` makes for the config.
     pub fn open(
@@ -46,7 +43,8 @@ impl<C: Tally> Fabric<C> {
         requires ports { Fits config → blanks.calls.parts ≡ 3 + config.endpoints + config.workers }
         requires bindings { blanks.bindings.name ≡ C.bindings }
         requires uses { blanks.uses.name ≡ C.uses }
-        ensures ok { IfOk result (λ opened. (Fits config) × (seats_of opened.1 ≡ new_seats config)) }
+        ensures ok { IfOk result (λ opened. (Fits config) × (states_of opened.1 ≡ new_ports config)) }
+        ensures ports { IfOk result (λ opened. (vec_len opened.1.endpoints ≡ config.endpoints) × (vec_len opened.1.workers ≡ config.workers)) }
         ensures bad { (result ≡ Err refusal.BadConfig) ↔ (Fits config → ⊥) }
         ensures memory { IfErr result IsOpenRefusal }
     {
@@ -74,15 +72,15 @@ impl<C: Tally> Fabric<C> {
         ensures err { OnErr result (port.new ≡ port.old) }
         ensures fault { IfErr result (λ f. IsRefused C.config port.old.number (last_of port.old.receipts) f) }
     {
-        self.call(rt, port, &mut Held::nothing(), step)
+        self.call(rt, port, &mut CallTokens::none(), step)
     }
 
-    // Takes one step, of whatever kind, with the token that it spends.
+    /// Takes one step, of whatever kind, with the token that it spends.
     pub(crate) fn call<R: Wait>(
         &self,
         rt: &R,
         port: &mut Port<C>,
-        held: &mut Held<C>,
+        held: &mut CallTokens<C>,
         step: &Step,
     ) -> Result<Receipt, StepFault>
         requires held { IsHandedIn step.now held.old }
@@ -116,7 +114,7 @@ impl<C: Tally> Fabric<C> {
     /// as no call, and takes no memory.
     pub fn counts<R: Wait>(&self, rt: &R, port: &Port<C>) -> Result<Counts, Strayed>
         ensures counted { IfOk result (IsCounted C.config port.now.number (last_of port.now.receipts)) }
-        ensures fault { IfErr result (λ f. IsAstray C.config port.now.number (last_of port.now.receipts) f.place f.found) }
+        ensures fault { IfErr result (IsAstray C.config port.now.number (last_of port.now.receipts)) }
     {
         self.running.lock(rt).counts(port.number(), port.last())
     }
@@ -124,11 +122,13 @@ impl<C: Tally> Fabric<C> {
     /// Ends the sharing. It compares the receipts of all ports with the journal, and the tokens that are left with its world's
     /// unreleased bindings and taken use slots.
     pub fn finish(self, ports: Ports<C>, tokens: Tokens<C>) -> Result<Audit, FirstBadReceipt>
-        ensures audit { IsFinished C.config C.parts (seats_of ports) (held_by tokens) (used_by tokens) result }
+        ensures audit { IsFinished C.config C.parts (states_of ports) (held_by tokens) (used_by tokens) result }
     {
         let mut running = self.running.into_inner();
-        let result = running.audit(&ports, &tokens);
-        running.spend(tokens);
+        let result = audit(running.journaled(), &ports, &tokens);
+        let (mut held, mut used) = running.empty_shares();
+        gather_tokens(&mut held, &mut used, tokens);
+        running.spend(held, used);
         let mut calls = gather(ports);
         running.compare(&mut calls);
         result

@@ -1,6 +1,7 @@
 //! Why a call with a token failed.
 
-use sva_journal::Entry;
+use std::convert::From;
+use sva_journal::{StepFault, Strayed};
 use sva_step::Refusal;
 
 /// Why a call made, moved or spent no token.
@@ -14,10 +15,19 @@ pub enum Fault {
     /// Memory lacked. Nothing has changed.
     Memory,
     /// The port's last receipt doesn't stand in the journal. Nothing has changed.
-    Strayed {
-        /// The place that the receipt names.
-        place: u64,
-        /// What stands there instead.
-        found: Option<Entry>,
-    },
+    Strayed(Strayed),
+}
+
+impl From<StepFault> for Fault {
+    ghost use Rattle.std.specs.Prelude.{◌≡◌};
+    ghost use Rattle.sva_fabric.specs.Tokens.{fault_of_step};
+
+    ghost from_gives = { λ fault given. given ≡ fault_of_step fault };
+
+    fn from(fault: StepFault) -> Fault {
+        match fault {
+            StepFault::Memory => Fault::Memory,
+            StepFault::Strayed(strayed) => Fault::Strayed(strayed),
+        }
+    }
 }

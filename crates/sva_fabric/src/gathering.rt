@@ -1,19 +1,19 @@
 //! The calls of all ports, and the parts of tokens, put together again.
 
 ghost use Rattle.std.specs.Prelude.{◌≡◌, ◌+◌, length};
-ghost use Rattle.sva_fabric.specs.Audits.{seats_of, calls_of, held_by, used_by};
+ghost use Rattle.sva_fabric.specs.Audits.{states_of, calls_of, held_by, used_by};
 
 use crate::port::Port;
 use crate::ports::Ports;
-use crate::tally::{Bindings, Tally, Uses};
 use crate::tokens::{Lease, Leaving, Tokens, UseTicket};
 use std::sync::ledger::Share;
+use sva_journal::{Bindings, Ledgers, Uses};
 
-// One share that counts the calls of all ports.
+/// One share that counts the calls of all ports.
 #[tactic(auto, using(crate::proofs::Sums::length_both, crate::proofs::Sums::calls_append))]
-pub(crate) fn gather<C: Tally>(ports: Ports<C>) -> Share<C>
-    ensures parts { result.parts ≡ length (seats_of ports) }
-    ensures amount { result.amount ≡ calls_of (seats_of ports) }
+pub(crate) fn gather<C: Ledgers>(ports: Ports<C>) -> Share<C>
+    ensures parts { result.parts ≡ length (states_of ports) }
+    ensures amount { result.amount ≡ calls_of (states_of ports) }
 {
     let Ports {
         host,
@@ -30,9 +30,9 @@ pub(crate) fn gather<C: Tally>(ports: Ports<C>) -> Share<C>
     all
 }
 
-// Adds the shares of several ports.
+/// Adds the shares of several ports.
 #[tactic(auto, using(crate::proofs::Sums::length_both, crate::proofs::Sums::calls_append))]
-fn gather_row<C: Tally>(all: &mut Share<C>, ports: Vec<Port<C>>)
+fn gather_row<C: Ledgers>(all: &mut Share<C>, ports: Vec<Port<C>>)
     ensures parts { all.new.parts ≡ all.old.parts + length ports.items }
     ensures amount { all.new.amount ≡ all.old.amount + calls_of ports.items }
 {
@@ -42,8 +42,8 @@ fn gather_row<C: Tally>(all: &mut Share<C>, ports: Vec<Port<C>>)
     }
 }
 
-// Spends tokens: their parts are gathered in two shares.
-pub(crate) fn gather_tokens<C: Tally>(
+/// Spends tokens: their parts are gathered in two shares.
+pub(crate) fn gather_tokens<C: Ledgers>(
     held: &mut Share<Bindings<C>>,
     used: &mut Share<Uses<C>>,
     tokens: Tokens<C>,
@@ -61,7 +61,7 @@ pub(crate) fn gather_tokens<C: Tally>(
     gather_tickets(used, tickets);
 }
 
-fn gather_leases<C: Tally>(held: &mut Share<Bindings<C>>, leases: Vec<Lease<C>>)
+fn gather_leases<C: Ledgers>(held: &mut Share<Bindings<C>>, leases: Vec<Lease<C>>)
     ensures { held.new.amount ≡ held.old.amount + length leases.items }
 {
     let mut leases = leases;
@@ -69,28 +69,25 @@ fn gather_leases<C: Tally>(held: &mut Share<Bindings<C>>, leases: Vec<Lease<C>>)
         let Lease {
             binding: _,
             pasid: _,
-            held: token,
+            part,
         } = lease;
-        token.gather_binding(held);
+        part.gather(held);
     }
     leases.destroy_empty();
 }
 
-fn gather_leavings<C: Tally>(held: &mut Share<Bindings<C>>, leavings: Vec<Leaving<C>>)
+fn gather_leavings<C: Ledgers>(held: &mut Share<Bindings<C>>, leavings: Vec<Leaving<C>>)
     ensures { held.new.amount ≡ held.old.amount + length leavings.items }
 {
     let mut leavings = leavings;
     while let Some(leaving) = leavings.pop() {
-        let Leaving {
-            binding: _,
-            held: token,
-        } = leaving;
-        token.gather_binding(held);
+        let Leaving { binding: _, part } = leaving;
+        part.gather(held);
     }
     leavings.destroy_empty();
 }
 
-fn gather_tickets<C: Tally>(used: &mut Share<Uses<C>>, tickets: Vec<UseTicket<C>>)
+fn gather_tickets<C: Ledgers>(used: &mut Share<Uses<C>>, tickets: Vec<UseTicket<C>>)
     ensures { used.new.amount ≡ used.old.amount + length tickets.items }
 {
     let mut tickets = tickets;
@@ -99,9 +96,9 @@ fn gather_tickets<C: Tally>(used: &mut Share<Uses<C>>, tickets: Vec<UseTicket<C>
             endpoint: _,
             slot: _,
             frame: _,
-            held: token,
+            part,
         } = ticket;
-        token.gather_use(used);
+        part.gather(used);
     }
     tickets.destroy_empty();
 }

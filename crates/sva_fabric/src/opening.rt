@@ -2,28 +2,18 @@
 
 ghost use Rattle.std.specs.Prelude.{◌≡◌, ◌+◌, ◌^◌, ◌<◌, ◌≤◌, vec_len, IfOk, OnOk};
 ghost use Rattle.sva_step.specs.Limits.{Fits};
-ghost use Rattle.sva_fabric.specs.Receipts.{seats_from};
-ghost use Rattle.sva_fabric.specs.Audits.{seats_of, new_seats};
+ghost use Rattle.sva_fabric.specs.Receipts.{new_ports_from};
+ghost use Rattle.sva_fabric.specs.Audits.{states_of, new_ports};
 
 use crate::port::Port;
 use crate::ports::Ports;
-use crate::tally::Tally;
 use std::alloc::{AllocError, Global};
 use std::sync::ledger::Share;
+use sva_journal::Ledgers;
 use sva_step::Config;
 
-/// How many ports a world of a config has. Each needs a part of the ledger of calls. Of a config out of its limits the number says nothing.
-pub fn ports_of(config: &Config) -> u64
-    ensures { Fits config.now → result ≡ 3 + config.now.endpoints + config.now.workers }
-{
-    config
-        .endpoints
-        .wrapping_add(config.workers)
-        .wrapping_add(3)
-}
-
-// The ports for a config, of which nothing was asked. Each takes a part of the share.
-pub(crate) fn open_ports<C: Tally>(
+/// The ports for a config, of which nothing was asked. Each takes a part of the share.
+pub(crate) fn open_ports<C: Ledgers>(
     alloc: Global,
     config: &Config,
     calls: Share<C>,
@@ -31,7 +21,8 @@ pub(crate) fn open_ports<C: Tally>(
     requires fits { Fits config.now }
     requires parts { calls.parts ≡ 3 + config.now.endpoints + config.now.workers }
     requires none { calls.amount ≡ 0 }
-    ensures { IfOk result (λ ports. seats_of ports ≡ new_seats config.now) }
+    ensures states { IfOk result (λ ports. states_of ports ≡ new_ports config.now) }
+    ensures ports { IfOk result (λ ports. (vec_len ports.endpoints ≡ config.now.endpoints) × (vec_len ports.workers ≡ config.now.workers)) }
 {
     let mut calls = calls;
     let endpoints = row(alloc, 3, config.endpoints, &mut calls)?;
@@ -46,8 +37,8 @@ pub(crate) fn open_ports<C: Tally>(
 }
 
 // So many ports, numbered from this number on.
-#[tactic(auto, using(crate::proofs::Sums::seats_none, crate::proofs::Sums::seats_next))]
-fn row<C: Tally>(
+#[tactic(auto, using(crate::proofs::Sums::new_ports_none, crate::proofs::Sums::new_ports_next))]
+fn row<C: Ledgers>(
     alloc: Global,
     first: u64,
     count: u64,
@@ -56,7 +47,7 @@ fn row<C: Tally>(
     requires few { first + count < 2 ^ 63 }
     requires parts { count ≤ calls.old.parts }
     requires none { calls.old.amount ≡ 0 }
-    ensures ports { IfOk result (λ ports. ports.items ≡ seats_from first count) }
+    ensures ports { IfOk result (λ ports. ports.items ≡ new_ports_from first count) }
     ensures len { IfOk result (λ ports. vec_len ports ≡ count) }
     ensures left { OnOk result (calls.new.parts + count ≡ calls.old.parts) }
     ensures still { OnOk result (calls.new.amount ≡ 0) }

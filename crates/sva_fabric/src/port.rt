@@ -1,40 +1,39 @@
 //! A port: what a thread calls the shared world by.
 
 ghost use Rattle.std.specs.Prelude.{◌≡◌, length};
-ghost use Rattle.sva_fabric.specs.Receipts.{last_of, AreRising, new_seat};
+ghost use Rattle.sva_fabric.specs.Receipts.{last_of, AreRising, new_port};
 
-use crate::receipts::Receipt;
-use crate::tally::Tally;
 use std::alloc::Global;
 use std::marker::Model;
 use std::sync::ledger::Share;
+use sva_journal::{Ledgers, Receipt};
 
 /// What one thread calls a `Fabric` by. It keeps a receipt of each call that was answered. Contracts see the number and the
 /// receipts, whose places rise. Its share of the ledger counts the calls.
 #[derive(Drop)]
-pub struct Port<C: Tally> {
+pub struct Port<C: Ledgers> {
     pub(crate) number: u64,
     pub(crate) receipts: Vec<Receipt>,
     pub(crate) calls: Share<C>,
 }
 
-impl<C: Tally> Model for Port<C> {
+impl<C: Ledgers> Model for Port<C> {
     ghost use Rattle.std.specs.Prelude.{◌≡◌, length};
-    ghost use Rattle.sva_fabric.specs.Receipts.{Seat, AreRising};
+    ghost use Rattle.sva_fabric.specs.Receipts.{PortState, AreRising};
 
-    ghost Value = { Seat };
+    ghost Value = { PortState };
 
     ghost view = { λ p. record { number = p.number; receipts = p.receipts.items } };
 
     ghost invariant = { λ p. AreRising p.receipts.items × (p.calls.parts ≡ 1) × (p.calls.amount ≡ length p.receipts.items) };
 }
 
-impl<C: Tally> Port<C> {
-    // A port of which nothing was asked.
+impl<C: Ledgers> Port<C> {
+    /// A port of which nothing was asked.
     pub(crate) fn new(alloc: Global, number: u64, calls: Share<C>) -> Port<C>
         requires part { calls.parts ≡ 1 }
         requires none { calls.amount ≡ 0 }
-        ensures { result ≡ new_seat number }
+        ensures { result ≡ new_port number }
     {
         Port {
             number,
@@ -64,7 +63,7 @@ impl<C: Tally> Port<C> {
         self.receipts.last().copied()
     }
 
-    // The port's share of the ledger, without the port.
+    /// The port's share of the ledger, without the port.
     pub(crate) fn into_calls(self) -> Share<C>
         ensures part { result.parts ≡ 1 }
         ensures amount { result.amount ≡ length self.receipts }

@@ -1,11 +1,11 @@
 //! The ports of a fabric.
 
 use crate::port::Port;
-use crate::tally::Tally;
+use sva_journal::Ledgers;
 
 /// The ports of a `Fabric`, numbered from 0 in this order.
 #[derive(Drop)]
-pub struct Ports<C: Tally> {
+pub struct Ports<C: Ledgers> {
     /// The host's port.
     pub host: Port<C>,
     /// The link's port.

@@ -3,30 +3,27 @@
 
 ghost use Rattle.std.specs.Prelude.{◌≡◌, []};
 
-use crate::held::Held;
-use crate::tally::Tally;
 use std::alloc::Global;
 use std::marker::Model;
+use sva_journal::{Bindings, Ledgers, Part, Uses};
 
 /// A binding that `Fabric::bind` made. Contracts see its numbers.
-pub struct Lease<C: Tally> {
+pub struct Lease<C: Ledgers> {
     pub(crate) binding: u64,
     pub(crate) pasid: u32,
-    pub(crate) held: Held<C>,
+    pub(crate) part: Part<Bindings<C>>,
 }
 
-impl<C: Tally> Model for Lease<C> {
+impl<C: Ledgers> Model for Lease<C> {
     ghost use Rattle.std.specs.Prelude.{◌≡◌};
-    ghost use Rattle.sva_fabric.specs.Stocks.{LeaseNumbers, one_binding};
+    ghost use Rattle.sva_fabric.specs.TokenNumbers.{LeaseNumbers};
 
     ghost Value = { LeaseNumbers };
 
     ghost view = { λ lease. record { binding = lease.binding; pasid = lease.pasid } };
-
-    ghost invariant = { λ lease. lease.held ≡ one_binding };
 }
 
-impl<C: Tally> Lease<C> {
+impl<C: Ledgers> Lease<C> {
     /// The number of the binding.
     pub fn binding(&self) -> u64
         ensures { result ≡ self.now.binding }
@@ -43,23 +40,20 @@ impl<C: Tally> Lease<C> {
 }
 
 /// A binding that is being taken back. Contracts see its number.
-pub struct Leaving<C: Tally> {
+pub struct Leaving<C: Ledgers> {
     pub(crate) binding: u64,
-    pub(crate) held: Held<C>,
+    pub(crate) part: Part<Bindings<C>>,
 }
 
-impl<C: Tally> Model for Leaving<C> {
+impl<C: Ledgers> Model for Leaving<C> {
     ghost use Rattle.std.specs.Prelude.{◌≡◌, ℕ};
-    ghost use Rattle.sva_fabric.specs.Stocks.{one_binding};
 
     ghost Value = { ℕ };
 
     ghost view = { λ leaving. leaving.binding };
-
-    ghost invariant = { λ leaving. leaving.held ≡ one_binding };
 }
 
-impl<C: Tally> Leaving<C> {
+impl<C: Ledgers> Leaving<C> {
     /// The number of the binding.
     pub fn binding(&self) -> u64
         ensures { result ≡ self.now }
@@ -70,25 +64,23 @@ impl<C: Tally> Leaving<C> {
 }
 
 /// A use that began: its slot is taken until `Fabric::end`. Contracts see its numbers.
-pub struct UseTicket<C: Tally> {
+pub struct UseTicket<C: Ledgers> {
     pub(crate) endpoint: u64,
     pub(crate) slot: u8,
     pub(crate) frame: u32,
-    pub(crate) held: Held<C>,
+    pub(crate) part: Part<Uses<C>>,
 }
 
-impl<C: Tally> Model for UseTicket<C> {
+impl<C: Ledgers> Model for UseTicket<C> {
     ghost use Rattle.std.specs.Prelude.{◌≡◌};
-    ghost use Rattle.sva_fabric.specs.Stocks.{TicketNumbers, one_use};
+    ghost use Rattle.sva_fabric.specs.TokenNumbers.{TicketNumbers};
 
     ghost Value = { TicketNumbers };
 
     ghost view = { λ ticket. record { endpoint = ticket.endpoint; slot = ticket.slot; frame = ticket.frame } };
-
-    ghost invariant = { λ ticket. ticket.held ≡ one_use };
 }
 
-impl<C: Tally> UseTicket<C> {
+impl<C: Ledgers> UseTicket<C> {
     /// The number of the endpoint.
     pub fn endpoint(&self) -> u64
         ensures { result ≡ self.now.endpoint }
@@ -112,7 +104,7 @@ impl<C: Tally> UseTicket<C> {
 }
 
 /// What became of a binding by an advance.
-pub enum Moved<C: Tally> {
+pub enum Moved<C: Ledgers> {
     /// It is at its next stage.
     Again(Leaving<C>),
     /// It is released.
@@ -120,7 +112,7 @@ pub enum Moved<C: Tally> {
 }
 
 /// The tokens that are left at the end.
-pub struct Tokens<C: Tally> {
+pub struct Tokens<C: Ledgers> {
     /// Of bindings that nobody takes back.
     pub leases: Vec<Lease<C>>,
     /// Of bindings that are being taken back.
@@ -129,7 +121,7 @@ pub struct Tokens<C: Tally> {
     pub tickets: Vec<UseTicket<C>>,
 }
 
-impl<C: Tally> Tokens<C> {
+impl<C: Ledgers> Tokens<C> {
     /// No tokens.
     pub fn new(alloc: Global) -> Tokens<C>
         ensures leases { result.leases.items ≡ [] }

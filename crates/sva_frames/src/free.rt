@@ -1,3 +1,5 @@
+//! A set of numbers that finds its lowest quickly.
+
 ghost use Rattle.std.specs.Prelude.{◌≡◌, ◌≢◌, ◌<◌, ◌≤◌, ◌*◌, ◌/◌, ℕ, cond, length, IfOk, IfNone, IfSome};
 
 use crate::bits::{BitSet, WORD};

@@ -1,3 +1,5 @@
+//! The first frame of each chain of one unit.
+
 ghost use Rattle.std.specs.Prelude.{◌≡◌, ◌≢◌, ◌↔◌, IsTrue, ℕ, ◌<◌, length, Some, None, IfSome, IfNone, ◌-◌, [], slice_get};
 ghost use Rattle.sva_frames.specs.declared.heads.Pending.{Pending};
 ghost use Rattle.sva_frames.specs.Chains.{AreApart, first_of};

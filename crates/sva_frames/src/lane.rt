@@ -1,3 +1,5 @@
+//! What the frames wait for at one unit.
+
 ghost use Rattle.std.specs.Prelude.{◌≡◌, ◌↔◌, IsTrue, ℕ, Some, None, replicate, slice_get, slice_set, IfOk, IfSome, IfNone, cond, is_some};
 ghost use Rattle.std.specs.Prelude.{◌<◌, List, Option, length, count_by};
 ghost use Rattle.sva_frames.specs.declared.waits.Target.{Target};

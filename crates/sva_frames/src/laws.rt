@@ -1,3 +1,5 @@
+//! The laws of a pool of frames, over every list of its calls.
+
 ghost use Rattle.sva_frames.specs.Laws.{Divided, WithheldWaits, LowestFree, MappedInHand, FreeAtOnce, WithheldUntilSettled, FreeWhenSettled, SettlesWaits};
 
 /// What holds of a pool after every list of permitted calls.

@@ -1,3 +1,5 @@
+//! Where each frame is, and at how many units it still waits.
+
 ghost use Rattle.std.specs.Prelude.{◌≡◌, ◌<◌, ◌≤◌, ◌+◌, ◌^◌, Some, Bool, IfOk, replicate, cond, length, position, count_by, slice_get, slice_set};
 
 use crate::free::FreeSet;

@@ -1,3 +1,5 @@
+//! The pool of the frames of a host.
+
 ghost use Rattle.std.specs.Prelude.{◌≡◌, ◌^◌, ◌↔◌, IsTrue, ◌<◌, ◌==◌, ℕ, true, List, Option, Some, None, IfOk, IfSome, IfNone, length, position};
 ghost use Rattle.std.specs.Prelude.{count_by, slice_get, slice_set, option_map};
 

@@ -1,14 +1,17 @@
+//! What a frame waits for, unit by unit.
+
 ghost use Rattle.sva_frames.specs.Frames.{has_target};
 ghost use Rattle.std.specs.Prelude.{◌≡◌, ◌↔◌, IsTrue, false, Some, None, replicate, slice_get, slice_set};
 
 use std::alloc::AllocError;
 use std::marker::Model;
+use sva_step::{MOST_ENDPOINTS, QUEUE_PLACES};
 
-/// How many remapping units a host has at most. Their numbers are below it.
-pub const UNITS: usize = 8;
+/// How many remapping units a host has at most: one for each endpoint. Their numbers are below it.
+pub const UNITS: usize = MOST_ENDPOINTS;
 
 /// How many different cookies frames wait for at one unit at most: as many as its queue has places for waits.
-pub const PENDING: usize = 64;
+pub const PENDING: usize = QUEUE_PLACES;
 
 /// What a frame waits for at one unit.
 #[derive(Clone, Copy, PartialEq, Eq)]

@@ -8,7 +8,6 @@ use Rattle.std.specs.Str.{all_ascii_digits, bytes_eq}
 use Rattle.std.specs.Str.Parse.{digits_value}
 use Rattle.std.proofs.lemmas.Bool.{and_from, and_parts, lt-ltb, ltb-true, ltb-false}
 use Rattle.std.proofs.lemmas.Bool.Decides.{nat_tests}
-use Rattle.std.proofs.lemmas.List.Sums.{sum_by-cons}
 use Rattle.std.proofs.lemmas.Fmt.{decimal-digits_value, decimal_digit, decimal_nonempty, digits_decimal, digits_value-decimal, first_decimal}
 use Rattle.std.proofs.lemmas.Slice.Eq.{bytes_eq-Decides}
 use Rattle.sva_grammar.specs.Grammar.{access, begins_number, config_counts, config_of, fault, flags, group, is_last, is_skipped, is_too_large, lines_of}
@@ -16,7 +15,7 @@ use Rattle.sva_grammar.specs.Grammar.{number, said_lines, scenario_of, script_of
 use Rattle.sva_grammar.specs.Grammar.{host_step, endpoint_step, one_number, space_step, drop_step, map_step, unmap_step, unmapr_step, look_step}
 use Rattle.sva_grammar.specs.Grammar.{bearer_step, bind_step, unbind_step, advance_step, pump_step, serve_step, reset_step, take_step, answer_step}
 use Rattle.sva_grammar.specs.Grammar.{ask_step, use_step, end_step, evict_step, fault_step, finish_step, quit_step, deliver_step}
-use Rattle.sva_grammar.specs.Laws.{access_word, config_words, flags_word, group_word, HasConfigLine, HasLine, hexadecimal, last_word, LinesAreCounted}
+use Rattle.sva_grammar.specs.Laws.{access_word, config_words, flags_word, group_word, HasConfigLine, HasLine, hexadecimal, last_word}
 use Rattle.sva_grammar.specs.Laws.{NumbersAreDecimal, script_text, ScriptsAreRead, step_words, text_of, verdict_word}
 use Rattle.sva_grammar.proofs.VectorLemmas.{digit_char-ge, vector_read}
 use Rattle.sva_grammar.proofs.WordLemmas.{number-is, number-not, own, some_byte}
@@ -77,34 +76,6 @@ number_decimal n small =
 
 pub numbers_are_decimal : NumbersAreDecimal
 numbers_are_decimal word n = (decimal_word word n, λ h. ap number h.1 ∙ number_decimal n h.0)
-
--- ---- Lines
-
-some_line : (t : Bool) (byte : ℕ) (lines : List (List ℕ)) → 0 < length (cond t ([] ∷ lines) (onto_first byte lines))
-some_line true byte lines = omega arith
-some_line false byte [] = omega arith
-some_line false byte (line ∷ lines) = omega arith
-
-lines_of-some : (byte : ℕ) (text : List ℕ) → 0 < length (lines_of (byte ∷ text))
-lines_of-some byte text = some_line (eqb byte 10) byte (lines_of text)
-
-line_step : (t : Bool) (byte : ℕ) (lines : List (List ℕ)) (n : ℕ) → 0 < length lines → length lines ≡ n
-    → length (cond t ([] ∷ lines) (onto_first byte lines)) ≡ cond t 1 0 + n
-line_step true byte lines n some h = omega arith
-line_step false byte [] n some h = absurd (omega arith)
-line_step false byte (line ∷ lines) n some h = omega arith
-
-last_line : (t : Bool) (byte : ℕ) → length (cond t ([] ∷ []) (onto_first byte [])) ≡ cond t 1 0 + 0 + cond t 0 1
-last_line true byte = omega arith
-last_line false byte = omega arith
-
-pub lines_are_counted : LinesAreCounted
-lines_are_counted [] = omega arith
-lines_are_counted (byte ∷ []) = last_line (eqb byte 10) byte ∙ ap (λ n. n + cond (eqb byte 10) 0 1) (sym (sum_by-cons (λ b. cond (eqb b 10) 1 0) byte []))
-lines_are_counted (byte ∷ next ∷ text) =
-    let counted = line_step (eqb byte 10) byte (lines_of (next ∷ text)) _ (lines_of-some next text) (lines_are_counted (next ∷ text)) in
-    let more = sum_by-cons (λ b. cond (eqb b 10) 1 0) byte (next ∷ text) in
-    counted ∙ omega (arith, more)
 
 -- ---- What is written is read
 

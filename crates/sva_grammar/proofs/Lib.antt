@@ -1,5 +1,6 @@
 pub mod LineLemmas
 pub mod WordLemmas
+pub mod PlaceLemmas
 pub mod StepLemmas
 pub mod VectorLemmas
 pub mod LawLemmas

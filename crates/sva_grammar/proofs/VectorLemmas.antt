@@ -1,20 +1,18 @@
 -- Vectors: eight hexadecimal digits in lower case, as a word and as a number.
-use Rattle.std.proofs.Common.{◌≡◌, ◌≢◌, ◌<◌, ◌≤◌, ◌+◌, ◌*◌, ◌/◌, ◌%◌, ◌^◌, ◌∙◌, ap, sym, subst, arith, ℕ, zero, suc, List, [], ◌∷◌, Bool, true, false}
-use Rattle.std.proofs.Common.{cond, eqb, length, get_or, refl, Result, Ok, Err, MatchResult}
+use Rattle.std.proofs.Common.{◌≡◌, ◌<◌, ◌≤◌, ◌+◌, ◌*◌, ◌/◌, ◌%◌, ◌^◌, ◌∙◌, ap, sym, subst, arith, ℕ, zero, suc, List, [], ◌∷◌, Bool, true, false}
+use Rattle.std.proofs.Common.{cond, eqb, length, get_or, drop, refl, Ok, Err}
 use Rattle.std.specs.Char.{digit_char, digit_value}
 use Rattle.std.specs.List.{list_all}
-use Rattle.std.specs.Result.{OkIff}
-use Rattle.std.specs.Str.{IsAscii, IsUtf8}
-use Rattle.std.specs.Str.Parse.{AllDigits, digits_value, digits_value_after, IsNumeral, ParsesUnsigned}
+use Rattle.std.specs.Str.Parse.{digits_value, digits_value_after}
 use Rattle.std.proofs.lemmas.Bool.{and_from, and_parts, eqb-true}
 use Rattle.std.proofs.lemmas.Bool.Decides.{nat_tests}
-use Rattle.std.proofs.lemmas.Str.{digit_value-digit_char, IsUtf8-from_ascii}
-use Rattle.std.proofs.lemmas.Str.Parse.{without_leading_plus_none}
+use Rattle.std.proofs.lemmas.Str.{digit_value-digit_char}
+use Rattle.std.proofs.lemmas.List.{drop_more}
+use Rattle.std.proofs.Math.ListN.{drop_of_length-le}
 use Rattle.std.proofs.Math.Arith.{mod-mul}
 use Rattle.std.proofs.Math.Nat.{div-eq_of_lt-le, mod-lt, mul-le-mul_right, one-le-pow, pow-zero, pow-suc}
 use Rattle.sva_grammar.specs.Grammar.{is_vector, is_vector_digit, vector}
 use Rattle.sva_grammar.specs.Laws.{hexadecimal, VectorsAreHexadecimal}
-use Rattle.sva_grammar.specs.declared.faults.Cause.{Cause}
 use Rattle.sva_grammar.specs.declared.faults.Cause.TheVariants.{BadWord}
 
 -- ---- Digits
@@ -32,10 +30,6 @@ digit_small byte h = grind (arith, nat_tests)
 
 digit_char-value : (byte : ℕ) → is_vector_digit byte ≡ true → digit_char (digit_value byte) ≡ byte
 digit_char-value byte h = grind (arith, nat_tests)
-
-digits_from : (word : List ℕ) → list_all is_vector_digit word ≡ true → AllDigits 16 word
-digits_from [] h = tt
-digits_from (byte ∷ word) h = let parts = and_parts (is_vector_digit byte) _ h in (digit_small byte parts.0, digits_from word parts.1)
 
 -- ---- What a word is worth, and what writes a number
 
@@ -131,33 +125,30 @@ vectors_are_hexadecimal word v = (vector_word word v, λ h. ap vector h.1 ∙ ve
 
 -- ---- What the code reads
 
-no_plus : (word : List ℕ) → list_all is_vector_digit word ≡ true → get_or word 0 0 ≢ 43
-no_plus [] h = λ e. absurd (omega (arith, e))
-no_plus (byte ∷ word) h = λ e. absurd (grind (arith, nat_tests))
+-- digits behind a number write no less than it
+value_after-ge : (value : ℕ) (digits : List ℕ) → value ≤ digits_value_after 16 value digits
+value_after-ge value [] = omega arith
+value_after-ge value (digit ∷ digits) = let more = value_after-ge (value * 16 + digit_value digit) digits in omega (arith, more)
 
-ascii : (word : List ℕ) → list_all is_vector_digit word ≡ true → IsAscii word
-ascii [] h i = omega arith
-ascii (byte ∷ word) h zero = grind (arith, nat_tests)
-ascii (byte ∷ word) h (suc i) = ascii word (and_parts (is_vector_digit byte) _ h).1 i
+-- the digit that comes next, and the number with it, which fits 32 bits
+pub next_digit : (word : List ℕ) (value i : ℕ) → is_vector word ≡ true → i < length word → list_all is_vector_digit (drop i word) ≡ true
+    → digits_value_after 16 value (drop i word) ≡ digits_value 16 word
+    → (is_vector_digit (get_or word i 0) ≡ true) × (list_all is_vector_digit (drop (i + 1) word) ≡ true)
+    × (digits_value_after 16 (value * 16 + digit_value (get_or word i 0)) (drop (i + 1) word) ≡ digits_value 16 word)
+    × (value * 16 + digit_value (get_or word i 0) < 2 ^ 32)
+next_digit word value i h inside digits written =
+    let more = drop_more word i 0 inside in
+    let parts = and_parts (is_vector_digit (get_or word i 0)) (list_all is_vector_digit (drop (i + 1) word)) (sym (ap (list_all is_vector_digit) more) ∙ digits) in
+    let next = sym (ap (digits_value_after 16 value) more) ∙ written in
+    let above = value_after-ge (value * 16 + digit_value (get_or word i 0)) (drop (i + 1) word) in
+    (parts.0, parts.1, next, omega (arith, above, next, vector_small word h))
 
--- a vector is text
-pub vector_text : (word : List ℕ) → is_vector word ≡ true → IsUtf8 word
-vector_text word h = IsUtf8-from_ascii word (ascii word (and_parts (eqb (length word) 8) _ h).1)
+-- all digits were read
+pub vector-read : (word : List ℕ) (value i : ℕ) → is_vector word ≡ true → length word ≤ i → digits_value_after 16 value (drop i word) ≡ digits_value 16 word
+    → vector word ≡ Ok value
+vector-read word value i h past written =
+    vector-is word h ∙ ap Ok (sym written ∙ ap (digits_value_after 16 value) (drop_of_length-le word past))
 
--- what `from_str_radix` makes of a vector, where an error is put in another's place
-pub vector-mapped : {E : Type 0} (word : List ℕ) (r : Result ℕ E) (out : Result ℕ Cause) → is_vector word ≡ true → ParsesUnsigned 32 16 word r
-    → MatchResult r (λ v. out ≡ Ok v) (λ _. out ≡ Err BadWord) → out ≡ vector word
-vector-mapped {E} word r out h read m =
-    let parts = and_parts (eqb (length word) 8) _ h in
-    let eight : length word ≡ 8 = eqb-true _ 8 parts.0 in
-    let some : 0 < length word = omega arith in
-    let plain = without_leading_plus_none word (no_plus word parts.1) in
-    by r out (subst (λ ds. OkIff r (IsNumeral 16 ds × (digits_value 16 ds < 2 ^ 32)) (digits_value 16 ds)) plain read)
-    ((some, digits_from word parts.1), vector_small word h) m
-    ∙ sym (vector-is word h)
-  where
-    by : (q : Result ℕ E) (o : Result ℕ Cause) → OkIff q (IsNumeral 16 word × (digits_value 16 word < 2 ^ 32)) (digits_value 16 word)
-        → IsNumeral 16 word × (digits_value 16 word < 2 ^ 32)
-        → MatchResult q (λ v. o ≡ Ok v) (λ _. o ≡ Err BadWord) → o ≡ Ok (digits_value 16 word)
-    by (Ok x) o p fits e = e ∙ ap Ok p.1
-    by (Err d) o p fits e = absurd (p fits)
+-- before the first
+pub vector_digits : (word : List ℕ) → is_vector word ≡ true → list_all is_vector_digit word ≡ true
+vector_digits word h = (and_parts (eqb (length word) 8) _ h).1

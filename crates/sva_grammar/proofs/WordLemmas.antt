@@ -1,19 +1,18 @@
 -- Lemmas on the words of a line.
-use Rattle.std.proofs.Common.{◌≡◌, ◌≢◌, ◌<◌, ◌^◌, ◌∙◌, ap, sym, arith, ℕ, List, [], ◌∷◌, Bool, true, false, ◌&&◌, cond, length, get_or, refl, Option, Some}
-use Rattle.std.proofs.Common.{None, Result, Ok, Err, ltb, MatchResult}
+use Rattle.std.proofs.Common.{◌≡◌, ◌<◌, ◌≤◌, ◌+◌, ◌*◌, ◌^◌, ◌∙◌, ap, sym, subst, arith, ℕ, List, [], ◌∷◌, Bool, true, false, ◌&&◌, cond, length, drop}
+use Rattle.std.proofs.Common.{get_or, refl, Option, Some, None, Ok, Err, ltb}
 use Rattle.std.specs.Prelude.{slice_get, unwrap_or}
 use Rattle.std.specs.Option.{option_map}
-use Rattle.std.specs.Str.{all_ascii_digits, IsUtf8}
-use Rattle.std.specs.Str.Parse.{digits_value, ParsesUnsigned}
-use Rattle.std.proofs.lemmas.Bool.{and_left, and_right, and_from, ltb-true, lt-ltb}
-use Rattle.std.proofs.lemmas.Bool.Decides.{nat_tests}
-use Rattle.std.proofs.lemmas.Fmt.{IsAscii-from_digits}
+use Rattle.std.specs.Char.{digit_value, is_ascii_digit}
+use Rattle.std.specs.Str.{all_ascii_digits}
+use Rattle.std.specs.Str.Parse.{digits_value, digits_value_after}
+use Rattle.std.proofs.lemmas.Bool.{and_left, and_right, and_from, le-ltb, lt-ltb}
+use Rattle.std.proofs.lemmas.List.{drop_more}
 use Rattle.std.proofs.lemmas.Option.{unwrap_or-slice_get}
-use Rattle.std.proofs.lemmas.Str.{IsUtf8-from_ascii}
-use Rattle.std.proofs.lemmas.Str.Parse.{IsNumeralModel, numerals_by_value, tells_all_ascii_digits, parse_plain}
+use Rattle.std.proofs.lemmas.Str.Parse.{IsNumeralModel, numerals_by_value, tells_all_ascii_digits}
+use Rattle.std.proofs.Math.ListN.{drop_of_length-le}
 use denote.Ref.{Bor}
 use Rattle.sva_grammar.specs.Grammar.{begins_number, number}
-use Rattle.sva_grammar.specs.declared.faults.Cause.{Cause}
 use Rattle.sva_grammar.specs.declared.faults.Cause.TheVariants.{BadWord}
 
 shown : (o : Option (Bor (List ℕ))) (d : Bor (List ℕ)) → (unwrap_or o d).now ≡ unwrap_or (option_map (λ x. x.now) o) d.now
@@ -45,43 +44,39 @@ number-is word h = ap (λ t. cond t (Ok (digits_value 10 word)) (Err BadWord)) h
 pub number-no_begin : (word : List ℕ) → begins_number word ≡ false → number word ≡ Err BadWord
 number-no_begin word h = number-not word (and_left _ _ (and_left _ _ h))
 
-digits_text : (word : List ℕ) → all_ascii_digits word ≡ true → IsUtf8 word
-digits_text word h = IsUtf8-from_ascii word (IsAscii-from_digits word (own.to word h))
-
-no_digits : (word : List ℕ) (t : Bool) → all_ascii_digits word ≡ t → (IsUtf8 word → ⊥) → t ≡ false
-no_digits word true e h = absurd (h (digits_text word e))
-no_digits word false e h = refl
-
--- a word that isn't text is no number
-pub number-no_text : (word : List ℕ) → (IsUtf8 word → ⊥) → number word ≡ Err BadWord
-number-no_text word h = number-not word (and_left _ _ (and_right _ _ (no_digits word _ refl h)))
-
-no_plus : (word : List ℕ) → begins_number word ≡ true → get_or word 0 0 ≢ 43
-no_plus [] h = absurd (cc)
-no_plus (digit ∷ digits) h = λ e. absurd (grind (arith, nat_tests))
-
 pub some_byte : (word : List ℕ) → begins_number word ≡ true → 0 < length word
 some_byte [] h = absurd (cc)
 some_byte (digit ∷ digits) h = omega arith
 
-no_value : (word : List ℕ) (s t u : Bool) → all_ascii_digits word ≡ t → ltb (digits_value 10 word) (2 ^ 64) ≡ u → 0 < length word
-    → ((all_ascii_digits word ≡ true) × (0 < length word) × (digits_value 10 word < 2 ^ 64) → ⊥) → (s && t && u) ≡ false
-no_value word s false u e f some h = and_left _ _ (and_right _ _ refl)
-no_value word s true false e f some h = and_right _ _ refl
-no_value word s true true e f some h = absurd (h (e, some, ltb-true _ _ f))
+-- digits behind a number write no less than it
+value_after-ge : (value : ℕ) (digits : List ℕ) → value ≤ digits_value_after 10 value digits
+value_after-ge value [] = omega arith
+value_after-ge value (digit ∷ digits) = let more = value_after-ge (value * 10 + digit_value digit) digits in omega (arith, more)
 
--- what `parse` makes of a word that begins as a number does
-pub number-parsed : {E : Type 0} (word : List ℕ) (r : Result ℕ E) → begins_number word ≡ true → ParsesUnsigned 64 10 word r
-    → MatchResult r (λ n. number word ≡ Ok n) (λ _. number word ≡ Err BadWord)
-number-parsed {E = T} word (Ok n) b h =
-    let read = parse_plain own {E = T} 64 word (Ok n) h (no_plus word b) in
-    number-is word (and_from _ _ (and_from _ _ b read.0.0) (lt-ltb _ _ read.0.2)) ∙ ap Ok (sym read.1)
-number-parsed {E = T} word (Err e) b h =
-    let read = parse_plain own {E = T} 64 word (Err e) h (no_plus word b) in
-    number-not word (no_value word _ _ _ refl refl (some_byte word b) read)
+-- all digits were read
+pub number-read : (word : List ℕ) (value i : ℕ) → begins_number word ≡ true → length word ≤ i → value < 2 ^ 64
+    → digits_value_after 10 value (drop i word) ≡ digits_value 10 word → all_ascii_digits (drop i word) ≡ all_ascii_digits word → number word ≡ Ok value
+number-read word value i begins past small written digits =
+    let none : drop i word ≡ [] = drop_of_length-le word past in
+    let all : all_ascii_digits word ≡ true = sym digits ∙ ap all_ascii_digits none in
+    let same : value ≡ digits_value 10 word = sym (ap (digits_value_after 10 value) none) ∙ written in
+    number-is word (and_from _ _ (and_from _ _ begins all) (lt-ltb _ _ (subst (λ m. m < 2 ^ 64) same small))) ∙ ap Ok (sym same)
 
--- the same, where the error is put in the result's place
-pub number-mapped : {E : Type 0} (word : List ℕ) (r : Result ℕ E) (out : Result ℕ Cause) → begins_number word ≡ true → ParsesUnsigned 64 10 word r
-    → MatchResult r (λ n. out ≡ Ok n) (λ _. out ≡ Err BadWord) → out ≡ number word
-number-mapped {E = T} word (Ok n) out b h m = m ∙ sym (number-parsed {E = T} word (Ok n) b h)
-number-mapped {E = T} word (Err e) out b h m = m ∙ sym (number-parsed {E = T} word (Err e) b h)
+stopped : (word : List ℕ) (value byte : ℕ) (rest : List ℕ) (t : Bool) → is_ascii_digit byte ≡ t
+    → digits_value_after 10 value (byte ∷ rest) ≡ digits_value 10 word → all_ascii_digits (byte ∷ rest) ≡ all_ascii_digits word
+    → (t ≡ true → 2 ^ 64 ≤ value * 10 + digit_value byte) → number word ≡ Err BadWord
+stopped word value byte rest false e written digits stops =
+    number-not word (and_left _ _ (and_right (begins_number word) _ (sym digits ∙ ap (λ t. t && all_ascii_digits rest) e)))
+stopped word value byte rest true e written digits stops =
+    let more = value_after-ge (value * 10 + digit_value byte) rest in
+    let large : 2 ^ 64 ≤ digits_value 10 word = omega (arith, more, written, stops refl) in
+    number-not word (and_right _ _ (le-ltb _ _ large))
+
+-- a byte is no digit, or the number with it doesn't fit
+pub number-stopped : (word : List ℕ) (value i : ℕ) → i < length word
+    → digits_value_after 10 value (drop i word) ≡ digits_value 10 word → all_ascii_digits (drop i word) ≡ all_ascii_digits word
+    → (is_ascii_digit (get_or word i 0) ≡ true → 2 ^ 64 ≤ value * 10 + digit_value (get_or word i 0)) → number word ≡ Err BadWord
+number-stopped word value i inside written digits stops =
+    let more = drop_more word i 0 inside in
+    stopped word value (get_or word i 0) (drop (i + 1) word) _ refl (sym (ap (digits_value_after 10 value) more) ∙ written)
+    (sym (ap all_ascii_digits more) ∙ digits) stops

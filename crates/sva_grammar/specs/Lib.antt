@@ -1,3 +1,4 @@
 pub mod Faults
 pub mod Grammar
 pub mod Laws
+pub mod Places

@@ -1,3 +1,5 @@
+//! Why a text can't be read.
+
 ghost use Rattle.std.specs.Prelude.{◌≡◌, ◌+◌, ◌≤◌, ◌++◌, length, OnOk, OnErr};
 ghost use Rattle.sva_grammar.specs.Faults.{cause_name, line_fault_text};
 

@@ -1,8 +1,10 @@
+//! The form of each line: which config or which step its words write.
+
 ghost use Rattle.std.specs.Prelude.{◌≡◌};
 ghost use Rattle.sva_grammar.specs.Grammar.{config_of, config_counts, step_of, host_step, endpoint_step};
 ghost use Rattle.sva_grammar.specs.Grammar.{space_step, drop_step, map_step, unmap_step, unmapr_step, look_step, bearer_step};
 ghost use Rattle.sva_grammar.specs.Grammar.{bind_step, unbind_step, advance_step, pump_step, serve_step, reset_step, take_step, answer_step};
-ghost use Rattle.sva_grammar.specs.Grammar.{ask_step, use_step, end_step, evict_step, fault_step, finish_step, quit_step, deliver_step};
+ghost use Rattle.sva_grammar.specs.Grammar.{ask_step, use_step, end_step, evict_step, fault_step, finish_step, quit_step, deliver_step, words_of};
 
 use crate::faults::Cause;
 use crate::words::Words;
@@ -11,7 +13,7 @@ use sva_step::{Config, Step};
 /// The config that a line writes.
 #[tactic(auto, unfolding(crate::specs::Grammar::config_of))]
 pub(crate) fn config_in(words: &Words<'_>) -> Result<Config, Cause>
-    ensures { result ≡ config_of words.now }
+    ensures { result ≡ config_of (words_of words.now) }
 {
     if words.begins_with(b"config") {
         counts_in(words)
@@ -23,7 +25,7 @@ pub(crate) fn config_in(words: &Words<'_>) -> Result<Config, Cause>
 /// `config E N W`.
 #[tactic(auto, unfolding(crate::specs::Grammar::config_counts))]
 fn counts_in(words: &Words<'_>) -> Result<Config, Cause>
-    ensures { result ≡ config_counts words.now }
+    ensures { result ≡ config_counts (words_of words.now) }
 {
     words.exactly(4)?;
     let endpoints = words.number(1)?;
@@ -41,83 +43,100 @@ fn counts_in(words: &Words<'_>) -> Result<Config, Cause>
 /// The step that a line writes: one of spaces, frames or PASIDs, or else one of the others.
 #[tactic(auto, unfolding(crate::specs::Grammar::step_of))]
 pub(crate) fn step_in(words: &Words<'_>) -> Result<Step, Cause>
-    ensures { result ≡ step_of words.now }
+    ensures { result ≡ step_of (words_of words.now) }
 {
     if words.begins_with(b"space") {
-        space_in(words)
-    } else if words.begins_with(b"drop") {
-        drop_in(words)
-    } else if words.begins_with(b"map") {
-        map_in(words)
-    } else if words.begins_with(b"unmap") {
-        unmap_in(words)
-    } else if words.begins_with(b"unmapr") {
-        unmapr_in(words)
-    } else if words.begins_with(b"look") {
-        look_in(words)
-    } else if words.begins_with(b"bearer") {
-        bearer_in(words)
-    } else {
-        host_step_in(words)
+        return space_in(words);
     }
+    if words.begins_with(b"drop") {
+        return drop_in(words);
+    }
+    if words.begins_with(b"map") {
+        return map_in(words);
+    }
+    if words.begins_with(b"unmap") {
+        return unmap_in(words);
+    }
+    if words.begins_with(b"unmapr") {
+        return unmapr_in(words);
+    }
+    if words.begins_with(b"look") {
+        return look_in(words);
+    }
+    if words.begins_with(b"bearer") {
+        return bearer_in(words);
+    }
+    host_step_in(words)
 }
 
 /// A step of bindings, units or workers, or else one of the others.
 #[tactic(auto, unfolding(crate::specs::Grammar::host_step))]
 fn host_step_in(words: &Words<'_>) -> Result<Step, Cause>
-    ensures { result ≡ host_step words.now }
+    ensures { result ≡ host_step (words_of words.now) }
 {
     if words.begins_with(b"bind") {
-        bind_in(words)
-    } else if words.begins_with(b"unbind") {
-        unbind_in(words)
-    } else if words.begins_with(b"advance") {
-        advance_in(words)
-    } else if words.begins_with(b"pump") {
-        pump_in(words)
-    } else if words.begins_with(b"serve") {
-        serve_in(words)
-    } else if words.begins_with(b"reset") {
-        reset_in(words)
-    } else if words.begins_with(b"take") {
-        take_in(words)
-    } else if words.begins_with(b"answer") {
-        answer_in(words)
-    } else {
-        endpoint_step_in(words)
+        return bind_in(words);
     }
+    if words.begins_with(b"unbind") {
+        return unbind_in(words);
+    }
+    if words.begins_with(b"advance") {
+        return advance_in(words);
+    }
+    if words.begins_with(b"pump") {
+        return pump_in(words);
+    }
+    if words.begins_with(b"serve") {
+        return serve_in(words);
+    }
+    if words.begins_with(b"reset") {
+        return reset_in(words);
+    }
+    if words.begins_with(b"take") {
+        return take_in(words);
+    }
+    if words.begins_with(b"answer") {
+        return answer_in(words);
+    }
+    endpoint_step_in(words)
 }
 
 /// A step of endpoints or of the link.
 #[tactic(auto, unfolding(crate::specs::Grammar::endpoint_step))]
 fn endpoint_step_in(words: &Words<'_>) -> Result<Step, Cause>
-    ensures { result ≡ endpoint_step words.now }
+    ensures { result ≡ endpoint_step (words_of words.now) }
 {
     if words.begins_with(b"ask") {
-        ask_in(words)
-    } else if words.begins_with(b"use") {
-        use_in(words)
-    } else if words.begins_with(b"end") {
-        end_in(words)
-    } else if words.begins_with(b"evict") {
-        evict_in(words)
-    } else if words.begins_with(b"fault") {
-        fault_in(words)
-    } else if words.begins_with(b"finish") {
-        finish_in(words)
-    } else if words.begins_with(b"quit") {
-        quit_in(words)
-    } else if words.begins_with(b"deliver") {
-        deliver_in(words)
-    } else {
-        Err(Cause::UnknownStep)
+        return ask_in(words);
     }
+    if words.begins_with(b"use") {
+        return use_in(words);
+    }
+    if words.begins_with(b"end") {
+        return end_in(words);
+    }
+    if words.begins_with(b"evict") {
+        return evict_in(words);
+    }
+    if words.begins_with(b"fault") {
+        return fault_in(words);
+    }
+    if words.begins_with(b"finish") {
+        return finish_in(words);
+    }
+    if words.begins_with(b"quit") {
+        return quit_in(words);
+    }
+    if words.begins_with(b"deliver") {
+        return deliver_in(words);
+    }
+    Err(Cause::UnknownStep)
 }
 
 /// `space`.
 #[tactic(auto, unfolding(crate::specs::Grammar::space_step))]
 fn space_in(words: &Words<'_>) -> Result<Step, Cause>
-    ensures { result ≡ space_step words.now }
+    ensures { result ≡ space_step (words_of words.now) }
 {
     words.exactly(1)?;
     Ok(Step::Space)
@@ -126,7 +145,7 @@ fn space_in(words: &Words<'_>) -> Result<Step, Cause>
 /// `drop S`.
 #[tactic(auto, unfolding(crate::specs::Grammar::drop_step))]
 fn drop_in(words: &Words<'_>) -> Result<Step, Cause>
-    ensures { result ≡ drop_step words.now }
+    ensures { result ≡ drop_step (words_of words.now) }
 {
     let space = words.one_number()?;
     Ok(Step::DropSpace { space })
@@ -135,7 +154,7 @@ fn drop_in(words: &Words<'_>) -> Result<Step, Cause>
 /// `map S PAGE r` or `map S PAGE w`.
 #[tactic(auto, unfolding(crate::specs::Grammar::map_step))]
 fn map_in(words: &Words<'_>) -> Result<Step, Cause>
-    ensures { result ≡ map_step words.now }
+    ensures { result ≡ map_step (words_of words.now) }
 {
     words.exactly(4)?;
     let space = words.number(1)?;
@@ -147,23 +166,19 @@ fn map_in(words: &Words<'_>) -> Result<Step, Cause>
 /// `unmap S PAGE`, of one page, or `unmap S PAGE COUNT`.
 #[tactic(auto, unfolding(crate::specs::Grammar::unmap_step))]
 fn unmap_in(words: &Words<'_>) -> Result<Step, Cause>
-    ensures { result ≡ unmap_step words.now }
+    ensures { result ≡ unmap_step (words_of words.now) }
 {
     words.either(3, 4)?;
     let space = words.number(1)?;
     let page = words.number(2)?;
-    let count = if words.len() == 4 {
-        words.number(3)?
-    } else {
-        1
-    };
+    let count = if words.has(4) { words.number(3)? } else { 1 };
     Ok(Step::Unmap { space, page, count })
 }
 
 /// `unmapr S PAGE K`.
 #[tactic(auto, unfolding(crate::specs::Grammar::unmapr_step))]
 fn unmapr_in(words: &Words<'_>) -> Result<Step, Cause>
-    ensures { result ≡ unmapr_step words.now }
+    ensures { result ≡ unmapr_step (words_of words.now) }
 {
     words.exactly(4)?;
     let space = words.number(1)?;
@@ -175,7 +190,7 @@ fn unmapr_in(words: &Words<'_>) -> Result<Step, Cause>
 /// `look F`.
 #[tactic(auto, unfolding(crate::specs::Grammar::look_step))]
 fn look_in(words: &Words<'_>) -> Result<Step, Cause>
-    ensures { result ≡ look_step words.now }
+    ensures { result ≡ look_step (words_of words.now) }
 {
     let frame = words.one_number()?;
     Ok(Step::Look { frame })
@@ -184,7 +199,7 @@ fn look_in(words: &Words<'_>) -> Result<Step, Cause>
 /// `bearer P`.
 #[tactic(auto, unfolding(crate::specs::Grammar::bearer_step))]
 fn bearer_in(words: &Words<'_>) -> Result<Step, Cause>
-    ensures { result ≡ bearer_step words.now }
+    ensures { result ≡ bearer_step (words_of words.now) }
 {
     let pasid = words.one_number()?;
     Ok(Step::Bearer { pasid })
@@ -193,7 +208,7 @@ fn bearer_in(words: &Words<'_>) -> Result<Step, Cause>
 /// `bind E S`.
 #[tactic(auto, unfolding(crate::specs::Grammar::bind_step))]
 fn bind_in(words: &Words<'_>) -> Result<Step, Cause>
-    ensures { result ≡ bind_step words.now }
+    ensures { result ≡ bind_step (words_of words.now) }
 {
     words.exactly(3)?;
     let endpoint = words.number(1)?;
@@ -204,7 +219,7 @@ fn bind_in(words: &Words<'_>) -> Result<Step, Cause>
 /// `unbind B`.
 #[tactic(auto, unfolding(crate::specs::Grammar::unbind_step))]
 fn unbind_in(words: &Words<'_>) -> Result<Step, Cause>
-    ensures { result ≡ unbind_step words.now }
+    ensures { result ≡ unbind_step (words_of words.now) }
 {
     let binding = words.one_number()?;
     Ok(Step::Unbind { binding })
@@ -213,7 +228,7 @@ fn unbind_in(words: &Words<'_>) -> Result<Step, Cause>
 /// `advance B`.
 #[tactic(auto, unfolding(crate::specs::Grammar::advance_step))]
 fn advance_in(words: &Words<'_>) -> Result<Step, Cause>
-    ensures { result ≡ advance_step words.now }
+    ensures { result ≡ advance_step (words_of words.now) }
 {
     let binding = words.one_number()?;
     Ok(Step::Advance { binding })
@@ -222,7 +237,7 @@ fn advance_in(words: &Words<'_>) -> Result<Step, Cause>
 /// `pump E`.
 #[tactic(auto, unfolding(crate::specs::Grammar::pump_step))]
 fn pump_in(words: &Words<'_>) -> Result<Step, Cause>
-    ensures { result ≡ pump_step words.now }
+    ensures { result ≡ pump_step (words_of words.now) }
 {
     let endpoint = words.one_number()?;
     Ok(Step::Pump { endpoint })
@@ -231,7 +246,7 @@ fn pump_in(words: &Words<'_>) -> Result<Step, Cause>
 /// `serve E`.
 #[tactic(auto, unfolding(crate::specs::Grammar::serve_step))]
 fn serve_in(words: &Words<'_>) -> Result<Step, Cause>
-    ensures { result ≡ serve_step words.now }
+    ensures { result ≡ serve_step (words_of words.now) }
 {
     let endpoint = words.one_number()?;
     Ok(Step::Serve { endpoint })
@@ -240,7 +255,7 @@ fn serve_in(words: &Words<'_>) -> Result<Step, Cause>
 /// `reset E`.
 #[tactic(auto, unfolding(crate::specs::Grammar::reset_step))]
 fn reset_in(words: &Words<'_>) -> Result<Step, Cause>
-    ensures { result ≡ reset_step words.now }
+    ensures { result ≡ reset_step (words_of words.now) }
 {
     let endpoint = words.one_number()?;
     Ok(Step::Reset { endpoint })
@@ -249,7 +264,7 @@ fn reset_in(words: &Words<'_>) -> Result<Step, Cause>
 /// `take W`.
 #[tactic(auto, unfolding(crate::specs::Grammar::take_step))]
 fn take_in(words: &Words<'_>) -> Result<Step, Cause>
-    ensures { result ≡ take_step words.now }
+    ensures { result ≡ take_step (words_of words.now) }
 {
     let worker = words.one_number()?;
     Ok(Step::Take { worker })
@@ -258,7 +273,7 @@ fn take_in(words: &Words<'_>) -> Result<Step, Cause>
 /// `answer W V`.
 #[tactic(auto, unfolding(crate::specs::Grammar::answer_step))]
 fn answer_in(words: &Words<'_>) -> Result<Step, Cause>
-    ensures { result ≡ answer_step words.now }
+    ensures { result ≡ answer_step (words_of words.now) }
 {
     words.exactly(3)?;
     let worker = words.number(1)?;
@@ -269,7 +284,7 @@ fn answer_in(words: &Words<'_>) -> Result<Step, Cause>
 /// `ask E P PAGE`.
 #[tactic(auto, unfolding(crate::specs::Grammar::ask_step))]
 fn ask_in(words: &Words<'_>) -> Result<Step, Cause>
-    ensures { result ≡ ask_step words.now }
+    ensures { result ≡ ask_step (words_of words.now) }
 {
     words.exactly(4)?;
     let endpoint = words.number(1)?;
@@ -285,7 +300,7 @@ fn ask_in(words: &Words<'_>) -> Result<Step, Cause>
 /// `use E P PAGE r` or `use E P PAGE w`.
 #[tactic(auto, unfolding(crate::specs::Grammar::use_step))]
 fn use_in(words: &Words<'_>) -> Result<Step, Cause>
-    ensures { result ≡ use_step words.now }
+    ensures { result ≡ use_step (words_of words.now) }
 {
     words.exactly(5)?;
     let endpoint = words.number(1)?;
@@ -303,7 +318,7 @@ fn use_in(words: &Words<'_>) -> Result<Step, Cause>
 /// `end E U`.
 #[tactic(auto, unfolding(crate::specs::Grammar::end_step))]
 fn end_in(words: &Words<'_>) -> Result<Step, Cause>
-    ensures { result ≡ end_step words.now }
+    ensures { result ≡ end_step (words_of words.now) }
 {
     words.exactly(3)?;
     let endpoint = words.number(1)?;
@@ -314,7 +329,7 @@ fn end_in(words: &Words<'_>) -> Result<Step, Cause>
 /// `evict E P PAGE`.
 #[tactic(auto, unfolding(crate::specs::Grammar::evict_step))]
 fn evict_in(words: &Words<'_>) -> Result<Step, Cause>
-    ensures { result ≡ evict_step words.now }
+    ensures { result ≡ evict_step (words_of words.now) }
 {
     words.exactly(4)?;
     let endpoint = words.number(1)?;
@@ -330,7 +345,7 @@ fn evict_in(words: &Words<'_>) -> Result<Step, Cause>
 /// `fault E P PAGE A G L`.
 #[tactic(auto, unfolding(crate::specs::Grammar::fault_step))]
 fn fault_in(words: &Words<'_>) -> Result<Step, Cause>
-    ensures { result ≡ fault_step words.now }
+    ensures { result ≡ fault_step (words_of words.now) }
 {
     words.exactly(7)?;
     let endpoint = words.number(1)?;
@@ -353,7 +368,7 @@ fn fault_in(words: &Words<'_>) -> Result<Step, Cause>
 /// `finish E VECTOR COUNT`.
 #[tactic(auto, unfolding(crate::specs::Grammar::finish_step))]
 fn finish_in(words: &Words<'_>) -> Result<Step, Cause>
-    ensures { result ≡ finish_step words.now }
+    ensures { result ≡ finish_step (words_of words.now) }
 {
     words.exactly(4)?;
     let endpoint = words.number(1)?;
@@ -369,7 +384,7 @@ fn finish_in(words: &Words<'_>) -> Result<Step, Cause>
 /// `quit E P`.
 #[tactic(auto, unfolding(crate::specs::Grammar::quit_step))]
 fn quit_in(words: &Words<'_>) -> Result<Step, Cause>
-    ensures { result ≡ quit_step words.now }
+    ensures { result ≡ quit_step (words_of words.now) }
 {
     words.exactly(3)?;
     let endpoint = words.number(1)?;
@@ -380,7 +395,7 @@ fn quit_in(words: &Words<'_>) -> Result<Step, Cause>
 /// `deliver M`.
 #[tactic(auto, unfolding(crate::specs::Grammar::deliver_step))]
 fn deliver_in(words: &Words<'_>) -> Result<Step, Cause>
-    ensures { result ≡ deliver_step words.now }
+    ensures { result ≡ deliver_step (words_of words.now) }
 {
     let message = words.one_number()?;
     Ok(Step::Deliver { message })

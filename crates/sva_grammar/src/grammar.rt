@@ -1,3 +1,5 @@
+//! The laws of the grammar.
+
 ghost use Rattle.sva_grammar.specs.Laws.{LinesAreCounted, LinesAreNamed, NumbersAreDecimal, ScriptsAreRead, VectorsAreHexadecimal};
 
 /// What holds of the grammar: a word is a number exactly where it is that number's decimal text, and a vector exactly

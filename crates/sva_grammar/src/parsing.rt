@@ -1,3 +1,5 @@
+//! The reading of a whole text: its config and its steps.
+
 ghost use Rattle.std.specs.Prelude.{◌≡◌, ◌≢◌, ◌≤◌, Err, length};
 ghost use Rattle.sva_grammar.specs.Grammar.{at_line, config_of, lines_of, step_of, steps_of, words_of, scenario_of, Reads};
 
@@ -44,21 +46,26 @@ pub fn parse(alloc: Global, text: &[u8]) -> Result<Scenario, ParseFault>
         return Err(fault(0, Cause::TooLarge));
     }
     let mut lines = Lines::new(text);
-    let Some((number, line)) = lines.next() else {
+    let mut words = Words::new();
+    let Some(number) = lines.next(&mut words) else {
         return Err(fault(count as u64 + 1, Cause::NoConfig));
     };
-    let config = config_at(number, line)?;
-    let steps = steps_in(alloc, lines)?;
+    let config = config_at(number, &words)?;
+    let steps = steps_in(alloc, lines, words)?;
     Ok(Scenario { config, steps })
 }
 
-/// The steps that the lines write, one a line.
-fn steps_in(alloc: Global, mut lines: Lines<'_>) -> Result<Vec<Step>, ParseFault>
+/// The steps that the lines write, one a line. Each line takes the place of the words.
+fn steps_in<'a>(
+    alloc: Global,
+    mut lines: Lines<'a>,
+    mut words: Words<'a>,
+) -> Result<Vec<Step>, ParseFault>
     ensures { Reads (λ steps. steps.items) result (steps_of lines.entry) }
 {
     let mut steps = Vec::new(alloc);
-    while let Some((number, line)) = lines.next() {
-        let step = step_at(number, line)?;
+    while let Some(number) = lines.next(&mut words) {
+        let step = step_at(number, &words)?;
         if steps.push(step).is_err() {
             return Err(ParseFault::Memory);
         }
@@ -67,22 +74,22 @@ fn steps_in(alloc: Global, mut lines: Lines<'_>) -> Result<Vec<Step>, ParseFault
 }
 
 /// The config that a line writes.
-fn config_at(number: u64, line: &[u8]) -> Result<Config, ParseFault>
-    ensures read { Reads (λ config. config) result (at_line number (config_of (words_of line.now))) }
+fn config_at(number: u64, words: &Words<'_>) -> Result<Config, ParseFault>
+    ensures read { Reads (λ config. config) result (at_line number (config_of (words_of words.now))) }
     ensures memory { result ≢ Err ParseFault.Memory }
 {
-    match config_in(&Words::new(line)) {
+    match config_in(words) {
         Ok(config) => Ok(config),
         Err(cause) => Err(fault(number, cause)),
     }
 }
 
 /// The step that a line writes.
-fn step_at(number: u64, line: &[u8]) -> Result<Step, ParseFault>
-    ensures read { Reads (λ step. step) result (at_line number (step_of (words_of line.now))) }
+fn step_at(number: u64, words: &Words<'_>) -> Result<Step, ParseFault>
+    ensures read { Reads (λ step. step) result (at_line number (step_of (words_of words.now))) }
     ensures memory { result ≢ Err ParseFault.Memory }
 {
-    match step_in(&Words::new(line)) {
+    match step_in(words) {
         Ok(step) => Ok(step),
         Err(cause) => Err(fault(number, cause)),
     }

@@ -1,4 +1,13 @@
-pub use Rattle.sva_kept.proofs.Bound
-pub use Rattle.sva_kept.proofs.Deciding
-pub use Rattle.sva_kept.proofs.Devices
-pub use Rattle.sva_kept.proofs.Responses
+pub mod Parts
+pub mod Changes
+pub mod Decisions
+pub mod Housed
+pub mod Hosting
+pub mod Sounds
+pub mod Openings
+pub mod Takes
+pub mod Resetting
+pub mod Advances
+pub mod Filing
+pub mod Answered
+pub mod Replies

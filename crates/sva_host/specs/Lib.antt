@@ -1,4 +1,5 @@
-pub use Rattle.sva_kept.specs.Steps
-pub use Rattle.sva_kept.specs.Arriving
-pub use Rattle.sva_kept.specs.Replying
-pub use Rattle.sva_kept.specs.StageReading
+pub use Rattle.sva_host_state.specs.Steps
+pub mod Seen
+pub mod Inner
+pub mod Applied
+pub mod Advancing

@@ -1,53 +1,39 @@
-//! Page requests (PCI Express Base 5.0, section 10.4.1) that wait at the units.
+//! Page requests (PCI Express Base 5.0, section 10.4.1) that are filed.
 
-ghost use Rattle.std.specs.Prelude.{◌≡◌, ◌<◌, drop, length, option_map, slice_get};
+ghost use Rattle.std.specs.Prelude.{◌≡◌, ◌≢◌, Err, []};
+ghost use Rattle.sva_step.specs.declared.refusals.Refusal.TheVariants as refusal;
 ghost use Rattle.sva_step.specs.declared.steps.Step.TheVariants as step;
-ghost use Rattle.sva_model.specs.Wire.{BindingWire};
-ghost use Rattle.sva_labels.specs.Finding.{bearer, part_of};
-ghost use Rattle.sva_labels.specs.Moves.{with_part};
-ghost use Rattle.sva_unit.specs.Seen.{request_seen};
-ghost use Rattle.sva_kept.specs.Steps.{MayStep};
+ghost use Rattle.sva_labels.specs.Finding.{part_of};
+ghost use Rattle.sva_labels.specs.Sound.{IsSound};
+ghost use Rattle.sva_host_state.specs.Steps.{ByLabels};
 
-use sva_kept::{Kept, port};
-use sva_msg::PageRequest;
-use sva_step::Refusal;
+use crate::host::Host;
+use sva_step::{Answer, Refusal};
 
-/// What refuses that a page request is filed: `NoSuchEndpoint` where the endpoint isn't there, `Resetting` where its unit is
-/// in reset.
-pub fn may_serve(host: &Kept, endpoint: u64) -> Result<(), Refusal>
-    ensures { MayStep host.now (step.Serve endpoint) result }
-{
-    let at = port(host, endpoint)?;
-    if host.ports[at].unit.is_open() {
-        Ok(())
-    } else {
-        Err(Refusal::Resetting)
+impl Host {
+    /// Files the oldest page request that waits at the unit of an endpoint, under the binding that bears its PASID; with the last
+    /// one of its group a job is made, behind all others. `NoSuchEndpoint` where the endpoint isn't there, `Resetting` where its
+    /// unit is in reset, and `OutOfMemory` where a growth is refused; none is asked for where no page request waits.
+    pub(crate) fn serve(&mut self, endpoint: u64) -> Result<Answer, Refusal>
+        requires { IsSound self.old }
+        ensures step { ByLabels self.old (step.Serve endpoint) result self.new }
+        ensures memory { (part_of self.old endpoint).page_queue ≡ [] → result ≢ Err refusal.OutOfMemory }
+    {
+        sva_host_spaces::may_serve(&self.state, endpoint)?;
+        let Some(request) = sva_host_spaces::first_request(&self.state, endpoint) else {
+            return Ok(Answer::Empty);
+        };
+        let Some(binding) = sva_host_spaces::bearer_at(&self.state, endpoint, request.pasid) else {
+            unreachable!()
+        };
+        if self.job_table.reserve(endpoint).is_err() {
+            return Err(Refusal::OutOfMemory);
+        }
+        sva_host_spaces::take_request(&mut self.state, endpoint);
+        if self.job_table.file(endpoint, binding, request) {
+            Ok(Answer::Job)
+        } else {
+            Ok(Answer::Part)
+        }
     }
-}
-
-/// The number of the binding that bears a PASID at an endpoint, below 2^63; `None` where none bears it there.
-pub fn bearer_at(host: &Kept, endpoint: u64, pasid: u32) -> Option<u64>
-    ensures { result ≡ option_map (λ (b : BindingWire). b.binding) (bearer host.now endpoint pasid) }
-{
-    match host.bindings.place_under(endpoint, pasid) {
-        Some(place) => Some(place.binding),
-        None => None,
-    }
-}
-
-/// The oldest page request that waits at the unit of this endpoint, which is there; `None` where none waits.
-pub fn first_request(host: &Kept, endpoint: u64) -> Option<PageRequest>
-    requires { endpoint < length host.now.parts }
-    ensures { option_map request_seen result ≡ slice_get (part_of host.now endpoint).page_queue 0 }
-{
-    host.ports[endpoint as usize].unit.first_request()
-}
-
-/// Takes out the oldest page request that waits at the unit of this endpoint, which is there. Nothing changes where none
-/// waits.
-pub fn take_request(host: &mut Kept, endpoint: u64)
-    requires { endpoint < length host.old.parts }
-    ensures { host.new ≡ with_part host.old endpoint (record (part_of host.old endpoint) { page_queue = drop 1 (part_of host.old endpoint).page_queue }) }
-{
-    let _request = host.ports[endpoint as usize].unit.take_request();
 }

@@ -1,5 +1,6 @@
 -- The calls that change the tags of a unit, and what holds after every list of them.
 use Rattle.std.specs.Prelude.{◌≡◌, ℕ, ◌<◌, ◌≤◌, ◌↔◌, Option, Some, List, [], ◌∷◌, ◌++◌, length, All, IsTrue, if◌then◌else◌}
+use Rattle.sva_step.specs.Limits
 use Rattle.sva_itags.specs.Vector.{is_named}
 use Rattle.sva_itags.specs.Tags.{AreTags, IsBusy, all_free, lowest_free, taken, completed, freed_vector}
 use Rattle.sva_itags.specs.declared.itags.Busy.{Busy}
@@ -23,7 +24,7 @@ after_all places (call ∷ calls) = after_all (after places call) calls
 
 -- a count of completions is 1 to 8
 abbrev pub IsPermitted : Call → Type 0
-IsPermitted (Arrived vector count) = (0 < count) × (count ≤ 8)
+IsPermitted (Arrived vector count) = (0 < count) × (count ≤ Limits.most_completions)
 IsPermitted _ = Unit {0}
 
 -- After every list of calls there are 32 tags, each of them free or busy with fewer completions than its count.

@@ -2,6 +2,7 @@
 -- places, the place of tag T at index T, None for a free tag.
 use Rattle.std.specs.Prelude.{◌≡◌, ℕ, suc, ◌+◌, ◌<◌, ◌≤◌, ◌==◌, Bool, ◌&&◌, Option, Some, None, List, [], ◌∷◌, is_some, is_none, map, replicate, position}
 use Rattle.std.specs.Prelude.{length, All, slice_get, IsTrue, slice_set, if◌then◌else◌}
+use Rattle.sva_step.specs.Limits
 use Rattle.sva_itags.specs.Vector.{is_named, vector_of}
 use Rattle.sva_itags.specs.declared.itags.Busy.{Busy}
 use Rattle.sva_itags.specs.declared.itags.Busy.TheVariants.{Fresh, Counting}
@@ -9,7 +10,7 @@ use Rattle.sva_itags.specs.declared.itags.Busy.TheVariants.{Fresh, Counting}
 -- a busy tag waits for a completion at least: none came yet, or fewer than its count, which is 1 to 8
 abbrev pub IsWaiting : Busy → Type 0
 IsWaiting Fresh = Unit {0}
-IsWaiting (Counting count arrived) = (0 < arrived) × (arrived < count) × (count ≤ 8)
+IsWaiting (Counting count arrived) = (0 < arrived) × (arrived < count) × (count ≤ Limits.most_completions)
 
 -- a tag is free, or it waits for a completion
 abbrev pub IsPlace : Option Busy → Type 0
@@ -18,11 +19,11 @@ IsPlace (Some busy) = IsWaiting busy
 
 -- there are 32 tags, each of them free or waiting
 abbrev pub AreTags : List (Option Busy) → Type 0
-AreTags places = (length places ≡ 32) × All IsPlace places
+AreTags places = (length places ≡ Limits.itags) × All IsPlace places
 
 -- every tag is free
 abbrev pub all_free : List (Option Busy)
-all_free = replicate 32 None
+all_free = replicate Limits.itags None
 
 -- the vector of the busy tags
 abbrev pub busy_vector : List (Option Busy) → ℕ

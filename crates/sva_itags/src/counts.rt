@@ -1,3 +1,5 @@
+//! The count of the completions of an Invalidate Request.
+
 ghost use Rattle.std.specs.Prelude.{◌≡◌, ◌≢◌, ℕ, ◌<◌, ◌≤◌};
 
 use std::marker::Model;

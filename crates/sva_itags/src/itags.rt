@@ -9,9 +9,7 @@ use crate::counts::Count;
 use crate::vectors::{is_tag_named, with_bit};
 use arrayvec::ArrayVec;
 use std::marker::Model;
-
-/// How many tags a unit has: an ITag has 5 bits (PCI Express Base 5.0, section 10.3.1).
-const TAGS: usize = 32;
+use sva_step::ITAGS;
 
 /// A tag in use, and how many of the completions that it waits for have arrived.
 #[derive(Clone, Copy)]
@@ -103,7 +101,7 @@ fn first_free(places: &[Option<Busy>]) -> Option<usize>
 /// The 32 tags of a unit. No call takes memory.
 #[derive(Drop)]
 pub struct Itags {
-    places: ArrayVec<Option<Busy>, TAGS>,
+    places: ArrayVec<Option<Busy>, ITAGS>,
 }
 
 impl Model for Itags {
@@ -132,7 +130,7 @@ impl Itags {
         ensures { result ≡ all_free }
     {
         Itags {
-            places: ArrayVec::from([None; TAGS]),
+            places: ArrayVec::from([None; ITAGS]),
         }
     }
 

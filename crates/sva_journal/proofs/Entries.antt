@@ -11,8 +11,8 @@ use Rattle.sva_model.specs.Claims.{Fits}
 use Rattle.sva_model.specs.Steps.{Reply, reply, replies, next, world_after}
 use Rattle.sva_model.specs.Wire.{Wire, EndpointWire, UseWire, use_wire, part_wire, wire}
 use Rattle.sva_model.specs.Journal.{IsLegal as IsLegalJournal, steps_of}
-use Rattle.sva_labels.specs.Tallies.{IsTallied, unreleased, taken_in, slots_in, slots_taken}
-use Rattle.sva_labels.proofs.TalliedWorlds.{always_tallied}
+use Rattle.sva_refinement.specs.Tallies.{IsTallied, unreleased, taken_in, slots_in, slots_taken}
+use Rattle.sva_refinement.proofs.TalliedWorlds.{always_tallied}
 use Rattle.sva_laws.proofs.Journals.{more_legal}
 use Rattle.sva_laws.proofs.Lookback.{after_one}
 use Rattle.sva_core.specs.Reached.{FollowsAt, Follows}

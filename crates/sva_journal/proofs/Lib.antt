@@ -1,3 +1,4 @@
 pub mod Entries
 pub mod Same
 pub mod Suiting
+pub mod TokenLemmas

@@ -7,7 +7,7 @@ use Rattle.sva_model.specs.State.PasidRule.{PerSpace}
 use Rattle.sva_model.specs.State.{World}
 use Rattle.sva_model.specs.Steps.{Reply, reply, counts}
 use Rattle.sva_model.specs.Wire.{wire}
-use Rattle.sva_labels.specs.Tallies.{unreleased, slots_taken, binds, releases, begins, ends}
+use Rattle.sva_refinement.specs.Tallies.{unreleased, slots_taken, binds, releases, begins, ends}
 use Rattle.sva_model.specs.Journal.{Entry as DefinedEntry, IsLegal as IsLegalJournal, world_of as world_of_journal}
 use Rattle.sva_journal.specs.declared.journal.Entry.{Entry}
 

@@ -5,7 +5,7 @@ ghost use Rattle.std.specs.Prelude.{◌≡◌, ◌≢◌, true, false};
 use crate::journal::Entry;
 use sva_step::{Answer, Refusal, Step};
 
-// Tells that two entries are the same.
+/// Tells that two entries are the same.
 pub(crate) fn is_same_entry(one: &Entry, other: &Entry) -> bool
     ensures yes { result ≡ true → one.now ≡ other.now }
     ensures no { result ≡ false → one.now ≢ other.now }
@@ -15,7 +15,7 @@ pub(crate) fn is_same_entry(one: &Entry, other: &Entry) -> bool
         && is_same_answer(&one.answer, &other.answer)
 }
 
-// Tells that two steps are the same.
+/// Tells that two steps are the same.
 fn is_same_step(one: &Step, other: &Step) -> bool
     ensures yes { result ≡ true → one.now ≡ other.now }
     ensures no { result ≡ false → one.now ≢ other.now }
@@ -23,7 +23,7 @@ fn is_same_step(one: &Step, other: &Step) -> bool
     one == other
 }
 
-// Tells that two answers are the same.
+/// Tells that two answers are the same.
 fn is_same_answer(one: &Result<Answer, Refusal>, other: &Result<Answer, Refusal>) -> bool
     ensures yes { result ≡ true → one.now ≡ other.now }
     ensures no { result ≡ false → one.now ≢ other.now }
@@ -35,7 +35,7 @@ fn is_same_answer(one: &Result<Answer, Refusal>, other: &Result<Answer, Refusal>
     }
 }
 
-// Tells that two answers of accepted steps are the same.
+/// Tells that two answers of accepted steps are the same.
 fn is_answer(one: &Answer, other: &Answer) -> bool
     ensures yes { result ≡ true → one.now ≡ other.now }
     ensures no { result ≡ false → one.now ≢ other.now }

@@ -4,11 +4,13 @@ ghost use Rattle.std.specs.Prelude.{◌≡◌, ◌≢◌, ◌↔◌, ◌+◌, �
 ghost use Rattle.sva_step.specs.declared.refusals.Refusal.TheVariants as refusal;
 ghost use Rattle.sva_step.specs.Limits.{Fits};
 ghost use Rattle.sva_core.specs.Reached.{IsOpenRefusal};
-ghost use Rattle.sva_labels.specs.Tallies.{binds, releases, begins, ends};
+ghost use Rattle.sva_refinement.specs.Tallies.{binds, releases, begins, ends};
 ghost use Rattle.sva_journal.specs.Journal.{IsLegal, entry_of, answer_of, with_entry, empty_of, CountsFollow, CountsOf, bindings_of, uses_of};
+ghost use Rattle.sva_journal.specs.Receipts.{Stands};
 ghost use Rattle.sva_journal.specs.Suiting.{Suits};
 
 use crate::comparing::is_same_entry;
+use crate::receipts::Receipt;
 use std::alloc::{AllocError, Global};
 use std::marker::Model;
 use sva_core::World;
@@ -32,7 +34,7 @@ pub struct Journaled {
     config: Config,
     world: World,
     entries: Vec<Entry>,
-    // How many bindings are unreleased, and how many use slots are taken.
+    /// How many bindings are unreleased, and how many use slots are taken.
     bindings: u64,
     uses: u64,
 }
@@ -40,7 +42,7 @@ pub struct Journaled {
 impl Model for Journaled {
     ghost use Rattle.std.specs.Prelude.{◌≡◌, ◌≤◌, length};
     ghost use Rattle.sva_model.specs.Wire.{wire};
-    ghost use Rattle.sva_labels.specs.Tallies.{unreleased, slots_taken};
+    ghost use Rattle.sva_refinement.specs.Tallies.{unreleased, slots_taken};
     ghost use Rattle.sva_journal.specs.Journal.{History, IsLegal, world_of};
 
     ghost Value = { History };
@@ -144,6 +146,20 @@ impl Journaled {
         }
     }
 
+    /// Tells that a receipt stands at its place, as a call of this port.
+    pub fn stands(&self, port: u64, receipt: &Receipt) -> bool
+        ensures yes { result ≡ true → Stands self.now.entries port receipt.now }
+        ensures no { result ≡ false → Stands self.now.entries port receipt.now → ⊥ }
+        ensures legal { IsLegal self.now }
+    {
+        let told = Entry {
+            port,
+            step: receipt.step,
+            answer: receipt.answer,
+        };
+        self.has(receipt.place, &told)
+    }
+
     /// How many frames are free, mapped and withheld.
     pub fn counts(&self) -> Counts
         ensures counts { CountsOf self.now result }
@@ -153,7 +169,7 @@ impl Journaled {
     }
 }
 
-// How many bindings there are behind an answer.
+/// How many bindings there are behind an answer.
 fn bindings_after(before: u64, answer: &Result<Answer, Refusal>) -> u64
     requires room { before + 1 < 2 ^ 64 }
     requires some { releases answer.now ≤ before + binds answer.now }
@@ -167,7 +183,7 @@ fn bindings_after(before: u64, answer: &Result<Answer, Refusal>) -> u64
     }
 }
 
-// How many use slots are taken behind an answer.
+/// How many use slots are taken behind an answer.
 fn uses_after(before: u64, answer: &Result<Answer, Refusal>) -> u64
     requires room { before + 1 < 2 ^ 64 }
     requires some { ends answer.now ≤ before + begins answer.now }
@@ -181,7 +197,7 @@ fn uses_after(before: u64, answer: &Result<Answer, Refusal>) -> u64
     }
 }
 
-// Tells that memory lacked.
+/// Tells that memory lacked.
 fn is_out_of_memory(answer: &Result<Answer, Refusal>) -> bool
     ensures yes { result ≡ true → answer.now ≡ Err refusal.OutOfMemory }
     ensures no { result ≡ false → answer.now ≢ Err refusal.OutOfMemory }

@@ -3,6 +3,7 @@
 use Rattle.std.specs.Prelude.{ℕ, zero, suc, ◌+◌, Bool, true, false, ◌&&◌, not, ◌==◌, nat_lt, nat_le, if◌then◌else◌, is_some, is_none, Option, Some, None}
 use Rattle.std.specs.Prelude.{List, [], ◌∷◌, length, slice_index_or, position}
 use Rattle.std.specs.List.{find, list_any}
+use Rattle.sva_step.specs.Limits
 use Rattle.sva_model.specs.Words.{tabulate}
 use Rattle.sva_model.specs.Message.{Message}
 use Rattle.sva_model.specs.Message.Message.{StartMessage, StopMessage, ResetMessage, CompletionMessage, InvalidateMessage, ResponseMessage, RequestMessage}
@@ -18,7 +19,7 @@ use Rattle.sva_model.specs.Wire.{Wire, PageWire, PlaceWire, BindingWire, StageWi
 use Rattle.sva_model.specs.Wire.{TranslationWire, UseWire, TakenWire, GroupWire, BusyWire, JobWire, FlightWire}
 use Rattle.sva_model.specs.Wire.StageWire.{LiveWire, StoppingWire, DrainingWire}
 use Rattle.sva_model.specs.Wire.UseWire.{RunningWire}
-pub use Rattle.sva_wire.specs.Host.{pages_of, page_at, is_free, lowest_free}
+pub use Rattle.sva_labels.specs.Places.{pages_of, page_at, is_free, lowest_free}
 
 -- Spaces and their pages.
 
@@ -104,18 +105,18 @@ is_before_invalidating _ = false
 abbrev pub idle_device : DeviceWire
 idle_device =
     record {
-      pasids = tabulate 32 (λ pasid. Off);
-      tags = tabulate 32 (λ tag. None);
+      pasids = tabulate Limits.pasids (λ pasid. Off);
+      tags = tabulate Limits.request_tags (λ tag. None);
       cache = [];
-      slots = tabulate 16 (λ slot. None);
-      taken = tabulate 32 (λ itag. None);
-      groups = tabulate 32 (λ index. None);
+      slots = tabulate Limits.use_slots (λ slot. None);
+      taken = tabulate Limits.itags (λ itag. None);
+      groups = tabulate Limits.groups (λ index. None);
       is_disabled = false;
     }
 
 -- a unit to which nothing was ever submitted: it is open, its queue is empty, each ITag is free, and there was no wait
 abbrev pub idle_unit : UnitWire
-idle_unit = record { is_open = true; queue = []; busy = tabulate 32 (λ itag. None); front = 0; waits_end = 0 }
+idle_unit = record { is_open = true; queue = []; busy = tabulate Limits.itags (λ itag. None); front = 0; waits_end = 0 }
 
 -- an endpoint with its unit before the first step, and what is read of one that isn't there
 abbrev pub idle : EndpointWire
@@ -143,7 +144,7 @@ lowest_label table = position is_none table
 
 -- the descriptors fit into the 64 places of the queue
 abbrev pub has_room : UnitWire → (descriptors : ℕ) → Bool
-has_room unit descriptors = nat_le (length unit.queue + descriptors) 64
+has_room unit descriptors = nat_le (length unit.queue + descriptors) Limits.queue_places
 
 -- is an ITag of the unit busy? Then no wait is taken (Intel VT-d, "Invalidation Wait Descriptor").
 abbrev pub is_some_busy : UnitWire → Bool

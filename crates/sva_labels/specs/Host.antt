@@ -1,15 +1,11 @@
--- The steps by numbers and labels: what a host answers, and what it keeps afterwards, read off what it keeps before. And the
--- law that they are the steps by names.
-use Rattle.std.specs.Prelude.{◌≡◌, List, [], ◌∷◌, if◌then◌else◌, None, Ok, Err}
+-- The steps by numbers and labels: what a host answers, and what it keeps afterwards, read off what it keeps before.
+use Rattle.std.specs.Prelude.{List, [], ◌∷◌, None, Ok, Err}
 use Rattle.sva_step.specs.declared.limits.Config.{Config}
 use Rattle.sva_step.specs.declared.steps.Step.{Step}
 use Rattle.sva_model.specs.Words.{tabulate}
-use Rattle.sva_model.specs.State.{opened}
-use Rattle.sva_model.specs.State.PasidRule.{PerSpace}
 use Rattle.sva_model.specs.Refusals.{Cause, by_first_cause}
-use Rattle.sva_model.specs.Steps.{Reply, reply, replies, next, world_after}
-use Rattle.sva_model.specs.Claims.{Fits}
-use Rattle.sva_model.specs.Wire.{Wire, wire}
+use Rattle.sva_model.specs.Steps.{Reply}
+use Rattle.sva_model.specs.Wire.{Wire}
 use Rattle.sva_model.specs.Wire.PlaceWire.{FreeWire}
 use Rattle.sva_labels.specs.Finding.{idle}
 use Rattle.sva_labels.specs.Causes.{causes_of}
@@ -65,20 +61,3 @@ replies_of wire (step ∷ steps) = reply_of wire step ∷ replies_of (next_of wi
 abbrev pub run_of : Wire → List Step → Wire
 run_of wire [] = wire
 run_of wire (step ∷ steps) = run_of (next_of wire step) steps
-
--- By the rule of one PASID for each space: at each world that some list of steps leads to, a step by labels answers what the
--- step by names answers, and leaves what the next world is seen as.
-abbrev pub LabelsAreNames : Type 0
-LabelsAreNames =
-    (config : Config) (steps : List Step) (step : Step)
-    → Fits config
-    → (reply (world_after PerSpace config steps) step ≡ reply_of (wire (world_after PerSpace config steps)) step)
-    × (wire (next (world_after PerSpace config steps) step) ≡ next_of (wire (world_after PerSpace config steps)) step)
-
--- A list of steps by labels gives the answers that the steps by names give, and leaves what the last world is seen as.
-abbrev pub RunsByLabels : Type 0
-RunsByLabels =
-    (config : Config) (steps : List Step)
-    → Fits config
-    → (replies (opened PerSpace config) steps ≡ replies_of (first_wire config) steps)
-    × (wire (world_after PerSpace config steps) ≡ run_of (first_wire config) steps)

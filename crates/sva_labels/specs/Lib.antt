@@ -1,3 +1,4 @@
+pub mod Places
 pub mod Finding
 pub mod Replying
 pub mod Causes
@@ -5,7 +6,4 @@ pub mod Moves
 pub mod Outcomes
 pub mod Host
 pub mod Sound
-pub mod RowsByLabels
-pub mod Tallies
 pub mod Waiting
-pub mod Spaces

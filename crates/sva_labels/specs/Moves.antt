@@ -3,6 +3,7 @@
 use Rattle.std.specs.Prelude.{ℕ, zero, suc, ◌+◌, ◌*◌, ◌^◌, Bool, true, false, ◌&&◌, ◌||◌, not, ◌==◌, nat_lt, if◌then◌else◌, is_none, Option, Some, None}
 use Rattle.std.specs.Prelude.{List, [], ◌∷◌, ◌++◌, map, filter, drop, length, slice_set, slice_index_or}
 use Rattle.std.specs.List.{list_all}
+use Rattle.sva_step.specs.Limits
 use Rattle.sva_model.specs.Words.{tabulate, count_below}
 use Rattle.sva_model.specs.Range.{Range, decode}
 use Rattle.sva_model.specs.Message.{Code, Message, Scope}
@@ -157,7 +158,7 @@ cookie_at wire space endpoint = wire.next_cookie + count_below endpoint (submits
 -- what all frames of one unmapping wait for, at each of the eight units that there may be
 abbrev pub targets_of : Wire → (space : ℕ) → List (Option TargetWire)
 targets_of wire space =
-    tabulate 8
+    tabulate Limits.most_endpoints
     (λ endpoint. if nat_lt endpoint (length wire.parts)
     then target_by (unit_of wire endpoint) (cookie_at wire space endpoint) (bound_at wire endpoint space)
     else None)
@@ -344,11 +345,11 @@ one_more count (Some (Counting fixed arrived)) = counting fixed (suc arrived)
 -- the ITags of a unit after a completion: it counts for each that its vector names (PCI Express Base 5.0, section 10.3.2)
 abbrev pub completed : (vector count : ℕ) → List (Option BusyWire) → List (Option BusyWire)
 completed vector count busy =
-    tabulate 32 (λ itag. if Labels.is_set vector itag then one_more count (slice_index_or busy itag None) else slice_index_or busy itag None)
+    tabulate Limits.itags (λ itag. if Labels.is_set vector itag then one_more count (slice_index_or busy itag None) else slice_index_or busy itag None)
 
 -- what the endpoint has taken and not finished, once it has finished the invalidations that the vector names
 abbrev pub without_named : (vector : ℕ) → List (Option TakenWire) → List (Option TakenWire)
-without_named vector taken = tabulate 32 (λ itag. if Labels.is_set vector itag then None else slice_index_or taken itag None)
+without_named vector taken = tabulate Limits.itags (λ itag. if Labels.is_set vector itag then None else slice_index_or taken itag None)
 
 -- is it the group of this binding and index, of which the last page request isn't filed yet?
 abbrev pub is_begun : (binding index : ℕ) → HostGroupWire → Bool

@@ -8,6 +8,7 @@ use Rattle.sva_step.specs.declared.answers.Answer.TheVariants as answer
 use Rattle.sva_step.specs.declared.steps.Step.{Step}
 use Rattle.sva_step.specs.declared.steps.Step.TheVariants as step
 use Rattle.sva_step.specs.declared.steps.Verdict.{Verdict}
+use Rattle.sva_step.specs.Limits
 use Rattle.sva_model.specs.Words.{any_below, count_below}
 use Rattle.sva_model.specs.Message.{Code, Message}
 use Rattle.sva_model.specs.Message.Message.{StartMessage, StopMessage, ResetMessage, CompletionMessage, InvalidateMessage, ResponseMessage, RequestMessage}
@@ -23,7 +24,7 @@ use Rattle.sva_model.specs.Wire.StageWire.{StoppingWire, DrainingWire, Invalidat
 use Rattle.sva_model.specs.Wire.UseWire.{RunningWire}
 use Rattle.sva_model.specs.Wire.BusyWire.{Fresh, Counting}
 use Rattle.sva_model.specs.Wire.Descriptor.{RangeDescriptor, PasidDescriptor, WaitDescriptor}
-pub use Rattle.sva_laws.specs.Laws.{count_read}
+pub use Rattle.sva_labels.specs.Places.{count_read}
 use Rattle.sva_labels.specs.Finding.{pages_in, page_at, is_mapped, frames_of, lowest_free, free_from, binding_of, bearer, pasid_for, is_live, part_of}
 use Rattle.sva_labels.specs.Finding.{device_of, unit_of, lowest_label, is_some_busy, cached, is_at_page, use_at, tag_at, group_at, busy_at, held_by}
 use Rattle.sva_labels.specs.Finding.{flight_of}
@@ -52,7 +53,7 @@ label (Some there) = there
 
 -- is there something to wait for, where pages of a space are taken out?
 abbrev pub waits : Wire → (space : ℕ) → Bool
-waits wire space = any_below 8 (λ endpoint. is_some (slice_index_or (targets_of wire space) endpoint None))
+waits wire space = any_below Limits.most_endpoints (λ endpoint. is_some (slice_index_or (targets_of wire space) endpoint None))
 
 -- an unmapping of single pages, each a range of one: the answer tells their frames, and whether they are withheld or free
 abbrev pub unmap_result : Wire → (space page count : ℕ) → Result
@@ -194,7 +195,7 @@ is_other pasid page translation = not (is_at_page pasid page translation)
 
 -- the cache keeps 64 translations of other pages
 abbrev pub is_full : List TranslationWire → (pasid page : ℕ) → Bool
-is_full cache pasid page = nat_le 64 (count_by (is_other pasid page) cache)
+is_full cache pasid page = nat_le Limits.cached (count_by (is_other pasid page) cache)
 
 -- what a completion brings is kept, unless the cache is full; its request is over either way
 abbrev pub keep_result : (endpoint message tag : ℕ) → TranslationWire → Bool → Result
@@ -249,7 +250,7 @@ is_last_of count (Some (Counting fixed arrived)) = suc arrived == fixed
 abbrev pub count_result : UnitWire → (endpoint message vector count : ℕ) → Bool → Result
 count_result unit endpoint message vector count true =
     by_one
-    (answer.Freed (count_below 32 (λ itag. Labels.is_set vector itag && is_last_of count (busy_at unit itag))))
+    (answer.Freed (count_below Limits.itags (λ itag. Labels.is_set vector itag && is_last_of count (busy_at unit itag))))
     (Move.Count endpoint message vector count)
 count_result unit endpoint message vector count false = by_one answer.Dropped (Move.Ignore message)
 

@@ -48,9 +48,13 @@ space_of_job wire job = space_by (binding_of wire job.binding)
 abbrev pub pages_of_job : Wire → JobWire → List PageWire
 pages_of_job wire job = pages_in wire (space_of_job wire job)
 
--- the pages that a success maps: each requested page that isn't mapped, in order of first filing
+-- of the pages that are asked for those that aren't mapped among these, in order of first filing
+abbrev pub new_among : List PageWire → List AskWire → List ℕ
+new_among pages asks = unseen (is_mapped pages) (map (λ ask. ask.page) asks)
+
+-- the pages that a success maps
 abbrev pub newly_mapped : Wire → JobWire → List ℕ
-newly_mapped wire job = unseen (is_mapped (pages_of_job wire job)) (map (λ ask. ask.page) job.asks)
+newly_mapped wire job = new_among (pages_of_job wire job) job.asks
 
 -- does a request of the job ask to write the page?
 abbrev pub is_write_asked : List AskWire → (page : ℕ) → Bool
@@ -61,6 +65,10 @@ abbrev pub is_read_only_at : Option PageWire → Bool
 is_read_only_at None = false
 is_read_only_at (Some entry) = not entry.write
 
--- does a request of the job ask to write a page that is mapped read-only?
+-- is it asked to write a page that is mapped read-only among these?
+abbrev pub writes_read_only : List PageWire → List AskWire → Bool
+writes_read_only pages asks = list_any (λ ask. ask.write && is_read_only_at (page_at pages ask.page)) asks
+
+-- does a request of the job ask for that?
 abbrev pub is_write_of_read_only : Wire → JobWire → Bool
-is_write_of_read_only wire job = list_any (λ ask. ask.write && is_read_only_at (page_at (pages_of_job wire job) ask.page)) job.asks
+is_write_of_read_only wire job = writes_read_only (pages_of_job wire job) job.asks

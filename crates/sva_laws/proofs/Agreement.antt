@@ -15,12 +15,12 @@ use Rattle.sva_model.specs.States.{place_by, place_of_gone}
 use Rattle.sva_model.specs.States.Place.{Mapped, Withheld}
 use Rattle.sva_model.specs.Claims.{Usable, IsPresent, IsAt, IsMapped, IsBearer, HasSentMarker, IsMatched, asker_of}
 use Rattle.sva_model.specs.Claims.Usable.{cached, in_use, under_way}
-use Rattle.sva_laws.proofs.Words.{all_below-false}
+use Rattle.sva_lemmas.proofs.Words.{all_below-false}
 use Rattle.sva_laws.proofs.Bindings.{Bindings, is_unmarked, before_unreleased, unmarked_not_invalidating, unmarked_unreleased}
 use Rattle.sva_laws.proofs.Labels.{Labels}
 use Rattle.sva_laws.proofs.Orders.{is_active, active_unreleased}
 use Rattle.sva_laws.proofs.Owners.{blocks, asker_stage}
-use Rattle.sva_laws.proofs.Safe.{IsAhead, Pending, IsSafe, owed_of}
+use Rattle.sva_laws.proofs.Safe.{StrikesFirst, Pending, IsSafe, owed_of}
 use Rattle.sva_laws.proofs.Groups.{is_filed_group, times_replied, answerable_outstanding, open_filed}
 use Rattle.sva_laws.proofs.Invariant.{Invariant}
 use Rattle.sva_laws.proofs.Passed.{unreleased_bound}
@@ -41,14 +41,14 @@ owner w e b q m i u = active_unreleased ((w.part e).stage b) (active_owner w e b
 
 -- What is pending isn't answered.
 
-silent_ranges : (p : Endpoint) (b q age first count resets k : ℕ) → IsAhead p b q age first count resets k → answered p (Ranges first count resets) ≡ false
+silent_ranges : (p : Endpoint) (b q age first count resets k : ℕ) → StrikesFirst p b q age first count resets k → answered p (Ranges first count resets) ≡ false
 silent_ranges p b q age first count resets k h =
     let waits : is_done (p.order_state (first + count)) ≡ false = not_done h in
     let none : all_below (suc count) (λ j. is_done (p.order_state (first + j))) ≡ false =
     all_below-false (suc count) (λ j. is_done (p.order_state (first + j))) count (omega arith) waits in
     grind (arith, nat_tests, none)
   where
-    not_done : IsAhead p b q age first count resets k → is_done (p.order_state (first + count)) ≡ false
+    not_done : StrikesFirst p b q age first count resets k → is_done (p.order_state (first + count)) ≡ false
     not_done h = grind (arith)
 
 silent_pasid : (p : Endpoint) (k w resets : ℕ) (c0 : Bool) → is_done (p.order_state k) ≡ false → resets ≡ p.resets → answered p (Pasid k w resets c0) ≡ false

@@ -1,6 +1,6 @@
 -- What an endpoint has answered stays answered.
-use Rattle.std.proofs.Common.{◌≡◌, refl, ℕ, zero, suc, ◌+◌, ◌<◌, ◌≤◌, Bool, true, false, arith}
-use Rattle.std.specs.Prelude.{Option, Some, None, ◌&&◌, ◌||◌, nat_lt, if◌then◌else◌}
+use Rattle.std.proofs.Common.{◌≡◌, refl, ℕ, suc, ◌+◌, ◌≤◌, Bool, true, false, arith}
+use Rattle.std.specs.Prelude.{Option, Some, None, ◌&&◌, ◌||◌, nat_lt}
 use Rattle.std.proofs.lemmas.Bool.Decides.{nat_tests}
 use Rattle.sva_model.specs.Words.{all_below}
 use Rattle.sva_model.specs.State.{Owed, Mappings, Endpoint}
@@ -11,15 +11,7 @@ use Rattle.sva_model.specs.Acts.{act_alone, LocalAct, submitted, submitted_if}
 use Rattle.sva_laws.proofs.Legal.{LegalLocalAct}
 use Rattle.sva_laws.proofs.Bounds.{Bounds}
 use Rattle.sva_laws.proofs.Orders.{SentOnly}
-use Rattle.sva_laws.proofs.Words.{all_below-true}
-
-pub all_below-intro : (n : ℕ) (p : ℕ → Bool) → ((j : ℕ) → j < n → p j ≡ true) → all_below n p ≡ true
-unfolding all_below
-all_below-intro zero p h = refl
-all_below-intro (suc n) p h = both (p n) (all_below n p) (h n (omega arith)) (all_below-intro n p (λ j l. h j (omega arith)))
-  where
-    both : (b c : Bool) → b ≡ true → c ≡ true → (if b then c else false) ≡ true
-    both b c h i = grind arith
+use Rattle.sva_lemmas.proofs.Words.{all_below-true, all_below-intro}
 
 all_below-more : (n : ℕ) (p q : ℕ → Bool) → ((j : ℕ) → p j ≡ true → q j ≡ true) → all_below n p ≡ true → all_below n q ≡ true
 all_below-more n p q f h = all_below-intro n q (λ j l. f j (all_below-true n p h j l))

@@ -1,13 +1,12 @@
 -- A cookie is given out once: no two waits have the same, over all units.
 use Rattle.sva_model.specs.State.{PasidRule}
-use Rattle.std.proofs.Common.{◌≡◌, ◌≢◌, ◌⊎◌, inl, inr, refl, ap, sym, subst, ◌∙◌, ℕ, zero, suc, ◌+◌, ◌<◌, ◌≤◌, Bool, true, false, arith}
+use Rattle.std.proofs.Common.{◌≡◌, ◌⊎◌, inl, inr, refl, ap, sym, subst, ◌∙◌, ℕ, suc, ◌+◌, ◌<◌, ◌≤◌, Bool, true, false, arith}
 use Rattle.std.specs.Prelude.{Option, Some, None, ◌&&◌, ◌==◌, List, [], ◌∷◌, if◌then◌else◌}
 use Rattle.std.proofs.lemmas.Bool.Decides.{nat_tests}
 use Rattle.std.proofs.lemmas.Bool.{cases_lt}
 use Rattle.sva_step.specs.declared.answers.Answer.{Answer}
 use Rattle.sva_step.specs.declared.limits.Config.{Config}
 use Rattle.sva_step.specs.declared.steps.Step.{Step}
-use Rattle.sva_model.specs.Words.{count_below}
 use Rattle.sva_model.specs.State.{Endpoint, World, opened}
 use Rattle.sva_model.specs.State.Order.{Wait}
 use Rattle.sva_model.specs.States.{is_unreleased}
@@ -15,8 +14,8 @@ use Rattle.sva_model.specs.Acts.{Act, LocalAct, act, act_alone, cookies_of, subm
 use Rattle.sva_model.specs.Acts.Act.{NewSpace, DropSpace, Map, Unmap, NewBinding, NewJob, Hold, LetGo, AtEndpoint}
 use Rattle.sva_model.specs.Steps.{decide, next, run, after_acts, world_after}
 use Rattle.sva_laws.specs.UnitSteps.{GivesCookies}
-use Rattle.sva_laws.proofs.Words.{ℕ_cases, find_passes}
-use Rattle.sva_laws.proofs.Counting.{bit, count_next}
+use Rattle.sva_lemmas.proofs.Words.{find_passes}
+pub use Rattle.sva_lemmas.proofs.Counting.{count_up, count_strict}
 use Rattle.sva_laws.proofs.Invariant.{Invariant}
 use Rattle.sva_laws.proofs.Submitted.{old_order}
 use Rattle.sva_laws.proofs.Keeps.{put_keeps}
@@ -24,29 +23,7 @@ use Rattle.sva_laws.proofs.Passed.{unreleased_bound}
 use Rattle.sva_laws.proofs.Runs.{next_keeps, opened_invariant}
 use Rattle.sva_laws.proofs.StepKinds.{IsBy, Kind, is_calm, is_calm_own, are_calm, step_kind}
 use Rattle.sva_laws.proofs.StepKinds.Kind.{calm, single, unmapping}
-use Rattle.sva_laws.proofs.Tests.{first_holds}
-
--- What is counted below a number that passes is less than what is counted below a higher one.
-
-pub count_up : (m n : ℕ) (f : ℕ → Bool) → n ≤ m → count_below n f ≤ count_below m f
-count_up zero n f h =
-    let none : n ≡ 0 = omega (arith, h) in
-    subst (λ z. count_below z f ≤ count_below 0 f) (sym none) (omega arith)
-count_up (suc m) n f h = go (ℕ_cases n (suc m)) (λ l. count_up m n f l)
-  where
-    go : (n ≡ suc m) ⊎ (n ≢ suc m) → (n ≤ m → count_below n f ≤ count_below m f) → count_below n f ≤ count_below (suc m) f
-    go (inl e) rest = subst (λ z. count_below n f ≤ count_below z f) e (omega arith)
-    go (inr ne) rest = let r = rest (omega (arith, h, ne)) in omega (arith, r, count_next m f)
-
-bit_true : (b : Bool) → b ≡ true → bit b ≡ 1
-unfolding bit
-bit_true b h = grind arith
-
-pub count_strict : (n m : ℕ) (f : ℕ → Bool) → n < m → f n ≡ true → count_below n f < count_below m f
-count_strict n m f h t =
-    let up = count_up m (suc n) f (omega (arith, h)) in
-    let one = bit_true (f n) t in
-    omega (arith, up, one, count_next n f)
+use Rattle.sva_lemmas.proofs.Tests.{first_holds}
 
 -- What a step does to the waits of an endpoint: if it gives a cookie, there is one wait more, which has that.
 record PartWaits (Gets : Type 0) (given : ℕ) (p q : Endpoint) : Type 0 where

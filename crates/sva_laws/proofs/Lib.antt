@@ -1,6 +1,3 @@
-pub mod Tests
-pub mod Words
-pub mod Counting
 pub mod Legal
 pub mod Resets
 pub mod Bounds

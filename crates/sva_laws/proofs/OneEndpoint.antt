@@ -26,12 +26,12 @@ use Rattle.sva_model.specs.Refusals.{messages_spent, advance_refusals, unbind_re
 use Rattle.sva_model.specs.Outcomes.{Outcome, outcome, at_one, found_for, map_outcome, bind_outcome, advance_outcome, reply_outcome, completion_message}
 use Rattle.sva_model.specs.Outcomes.{request_outcome, subject_outcome, deliver_outcome, look_answer, says, bearer_answer}
 use Rattle.sva_model.specs.Steps.{checked, decide, next, reply, replies, after_acts}
-use Rattle.sva_laws.proofs.Words.{find_passes, holds_the, any_below-true, any_below-intro}
+use Rattle.sva_lemmas.proofs.Words.{find_passes, holds_the, any_below-true, any_below-intro}
 use Rattle.sva_laws.proofs.Invariant.{Invariant}
 use Rattle.sva_laws.proofs.Passed.{not_bound_at}
 use Rattle.sva_laws.proofs.Runs.{next_keeps, opened_invariant}
 use Rattle.sva_laws.proofs.Withheld.{config_next, rule_next}
-use Rattle.sva_laws.proofs.Tests.{is_less}
+use Rattle.sva_lemmas.proofs.Tests.{is_less, same_bool}
 
 -- the same world, under the rule of one PASID for each space
 abbrev by_space : World → World
@@ -126,11 +126,6 @@ none_passes p h = go (find 32 (λ t. p (suc t))) refl
     go : (o : Option ℕ) → find 32 (λ t. p (suc t)) ≡ o → option_map suc o ≡ None
     go None e = refl
     go (Some k) e = absurd (h (suc k) (find_passes 32 (λ t. p (suc t)) k e).1)
-
-pub same_bool : (a b : Bool) → (a ≡ true → b ≡ true) → (b ≡ true → a ≡ true) → a ≡ b
-same_bool true b f g = sym (f refl)
-same_bool false true f g = g refl
-same_bool false false f g = refl
 
 -- one endpoint: each that is below the number of endpoints is the other
 one_of : (n d e : ℕ) → n ≡ 1 → d < n → e < n → d ≡ e

@@ -13,7 +13,8 @@ use Rattle.sva_model.specs.Refusals.{Cause}
 use Rattle.sva_model.specs.Outcomes.{Outcome}
 use Rattle.sva_model.specs.Steps.{checked, after_acts}
 use Rattle.sva_model.specs.Labels
-use Rattle.sva_laws.proofs.Words.{none_is, lowest_passes, any_below-false}
+pub use Rattle.sva_lemmas.proofs.Steps.{Passed}
+use Rattle.sva_lemmas.proofs.Words.{none_is, lowest_passes, any_below-false}
 use Rattle.sva_laws.proofs.Invariant.{Invariant}
 use Rattle.sva_laws.proofs.Keeps.{Legal, act_keeps}
 
@@ -24,10 +25,6 @@ LegalAll w (a ∷ acts) = Legal w a × LegalAll (act w a) acts
 pub acts_keep : (acts : List Act) (w : World) → LegalAll w acts → Invariant w → Invariant (after_acts w acts)
 acts_keep [] w l i = i
 acts_keep (a ∷ acts) w l i = acts_keep acts (act w a) l.1 (act_keeps w a l.0 i)
-
-abbrev pub Passed : List Cause → Type 0
-Passed [] = Unit {0}
-Passed (c ∷ cs) = (c.0 ≡ false) × Passed cs
 
 pub checked_legal : (w : World) (cs : List Cause) (o : Outcome) → (Passed cs → LegalAll w o.acts) → LegalAll w (checked cs o).acts
 checked_legal w [] o f = f tt

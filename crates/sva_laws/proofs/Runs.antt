@@ -1,15 +1,18 @@
 -- The invariant holds after every list of steps.
 use Rattle.sva_model.specs.State.{PasidRule}
-use Rattle.std.proofs.Common.{refl, arith}
+use Rattle.std.proofs.Common.{◌≡◌, ℕ, refl, subst, arith}
 use Rattle.std.specs.Prelude.{List, [], ◌∷◌}
 use Rattle.sva_step.specs.declared.limits.Config.{Config}
 use Rattle.sva_step.specs.declared.steps.Step.{Step}
 use Rattle.sva_step.specs.declared.steps.Step.TheVariants as step
 use Rattle.sva_model.specs.State.{World, opened}
+use Rattle.sva_model.specs.Acts.{LocalAct}
+use Rattle.sva_model.specs.Acts.Act.{AtEndpoint}
 use Rattle.sva_model.specs.Refusals.{refusals}
 use Rattle.sva_model.specs.Outcomes.{outcome}
 use Rattle.sva_model.specs.Steps.{decide, next, run, world_after}
 use Rattle.sva_laws.proofs.Invariant.{Invariant}
+use Rattle.sva_laws.proofs.Keeps.{Legal}
 use Rattle.sva_laws.proofs.Passed.{Passed, LegalAll, acts_keep, checked_legal}
 use Rattle.sva_laws.proofs.LegalHost as Host
 use Rattle.sva_laws.proofs.LegalUnit as Unit_steps
@@ -44,6 +47,11 @@ outcome_legal w (step.Bearer t) i h = tt
 
 pub step_legal : (w : World) (s : Step) → Invariant w → LegalAll w (decide w s).acts
 step_legal w s i = checked_legal w (refusals w s) (outcome w s) (outcome_legal w s i)
+
+-- the one act of a step
+pub act_legal :
+    (w : World) (s : Step) (e : ℕ) (o : LocalAct) → Invariant w → (decide w s).acts ≡ AtEndpoint e o ∷ [] → Legal w (AtEndpoint e o)
+act_legal w s e o i x = (subst (LegalAll w) x (step_legal w s i)).0
 
 pub next_keeps : (w : World) (s : Step) → Invariant w → Invariant (next w s)
 next_keeps w s i = acts_keep (decide w s).acts w (step_legal w s i) i

@@ -1,6 +1,6 @@
 -- Each usable translation is present, or its mapping is gone and the endpoint hasn't answered for it: an order ahead of
 -- the wait will strike it first.
-use Rattle.sva_laws.proofs.Words.{put-same}
+use Rattle.sva_lemmas.proofs.Words.{put-same}
 use Rattle.std.proofs.Common.{sym, subst, ◌≡◌, ◌≢◌, ◌⊎◌, inl, inr, ℕ, ◌+◌, ◌<◌, ◌≤◌, Bool, true, false, arith}
 use Rattle.std.specs.Prelude.{Some, None}
 use Rattle.std.proofs.lemmas.Bool.Decides.{nat_tests}
@@ -33,8 +33,8 @@ owed_of Unmade e = Nothing
 
 -- of the orders from `first` on, of which there are `count` and a wait behind them, order k covers the page q of binding b; and
 -- the unit is in reset, where the wait is void, or open, where order k will strike what is of this age ahead of the wait
-abbrev pub IsAhead : Endpoint → (b q age first count resets k : ℕ) → Type 0
-IsAhead p b q age first count resets k =
+abbrev pub StrikesFirst : Endpoint → (b q age first count resets k : ℕ) → Type 0
+StrikesFirst p b q age first count resets k =
     (resets ≡ p.resets) × (first ≤ k) × (k < first + count) × (covers (p.order k) b q ≡ true)
     × (is_wait (p.order (first + count)) ≡ true)
     × (first + count < p.orders)
@@ -45,7 +45,7 @@ IsAhead p b q age first count resets k =
 abbrev pub Pending : Endpoint → (b q age : ℕ) → Owed → Type 0
 Pending p b q age Nothing = ⊥
 Pending p b q age (NextReset resets) = (resets ≡ p.resets) × (is_open p.phase ≡ false)
-Pending p b q age (Ranges first count resets) = (k : ℕ) × IsAhead p b q age first count resets k
+Pending p b q age (Ranges first count resets) = (k : ℕ) × StrikesFirst p b q age first count resets k
 Pending p b q age (Pasid k w resets c0) = (resets ≡ p.resets) × (p.stage b ≡ Invalidating k w)
 
 pub record Safe (ms : Mappings) (e : ℕ) (p : Endpoint) : Type 0 where
@@ -58,22 +58,22 @@ pub record Safe (ms : Mappings) (e : ℕ) (p : Endpoint) : Type 0 where
 -- what is held stays pending
 held_ahead : (ms : Mappings) (g n : ℕ) (p : Endpoint) (o : LocalAct) → LegalLocalAct ms g p o → NoneLeft p → SentOnly p → (r m first count resets k : ℕ)
     → (p.requests ≤ r → p.held r ≡ None) → p.held r ≡ Some m → (act_alone p n o).held r ≡ Some m → ms.page m ≡ p.request_page r
-    → ((k x : ℕ) → p.order_state k ≡ Taken x → x ≤ p.uses) → IsAhead p (p.request_binding r) (ms.page m) p.uses first count resets k
-    → IsAhead (act_alone p n o) (p.request_binding r) (ms.page m) (act_alone p n o).uses first count resets k
+    → ((k x : ℕ) → p.order_state k ≡ Taken x → x ≤ p.uses) → StrikesFirst p (p.request_binding r) (ms.page m) p.uses first count resets k
+    → StrikesFirst (act_alone p n o) (p.request_binding r) (ms.page m) (act_alone p n o).uses first count resets k
 held_ahead ms g n p o l left sent r m first count resets k b h h' pg noted pe = grind (arith, nat_tests, left.up, left.empty, noted k)
 
 running_ahead : (ms : Mappings) (g n : ℕ) (p : Endpoint) (o : LocalAct) → LegalLocalAct ms g p o → NoneLeft p → SentOnly p → (u first count resets k : ℕ)
     → p.use_state u ≡ Running → (act_alone p n o).use_state u ≡ Running → u < p.uses
     → (covers (p.order k) (p.use_binding u) (ms.page (p.use_mapping u)) ≡ true → blocks (p.order_state k) u ≡ true → finishes o k ≡ false)
-    → IsAhead p (p.use_binding u) (ms.page (p.use_mapping u)) u first count resets k
-    → IsAhead (act_alone p n o) (p.use_binding u) (ms.page (p.use_mapping u)) u first count resets k
+    → StrikesFirst p (p.use_binding u) (ms.page (p.use_mapping u)) u first count resets k
+    → StrikesFirst (act_alone p n o) (p.use_binding u) (ms.page (p.use_mapping u)) u first count resets k
 running_ahead ms g n p o l left sent u first count resets k h h' b spared pe = grind (arith, nat_tests, left.up, left.dead)
 
 flying_ahead : (ms : Mappings) (g n : ℕ) (p : Endpoint) (o : LocalAct) → LegalLocalAct ms g p o → SentOnly p → (r m first count resets k : ℕ) → r < p.requests
     → p.request r ≡ Out → (act_alone p n o).request r ≡ Out → ((c : ℕ) → p.message c ≡ Some ResetDone → is_out (p.request r) ≡ false) → ms.page m
     ≡ p.request_page r → ((k x : ℕ) → p.order_state k ≡ Taken x → x ≤ p.uses)
-    → IsAhead p (p.request_binding r) (ms.page m) p.uses first count resets k
-    → IsAhead (act_alone p n o) (p.request_binding r) (ms.page m) (act_alone p n o).uses first count resets k
+    → StrikesFirst p (p.request_binding r) (ms.page m) p.uses first count resets k
+    → StrikesFirst (act_alone p n o) (p.request_binding r) (ms.page m) (act_alone p n o).uses first count resets k
 flying_ahead ms g n p o l sent r m first count resets k b h h' over pg noted pe = grind (arith, nat_tests, noted k)
 
 -- what waits for a reset-done, or for its PASID's invalidation

@@ -25,12 +25,11 @@ use Rattle.sva_model.specs.Outcomes.{outcome, pump_outcome, head_outcome, wait_o
 use Rattle.sva_model.specs.Outcomes.{count_outcome, marker_outcome}
 use Rattle.sva_model.specs.Steps.{reply, decide, next, after_acts, world_after}
 use Rattle.sva_laws.specs.UnitSteps.{Delivers, OrdersReset, PassesWait, CompletesOrder, CountsResetDones, ChangesOrders, NotesMarkers}
-use Rattle.sva_laws.proofs.Words.{put-same, put-other, ℕ_cases}
+use Rattle.sva_lemmas.proofs.Words.{put-same, put-other, ℕ_cases}
 use Rattle.sva_laws.proofs.Legal.{LegalLocalAct}
 use Rattle.sva_laws.proofs.Invariant.{Invariant}
-use Rattle.sva_laws.proofs.Keeps.{Legal, put_keeps}
-use Rattle.sva_laws.proofs.Passed.{LegalAll}
-use Rattle.sva_laws.proofs.Runs.{always, step_legal}
+use Rattle.sva_laws.proofs.Keeps.{put_keeps}
+use Rattle.sva_laws.proofs.Runs.{always, act_legal}
 use Rattle.sva_laws.proofs.Lookback.{after_one}
 use Rattle.sva_laws.proofs.Told.{accepted}
 use Rattle.sva_laws.proofs.StepKinds.{IsDelivery, IsBy, Kind, is_calm, is_calm_own, are_calm, step_kind}
@@ -308,15 +307,12 @@ own_changes w s e a o i h by l =
 pub changes : (w : World) (s : Step) (e : ℕ) → Invariant w → Changes w s e (w.part e) ((next w s).part e)
 changes w s e i = go (step_kind w s)
   where
-    first : (d : ℕ) (o : LocalAct) → (decide w s).acts ≡ AtEndpoint d o ∷ [] → Legal w (AtEndpoint d o)
-    first d o x = (subst (LegalAll w) x (step_legal w s i)).0
-
     go : Kind w s (decide w s) → Changes w s e (w.part e) ((next w s).part e)
     go (calm h) = changes_nothing w s e (w.part e) ((next w s).part e) (same_acts (decide w s).acts w h e)
     go (single d o a x h by) =
         subst (λ z. Changes w s e (w.part e) ((after_acts w z).part e)) (sym x)
         (put_keeps (λ k q. Changes w s k (w.part k) q) w.part d (act_alone (w.part d) w.messages o)
-        (own_changes w s d a o i h by (first d o x).1.0)
+        (own_changes w s d a o i h by (act_legal w s d o i x).1.0)
         (λ k. changes_nothing w s k (w.part k) (w.part k) (same_part (w.part k)))
         e)
     go (unmapping t q count order x) =

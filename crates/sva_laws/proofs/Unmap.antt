@@ -14,13 +14,13 @@ use Rattle.sva_model.specs.States.{is_unreleased, is_open, is_wait, is_before_in
 use Rattle.sva_model.specs.Acts.{bound, submits_at, submits, owed_by_unit, owed_by_stage, owed_by, submitted, submitted_if, range_at, cookie_of}
 use Rattle.sva_model.specs.Acts.{part_after_unmap, gone_if, in_range, without_pages, act}
 use Rattle.sva_model.specs.Acts.Act.{Unmap}
-use Rattle.sva_laws.proofs.Words.{put-same, put-other, ℕ_cases, find_passes, find_some}
+use Rattle.sva_lemmas.proofs.Words.{put-same, put-other, ℕ_cases, find_passes, find_some}
 use Rattle.sva_model.specs.Words.{put_range, unless}
 use Rattle.sva_laws.proofs.Bounds.{Bounds}
 use Rattle.sva_laws.proofs.Orders.{is_active, active_unreleased}
 use Rattle.sva_laws.proofs.Resets.{open_is}
 use Rattle.sva_laws.proofs.Owners.{blocks}
-use Rattle.sva_laws.proofs.Safe.{IsAhead, Pending, IsSafe, owed_of}
+use Rattle.sva_laws.proofs.Safe.{StrikesFirst, Pending, IsSafe, owed_of}
 use Rattle.sva_laws.proofs.Invariant.{Invariant}
 use Rattle.sva_laws.proofs.Ranges.{range_of, order_covers}
 
@@ -45,8 +45,8 @@ safe_without ms e p p' b m age t owed sa keep new = go (ms.state m) t refl refl 
     go (Gone v) false a c (inr h) = inr (keep (v e) h)
 
 -- what was pending stays so while orders are submitted
-ahead_submitted : (g b' q' count order cookie : ℕ) (p : Endpoint) (b q age first n resets k : ℕ) → IsAhead p b q age first n resets k
-    → IsAhead (submitted p b' q' count order cookie) b q age first n resets k
+ahead_submitted : (g b' q' count order cookie : ℕ) (p : Endpoint) (b q age first n resets k : ℕ) → StrikesFirst p b q age first n resets k
+    → StrikesFirst (submitted p b' q' count order cookie) b q age first n resets k
 ahead_submitted g b' q' count order cookie p b q age first n resets k h = grind (arith, nat_tests)
 
 pending_submitted : (g b' q' count order cookie : ℕ) (p : Endpoint) → Bounds g p → (b q age : ℕ) (v : Owed) → Pending p b q age v
@@ -86,7 +86,7 @@ bound_is w e b s i u sp =
         spaces h = grind (arith, nat_tests)
 
 new_open : (p : Endpoint) (b q page count order age cookie j : ℕ) → p.phase ≡ Open → j < count → is_in (range_at page order j) q ≡ true
-    → IsAhead (submitted p b page count order cookie) b q age p.orders count p.resets (p.orders + j)
+    → StrikesFirst (submitted p b page count order cookie) b q age p.orders count p.resets (p.orders + j)
 new_open p b q page count order age cookie j ph l h =
     (refl, omega arith, omega (arith, l), order_covers p b page count order cookie q j l h, is_a_wait, omega arith, inr (ph, wait_queued, strikes))
   where

@@ -29,14 +29,13 @@ use Rattle.sva_model.specs.Outcomes.{Outcome, outcome, subject_outcome, deliver_
 use Rattle.sva_model.specs.Steps.{Reply, checked, reply, decide, next, after_acts, world_after}
 use Rattle.sva_laws.specs.UnitSteps.{Delivers}
 use Rattle.sva_laws.specs.Untouched.{Evicts, Takes, Brings, Stops, Quits, Asks, Disables, CutsOff, DrainsOnce, is_of_endpoint}
-use Rattle.sva_laws.proofs.Tests.{both_same}
-use Rattle.sva_laws.proofs.Words.{put-same, put-other}
+use Rattle.sva_lemmas.proofs.Tests.{both_same}
+use Rattle.sva_lemmas.proofs.Words.{put-same, put-other}
 use Rattle.sva_laws.proofs.Submitted.{old_order}
 use Rattle.sva_laws.proofs.Legal.{LegalLocalAct}
 use Rattle.sva_laws.proofs.Invariant.{Invariant}
-use Rattle.sva_laws.proofs.Keeps.{Legal, put_keeps}
-use Rattle.sva_laws.proofs.Passed.{LegalAll}
-use Rattle.sva_laws.proofs.Runs.{always, step_legal}
+use Rattle.sva_laws.proofs.Keeps.{put_keeps}
+use Rattle.sva_laws.proofs.Runs.{always, act_legal}
 use Rattle.sva_laws.proofs.Lookback.{after_one}
 use Rattle.sva_laws.proofs.Told.{accepted}
 use Rattle.sva_laws.proofs.LegalEndpoint.{Cached, cached_is}
@@ -340,15 +339,12 @@ own_disabled w s e o a true z h by l d = absurd (grind arith)
 step_disabled : (w : World) (s : Step) (e : ℕ) → Invariant w → Disabled w s e ((next w s).part e)
 step_disabled w s e i = go (step_kind w s)
   where
-    first : (d : ℕ) (o : LocalAct) → (decide w s).acts ≡ AtEndpoint d o ∷ [] → Legal w (AtEndpoint d o)
-    first d o x = (subst (LegalAll w) x (step_legal w s i)).0
-
     go : Kind w s (decide w s) → Disabled w s e ((next w s).part e)
     go (calm h) = λ d. inl (sym (calm_acts (decide w s).acts w h e) ∙ d)
     go (single d o a x h by) =
         subst (λ z. Disabled w s e ((after_acts w z).part e)) (sym x)
         (put_keeps (λ k q. Disabled w s k q) w.part d (act_alone (w.part d) w.messages o)
-        (own_disabled w s d o a (answers_group o) refl h by (first d o x).1.0) (λ k y. inl y) e)
+        (own_disabled w s d o a (answers_group o) refl h by (act_legal w s d o i x).1.0) (λ k y. inl y) e)
     go (unmapping t q count order x) =
         subst (λ z. Disabled w s e ((after_acts w z).part e)) (sym x)
         (λ d. inl (sym (same_submitted (submits w t e) (w.part e) (bound w e t) q count order (cookie_of w t e)) ∙ d))

@@ -6,6 +6,7 @@ use Rattle.sva_step.specs.declared.limits.Config.{Config}
 use Rattle.sva_step.specs.declared.steps.Step.{Step}
 use Rattle.sva_step.specs.declared.steps.Step.TheVariants as step
 use Rattle.sva_step.specs.declared.steps.Verdict.{Verdict}
+use Rattle.sva_step.specs.Limits
 use Rattle.sva_model.specs.Words.{count_below}
 use Rattle.sva_model.specs.State.{PasidRule, Endpoint, World}
 use Rattle.sva_model.specs.State.Subject.{InvalidatedOf}
@@ -49,7 +50,7 @@ AlwaysFinishes =
 -- and the frame that is answered is that translation's.
 pub record Uses (before after : World) (endpoint pasid page : ℕ) (said : Answer) : Type 0 where
   pub slot : ℕ
-  pub low : slot < 16
+  pub low : slot < Limits.use_slots
   pub request : ℕ
   pub mapping : ℕ
   pub held : (before.part endpoint).held request ≡ Some mapping

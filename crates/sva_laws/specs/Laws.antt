@@ -7,6 +7,7 @@ use Rattle.sva_step.specs.declared.answers.Answer.TheVariants.{Frame, FreeFrames
 use Rattle.sva_step.specs.declared.limits.Config.{Config}
 use Rattle.sva_step.specs.declared.steps.Step.{Step}
 use Rattle.sva_step.specs.declared.steps.Step.TheVariants.{Map, Unmap, UnmapRange}
+use Rattle.sva_step.specs.Limits
 use Rattle.sva_model.specs.Words.{count_below, select, is_some}
 use Rattle.sva_model.specs.Message.{Code}
 use Rattle.sva_model.specs.Message.Message.{StartMessage, StopMessage, ResetMessage, CompletionMessage, InvalidateMessage, ResponseMessage, RequestMessage}
@@ -157,11 +158,11 @@ pub record IsLabelled (part : Endpoint) : Type 0 where
   pub itag : (label order : ℕ) → (part.at_itag label ≡ Some order) ↔ ((is_busy (part.order_state order) ≡ true) × (part.itag order ≡ label))
   pub index : (label group : ℕ) → (part.at_index label ≡ Some group) ↔ ((is_outstanding (part.group group) ≡ true) × (part.index group ≡ label))
   -- the limits: PASIDs 1 to 32; 32 request tags, ITags and page request group indexes; 16 uses
-  pub pasid_low : (binding : ℕ) → is_unreleased (part.stage binding) ≡ true → (0 < part.pasid binding) × (part.pasid binding ≤ 32)
-  pub tag_low : (request : ℕ) → is_out (part.request request) ≡ true → part.request_tag request < 32
-  pub slot_low : (used : ℕ) → part.use_state used ≢ Ended → part.use_slot used < 16
-  pub itag_low : (order : ℕ) → is_busy (part.order_state order) ≡ true → part.itag order < 32
-  pub index_low : (group : ℕ) → is_outstanding (part.group group) ≡ true → part.index group < 32
+  pub pasid_low : (binding : ℕ) → is_unreleased (part.stage binding) ≡ true → (0 < part.pasid binding) × (part.pasid binding ≤ Limits.pasids)
+  pub tag_low : (request : ℕ) → is_out (part.request request) ≡ true → part.request_tag request < Limits.request_tags
+  pub slot_low : (used : ℕ) → part.use_state used ≢ Ended → part.use_slot used < Limits.use_slots
+  pub itag_low : (order : ℕ) → is_busy (part.order_state order) ≡ true → part.itag order < Limits.itags
+  pub index_low : (group : ℕ) → is_outstanding (part.group group) ≡ true → part.index group < Limits.groups
   -- a space has one unreleased binding at an endpoint
   pub one_space :
       (binding other : ℕ)
@@ -252,11 +253,11 @@ pub record IsFound (part : Endpoint) : Type 0 where
 -- 10.3.2).
 pub record IsVectorOf (part : Endpoint) (names : ℕ → Bool) (vector : ℕ) : Type 0 where
   pub named : (order : ℕ) → names order ≡ true → is_set vector (part.itag order) ≡ true
-  pub set : (tag : ℕ) → tag < 32 → is_set vector tag ≡ true → (order : ℕ) × (names order ≡ true) × (part.itag order ≡ tag)
+  pub set : (tag : ℕ) → tag < Limits.itags → is_set vector tag ≡ true → (order : ℕ) × (names order ≡ true) × (part.itag order ≡ tag)
 
 -- the Completion Count as it is read: a field of three bits, in which 0 stands for 8 (section 10.3.2)
 abbrev pub count_read : (field : ℕ) → ℕ
-count_read zero = 8
+count_read zero = Limits.most_completions
 count_read (suc below) = suc below
 
 -- What a message in flight carries: the labels and fields of the records that it was sent for, as these records have them
@@ -289,7 +290,7 @@ pub record IsCarried (mappings : Mappings) (part : Endpoint) : Type 0 where
       (message : ℕ) (names : ℕ → Bool)
       → part.message message ≡ Some (InvalidatedOf names)
       → (vector field : ℕ)
-      × (part.carried message ≡ InvalidatedMessage vector field) × (field < 8) × IsVectorOf part names vector
+      × (part.carried message ≡ InvalidatedMessage vector field) × (field < Limits.most_completions) × IsVectorOf part names vector
       × ((order : ℕ) → names order ≡ true → (left : ℕ) × (part.order_state order ≡ Completing (count_read field) left))
   -- a page request: the PASID of its group's asker, the group's index, and what it asks
   pub page_request :
@@ -344,9 +345,9 @@ waiting part = select part.arrivals (is_waiting part)
 -- At most 32 page requests of an endpoint wait for their response (its allocation: section 10.5.2), so the 32 places of its
 -- unit's page request queue are never too few.
 pub record IsLimited (part : Endpoint) : Type 0 where
-  pub outstanding : outstanding part ≤ 32
-  pub page_queue : page_queue part ≤ 32
-  pub waiting : length (waiting part) ≤ 32
+  pub outstanding : outstanding part ≤ Limits.page_requests
+  pub page_queue : page_queue part ≤ Limits.page_requests
+  pub waiting : length (waiting part) ≤ Limits.page_requests
 
 -- after every list of steps each label finds the one record that bears it, at its own endpoint and unit, and is within its limit
 abbrev pub AlwaysLabelled : Type 0
@@ -408,7 +409,7 @@ pub record IsUnderWay (messages : ℕ) (part : Endpoint) : Type 0 where
   pub sent : (order : ℕ) → part.order_state order ≡ Sent → part.message (part.invalidate_message order) ≡ Some (InvalidateOf order)
   pub sent_only : (message order : ℕ) → part.message message ≡ Some (InvalidateOf order) → part.order_state order ≡ Sent
   pub owed : (order : ℕ) → part.phase ≡ Open → completions messages part order ≡ left_of (part.order_state order)
-  pub completing : (order count left : ℕ) → part.order_state order ≡ Completing count left → (0 < left) × (left ≤ count) × (count ≤ 8)
+  pub completing : (order count left : ℕ) → part.order_state order ≡ Completing count left → (0 < left) × (left ≤ count) × (count ≤ Limits.most_completions)
   pub never_lapsed : (order : ℕ) → part.phase ≡ Open → part.order_state order ≢ Lapsed
   -- each translation request that is out has its request or its completion in flight
   pub request : (request : ℕ) → part.phase ≡ Open → is_out (part.request request) ≡ true → (message : ℕ)
@@ -526,11 +527,11 @@ cached_translations part = count_below part.requests (λ request. is_some (part.
 -- Limits of the host: live spaces, pages of a space, and page requests that are filed of a group which is open; the descriptors in
 -- a unit's invalidation queue; and those of an endpoint: the translations that it caches.
 pub record KeepsLimits (world : World) : Type 0 where
-  pub spaces : live_spaces world ≤ 64
-  pub pages : (space : ℕ) → pages_of world space ≤ 1024
-  pub requests : (endpoint group : ℕ) → is_open_group ((world.part endpoint).host_group group) ≡ true → length (asks (world.part endpoint) group) ≤ 32
-  pub queued : (endpoint : ℕ) → queue_length (world.part endpoint) ≤ 64
-  pub cached : (endpoint : ℕ) → cached_translations (world.part endpoint) ≤ 64
+  pub spaces : live_spaces world ≤ Limits.most_spaces
+  pub pages : (space : ℕ) → pages_of world space ≤ Limits.most_mapped
+  pub requests : (endpoint group : ℕ) → is_open_group ((world.part endpoint).host_group group) ≡ true → length (asks (world.part endpoint) group) ≤ Limits.page_requests
+  pub queued : (endpoint : ℕ) → queue_length (world.part endpoint) ≤ Limits.queue_places
+  pub cached : (endpoint : ℕ) → cached_translations (world.part endpoint) ≤ Limits.cached
 
 -- after every list of steps no more is kept than these limits allow
 abbrev pub AlwaysKeepsLimits : Type 0

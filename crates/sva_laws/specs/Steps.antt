@@ -4,6 +4,7 @@ use Rattle.sva_step.specs.declared.answers.Answer.TheVariants as answer
 use Rattle.sva_step.specs.declared.limits.Config.{Config}
 use Rattle.sva_step.specs.declared.steps.Step.{Step}
 use Rattle.sva_step.specs.declared.steps.Step.TheVariants as step
+use Rattle.sva_step.specs.Limits
 use Rattle.sva_model.specs.State.{PasidRule, Owed, World}
 use Rattle.sva_model.specs.State.Subject.{ResetDone}
 use Rattle.sva_model.specs.State.Owed.{Ranges, Pasid}
@@ -78,7 +79,7 @@ unreleased world = count_below world.bindings (λ binding. is_unreleased ((world
 
 -- how many of its 16 slots have a use, running or dead: one that a reset ended keeps its slot until `end`
 abbrev pub slots : World → (endpoint : ℕ) → ℕ
-slots world endpoint = count_below 16 (λ slot. is_some ((world.part endpoint).at_slot slot))
+slots world endpoint = count_below Limits.use_slots (λ slot. is_some ((world.part endpoint).at_slot slot))
 
 -- By how many they change: a binding begins where a bind is accepted, and is released where an advance answers so; a slot of an
 -- endpoint is taken where a use begins there, and is free again where one ends.

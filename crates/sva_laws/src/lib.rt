@@ -1,4 +1,4 @@
-// The laws of the definitions of host, endpoints and link, over every list of steps.
+//! The laws of the definitions of host, endpoints and link, over every list of steps.
 #![tactic(auto)]
 
 ghost use Rattle.sva_model.specs.Claims.{AlwaysAgrees};

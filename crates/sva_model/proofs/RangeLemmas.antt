@@ -5,7 +5,7 @@ use Rattle.std.proofs.Common.{arith, sym, ◌∙◌, ap, inl, inr}
 use Rattle.std.proofs.Math.Nat.{pow-suc, mul-le-mul_right, add-mul}
 use Rattle.std.proofs.lemmas.Bool.{cases_lt, and_parts, and_from, ltb-true, leb-true, lt-ltb, le-ltb, le-leb}
 use Rattle.std.proofs.lemmas.Nat.{pow_pos, pow-add, mod-pow-add, mod_below, shr_split, shr_below, mod_low}
-use Rattle.sva_model.specs.Range.{Range, IsRange, Code, pages_in, is_in, encode, encode_by, ones, range_about, decode, decode_by}
+use Rattle.sva_model.specs.Range.{Range, IsRange, RangeCode, pages_in, is_in, encode, encode_by, ones, range_about, decode, decode_by}
 use Rattle.sva_model.specs.Ranges.{IsNoCode, AreCodes}
 
 -- Bits from bit 0 upwards.
@@ -95,13 +95,13 @@ pub range_about-none : (q j : ℕ) → 9 ≤ j → range_about q j ≡ None
 range_about-none q j h = rw (le-ltb j 9 h) refl
 
 -- what holds of what each code is read as: no page number, s clear, and s set with j bits set, fewer than nine or all nine
-pub by_code : (P : Code → Option Range → Type 0)
+pub by_code : (P : RangeCode → Option Range → Type 0)
     → ((q : ℕ) (s : Bool) → 2 ^ 36 ≤ q → P (record { page = q; s = s }) None)
     → ((q : ℕ) → q < 2 ^ 36 → P (record { page = q; s = false }) (Some (record { base = q; order = 0 })))
     → ((q j : ℕ) → q < 2 ^ 36 → j < 9 → q % 2 ^ suc j ≡ 2 ^ j - 1
     → P (record { page = q; s = true }) (Some (record { base = q - q % 2 ^ suc j; order = suc j })))
     → ((q : ℕ) → q < 2 ^ 36 → q % 2 ^ 9 ≡ 2 ^ 9 - 1 → P (record { page = q; s = true }) None)
-    → (c : Code) → P c (decode c)
+    → (c : RangeCode) → P c (decode c)
 by_code P high clear set full c = at c.page c.s (cases_lt c.page (2 ^ 36))
   where
     in_set : (q : ℕ) → q < 2 ^ 36 → (ones 9 q < 9) ⊎ (9 ≤ ones 9 q) → P (record { page = q; s = true }) (decode (record { page = q; s = true }))
@@ -157,7 +157,7 @@ aligned_down q k =
 mod_le : (q k : ℕ) → q % 2 ^ k ≤ q
 mod_le q k = omega (arith, shr_split q k)
 
-in_limits : (c : Code) → IfSome (decode c) IsRange
+in_limits : (c : RangeCode) → IfSome (decode c) IsRange
 in_limits =
     by_code (λ c o. IfSome o IsRange)
     (λ q s high. tt)
@@ -165,7 +165,7 @@ in_limits =
     (λ q j low few bits. record { small = omega arith; low = omega arith; aligned = aligned_down q (suc j) })
     (λ q low bits. tt)
 
-written_back : (c : Code) → IfSome (decode c) (λ r. encode r ≡ c)
+written_back : (c : RangeCode) → IfSome (decode c) (λ r. encode r ≡ c)
 written_back =
     by_code (λ c o. IfSome o (λ r. encode r ≡ c))
     (λ q s high. tt)
@@ -178,7 +178,7 @@ written_back =
 some_none : (r : Range) → Some r ≡ None → ⊥
 some_none r e = cc
 
-none_exactly : (c : Code) → (decode c ≡ None) ↔ IsNoCode c
+none_exactly : (c : RangeCode) → (decode c ≡ None) ↔ IsNoCode c
 none_exactly =
     by_code (λ c o. (o ≡ None) ↔ IsNoCode c)
     (λ q s high. ((λ e. inl high), (λ e. refl)))

@@ -1,6 +1,6 @@
 -- The messages as they are sent: labels alone, and no names.
 use Rattle.std.specs.Prelude.{ℕ, Bool}
-use Rattle.sva_model.specs.Range.{Code as RangeCode}
+use Rattle.sva_model.specs.Range.{RangeCode}
 
 -- what an Invalidate Request names of a PASID (PCI Express Base 5.0, section 10.3.1): a range of pages by its code, or
 -- all pages

@@ -26,17 +26,17 @@ pub record IsRange (range : Range) : Type 0 where
   pub aligned : range.base % pages_in range ≡ 0
 
 -- the address field, as a page number, and the bit S
-pub record Code : Type 0 where
+pub record RangeCode : Type 0 where
   pub page : ℕ
   pub s : Bool
 
 -- the code of 2^order pages from `base` on
-abbrev pub encode_by : (base order : ℕ) → Code
+abbrev pub encode_by : (base order : ℕ) → RangeCode
 encode_by base zero = record { page = base; s = false }
 encode_by base (suc below) = record { page = base + (2 ^ below - 1); s = true }
 
 -- the code of a range
-abbrev pub encode : Range → Code
+abbrev pub encode : Range → RangeCode
 encode range = encode_by range.base range.order
 
 -- how many bits of a number are set, of the n lowest ones from bit 0 upwards, before the first that is clear
@@ -49,10 +49,10 @@ abbrev pub range_about : (page bits : ℕ) → Option Range
 range_about page bits = if nat_lt bits Limits.most_order then Some (record { base = page - page % 2 ^ suc bits; order = suc bits }) else None
 
 -- the range of a code; none where it has more than 512 pages, or is no page number
-abbrev pub decode_by : Bool → Code → Option Range
+abbrev pub decode_by : Bool → RangeCode → Option Range
 decode_by false code = None
 decode_by true code = if code.s then range_about code.page (ones Limits.most_order code.page) else Some (record { base = code.page; order = 0 })
 
 -- the range that a code names
-abbrev pub decode : Code → Option Range
+abbrev pub decode : RangeCode → Option Range
 decode code = decode_by (nat_lt code.page Limits.page_numbers) code

@@ -3,6 +3,6 @@
 #![tactic(auto)]
 
 mod ranges;
-pub mod rows;
+pub mod runs;
 
 pub use ranges::codes;

@@ -1,3 +1,5 @@
+//! The law of the codes of ranges.
+
 ghost use Rattle.sva_model.specs.Ranges.{AreCodes};
 
 /// The codes of ranges: a range is read from its own code, two ranges have two codes, and a code is none of a range exactly

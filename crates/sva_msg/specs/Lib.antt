@@ -1,5 +1,7 @@
 pub mod Bag
 pub mod Calls
 pub mod Code
+pub mod Extents
 pub mod Kind
 pub mod Laws
+pub mod Seen

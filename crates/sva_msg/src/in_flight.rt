@@ -96,7 +96,7 @@ impl Bag {
         !self.overtakes(number, &message)
     }
 
-    // Whether the message would overtake an older one, of a number below its own, that it must not overtake.
+    /// Whether the message would overtake an older one, of a number below its own, that it must not overtake.
     fn overtakes(&self, number: u64, message: &Message) -> bool
         ensures { result ≡ list_any (λ e. nat_lt e.0 number && must_follow message.now e.1) self.now.messages }
     {
@@ -116,7 +116,7 @@ impl Bag {
     }
 }
 
-// Puts a message with a new number last, where room is reserved for it.
+/// Puts a message with a new number last, where room is reserved for it.
 fn insert_reserved(messages: &mut IndexMap<u64, Message>, number: u64, message: &Message)
     requires new { get nat_eq messages.old number ≡ None }
     requires room { 0 < spare messages.old }

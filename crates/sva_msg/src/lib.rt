@@ -5,10 +5,12 @@
 //! smaller number is older) is this crate's own: who builds a world on it shows that it comes to the world's order.
 #![tactic(auto)]
 
+mod extents;
 mod in_flight;
 mod messages;
 mod ranges;
 
+pub use extents::Extent;
 pub use in_flight::{Bag, laws};
 pub use messages::{Code, CountField, Kind, Message, PageRequest, Scope};
 pub use ranges::Range;

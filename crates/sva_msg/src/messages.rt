@@ -1,3 +1,5 @@
+//! A message: its kind, what it carries, and which older messages it must not overtake.
+
 ghost use Rattle.std.specs.Prelude.{◌≡◌, ℕ, ◌<◌};
 ghost use Rattle.sva_model.specs.LinkOrder.{is_page_request, is_order_down, stays_behind};
 
@@ -176,7 +178,7 @@ impl Kind {
         matches!(self, Kind::PageRequest(_))
     }
 
-    // Whether a start, a stop or a reset must not overtake an older message of this kind.
+    /// Whether a start, a stop or a reset must not overtake an older message of this kind.
     fn is_order_down(self) -> bool
         ensures { result ≡ is_order_down (kind_of self) }
     {
@@ -195,7 +197,7 @@ impl Kind {
         }
     }
 
-    // Whether there is an older message that one of this kind must not overtake.
+    /// Whether there is an older message that one of this kind must not overtake.
     pub(crate) fn is_ordered(self) -> bool
         ensures { result ≡ is_ordered (kind_of self) }
     {
@@ -214,7 +216,7 @@ impl Kind {
         }
     }
 
-    // Whether a message of this kind must not overtake an older one of the same endpoint.
+    /// Whether a message of this kind must not overtake an older one of the same endpoint.
     fn stays_behind(self, older: Kind) -> bool
         ensures { result ≡ stays_behind (kind_of self) (kind_of older) }
     {
@@ -271,7 +273,7 @@ impl Message {
         !self.is_up()
     }
 
-    // Whether it must not overtake an older message.
+    /// Whether it must not overtake an older message.
     pub(crate) fn must_follow(&self, older: &Message) -> bool
         ensures { result ≡ must_follow self.now older.now }
     {

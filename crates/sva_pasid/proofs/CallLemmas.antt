@@ -10,7 +10,7 @@ use Rattle.sva_pasid.specs.Moves.{Life, Move, after_move, numbers_of_life, kind_
 use Rattle.sva_pasid.specs.Moves.Life.{at, over}
 use Rattle.sva_pasid.specs.Moves.Move.{reset}
 use Rattle.sva_pasid.specs.Moves.Kind.{live}
-use Rattle.sva_pasid.specs.Places.{is_of, place_of, stage_of, with_stage, without, lowest, IsLowest, begun, reset_at, after_reset, IsLiveIn, ShareAlike}
+use Rattle.sva_pasid.specs.Places.{is_of, place_of, stage_of, with_stage, without, lowest, begun, reset_at, after_reset, IsLiveIn}
 use Rattle.sva_pasid.specs.Places.{IsOwn, IsTable}
 use Rattle.sva_pasid.specs.Calls.{Holder, Call, opening, hand_with, after_begin, after_take, after_moving, after_put, after_end, after, after_all}
 use Rattle.sva_pasid.specs.Calls.{IsPermitted, ArePermitted, life_in, life_of, IsLifeStep, AlwaysTable, SharedBySpace, AlwaysAwaited, Spares, KeptUntilEnd}
@@ -19,23 +19,23 @@ use Rattle.sva_pasid.specs.Calls.Call.{begin, take, move, put, end, take_back, b
 use Rattle.sva_pasid.proofs.MoveLemmas.{move_keeps}
 use Rattle.sva_pasid.proofs.PlaceLemmas.{found_or, find_none, place_of-binding, place_of-with_same, place_of-with_other, place_of-without_same}
 use Rattle.sva_pasid.proofs.PlaceLemmas.{place_of-without_other, place_of-push, place_of-reset, with_stage-table, without-table, without-absent}
-use Rattle.sva_pasid.proofs.PlaceLemmas.{begun-table, reset-table, reset-numbers, reset-keeps, found-own, FitsPlace}
+use Rattle.sva_pasid.proofs.PlaceLemmas.{begun-table, reset-table, reset-keeps, found-own, FitsPlace}
 use Rattle.sva_pasid.proofs.ShareLemmas.{is_lowest, lowest_alike, alike_found, kept_to_space}
 use Rattle.sva_pasid.specs.declared.stages.Stage.{Stage}
 use Rattle.sva_pasid.specs.declared.stages.Stage.TheVariants.{Live, Stopping, Draining, Invalidating, Quiet, Lost}
-use Rattle.sva_pasid.specs.declared.places.Place.{Place}
+use Rattle.sva_pasid.specs.declared.places.TableEntry.{TableEntry}
 
 moves_by_table : MovesByTable
 moves_by_table = search rules
 
 -- a binding's stage is in its place or in hand, never in both
-abbrev IsInOne : Place → Option Stage → Option Life → Type 0
+abbrev IsInOne : TableEntry → Option Stage → Option Life → Type 0
 IsInOne place (Some stage) None = Unit {0}
 IsInOne place (Some stage) (Some life) = ⊥
 IsInOne place None None = ⊥
 IsInOne place None (Some life) = numbers_of_life life ≡ record { binding = place.binding; pasid = place.pasid }
 
-abbrev IsMatched : Option Place → Option Life → Type 0
+abbrev IsMatched : Option TableEntry → Option Life → Type 0
 IsMatched None None = Unit {0}
 IsMatched None (Some life) = ⊥
 IsMatched (Some place) life = IsInOne place place.stage life
@@ -45,7 +45,7 @@ record IsHeld (h : Holder) : Type 0 where
   matched : (b : ℕ) → IsMatched (place_of b h.places) (h.hand b)
 
 -- what a call does to one binding
-record IsKept (place place' : Option Place) (life life' : Option Life) : Type 0 where
+record IsKept (place place' : Option TableEntry) (life life' : Option Life) : Type 0 where
   matched : IsMatched place' life'
   step : IsLifeStep (life_in place life) (life_in place' life')
 
@@ -53,15 +53,15 @@ stays : (life : Option Life) → IsLifeStep life life
 stays None = tt
 stays (Some life) = (inl refl, refl)
 
-kept_at : (place place' q q' : Option Place) (life life' l l' : Option Life) → place ≡ q → place' ≡ q' → life ≡ l → life' ≡ l' → IsKept q q' l l'
+kept_at : (place place' q q' : Option TableEntry) (life life' l l' : Option Life) → place ≡ q → place' ≡ q' → life ≡ l → life' ≡ l' → IsKept q q' l l'
     → IsKept place place' life life'
 kept_at place place' q q' life life' l l' p p' k k' kept =
-    subst (λ (x : Option Place). IsKept x place' life life') (sym p)
-    (subst (λ (x : Option Place). IsKept q x life life') (sym p')
+    subst (λ (x : Option TableEntry). IsKept x place' life life') (sym p)
+    (subst (λ (x : Option TableEntry). IsKept q x life life') (sym p')
     (subst (λ (x : Option Life). IsKept q q' x life') (sym k)
     (subst (λ (x : Option Life). IsKept q q' l x) (sym k') kept)))
 
-same_cell : (place place' : Option Place) (life life' : Option Life) → IsMatched place life → place' ≡ place → life' ≡ life → IsKept place place' life life'
+same_cell : (place place' : Option TableEntry) (life life' : Option Life) → IsMatched place life → place' ≡ place → life' ≡ life → IsKept place place' life life'
 same_cell place place' life life' m p l =
     kept_at place place' place place life life' life life refl p refl l (record { matched = m; step = stays (life_in place life) })
 
@@ -91,21 +91,21 @@ hand_other : (b c : ℕ) (life : Option Life) (hand : ℕ → Option Life) → b
 hand_other b c life hand n = let e : nat_eq c b ≡ false = ne_eqb c b (λ k. n (sym k)) in rw e
 
 -- `take`
-out_of_hand : (p : Place) (stage : Stage) (life : Option Life) → IsInOne p (Some stage) life → life ≡ None
+out_of_hand : (p : TableEntry) (stage : Stage) (life : Option Life) → IsInOne p (Some stage) life → life ≡ None
 out_of_hand p stage None m = refl
 out_of_hand p stage (Some life) m = absurd m
 
-kept_take : (p : Place) (stage : Stage) → p.stage ≡ Some stage → numbers_of stage ≡ record { binding = p.binding; pasid = p.pasid }
+kept_take : (p : TableEntry) (stage : Stage) → p.stage ≡ Some stage → numbers_of stage ≡ record { binding = p.binding; pasid = p.pasid }
     → IsKept (Some p) (Some (record p { stage = None })) None (Some (at stage))
 kept_take p stage e own = record {
   matched = own;
   step = subst (λ (s : Option Stage). IsLifeStep (option_map (λ (k : Stage). at k) s) (Some (at stage))) (sym e) (inl refl, refl);
 }
 
-take_stage : (h : Holder) (b : ℕ) (p : Place) (s : Option Stage) → IsHeld h → place_of b h.places ≡ Some p → p.stage ≡ s → Goes h (after_take b s h)
+take_stage : (h : Holder) (b : ℕ) (p : TableEntry) (s : Option Stage) → IsHeld h → place_of b h.places ≡ Some p → p.stage ≡ s → Goes h (after_take b s h)
 take_stage h b p None i f e = nothing h i
 take_stage h b p (Some stage) i f e =
-    let here : IsInOne p p.stage (h.hand b) = subst (λ (x : Option Place). IsMatched x (h.hand b)) f (i.matched b) in
+    let here : IsInOne p p.stage (h.hand b) = subst (λ (x : Option TableEntry). IsMatched x (h.hand b)) f (i.matched b) in
     let free : h.hand b ≡ None = out_of_hand p stage (h.hand b) (subst (λ (x : Option Stage). IsInOne p x (h.hand b)) e here) in
     let own : numbers_of stage ≡ record { binding = p.binding; pasid = p.pasid } =
     subst (λ (x : Option Stage). IfSome x (λ (k : Stage). numbers_of k ≡ record { binding = p.binding; pasid = p.pasid })) e
@@ -116,23 +116,23 @@ take_stage h b p (Some stage) i f e =
     (hand_same b (Some (at stage)) h.hand) (kept_take p stage e own))
     (λ c n. place_of-with_other b c None h.places (place_of c h.places) n refl) (λ c n. hand_other b c (Some (at stage)) h.hand n)
 
-take_place : (h : Holder) (b : ℕ) (place : Option Place) → IsHeld h → place_of b h.places ≡ place
-    → Goes h (after_take b (option_and_then (λ (p : Place). p.stage) place) h)
+take_place : (h : Holder) (b : ℕ) (place : Option TableEntry) → IsHeld h → place_of b h.places ≡ place
+    → Goes h (after_take b (option_and_then (λ (p : TableEntry). p.stage) place) h)
 take_place h b None i f = nothing h i
 take_place h b (Some p) i f = take_stage h b p p.stage i f refl
 
 -- the place of what is in hand is there and empty
-record IsEmptyAt (place : Option Place) (life : Life) : Type 0 where
-  at : Place
+record IsEmptyAt (place : Option TableEntry) (life : Life) : Type 0 where
+  at : TableEntry
   found : place ≡ Some at
   empty : at.stage ≡ None
   own : numbers_of_life life ≡ record { binding = at.binding; pasid = at.pasid }
 
-empty_place : (place : Option Place) (life : Life) → IsMatched place (Some life) → IsEmptyAt place life
+empty_place : (place : Option TableEntry) (life : Life) → IsMatched place (Some life) → IsEmptyAt place life
 empty_place None life m = absurd m
 empty_place (Some p) life m = by_stage p p.stage life refl m
   where
-    by_stage : (p : Place) (s : Option Stage) (life : Life) → p.stage ≡ s → IsInOne p s (Some life) → IsEmptyAt (Some p) life
+    by_stage : (p : TableEntry) (s : Option Stage) (life : Life) → p.stage ≡ s → IsInOne p s (Some life) → IsEmptyAt (Some p) life
     by_stage p None life e m = record { at = p; found = refl; empty = e; own = m }
     by_stage p (Some stage) life e m = absurd m
 
@@ -141,7 +141,7 @@ held_place h b life i e =
     empty_place (place_of b h.places) life (subst (λ (x : Option Life). IsMatched (place_of b h.places) x) e (i.matched b))
 
 -- `move`
-kept_move : (p : Place) (life : Life) (m : Move) → p.stage ≡ None → numbers_of_life life ≡ record { binding = p.binding; pasid = p.pasid }
+kept_move : (p : TableEntry) (life : Life) (m : Move) → p.stage ≡ None → numbers_of_life life ≡ record { binding = p.binding; pasid = p.pasid }
     → IsKept (Some p) (Some p) (Some life) (Some (after_move life m))
 kept_move p life m e own = record {
   matched = subst (λ (s : Option Stage). IsInOne p s (Some (after_move life m))) (sym e) (move_keeps life m ∙ own);
@@ -158,7 +158,7 @@ move_life h b m (Some life) i e =
     (λ c n. refl) (λ c n. hand_other b c (Some (after_move life m)) h.hand n)
 
 -- `put`
-kept_put : (p : Place) (stage : Stage) → IsKept (Some p) (Some (record p { stage = Some stage })) (Some (at stage)) None
+kept_put : (p : TableEntry) (stage : Stage) → IsKept (Some p) (Some (record p { stage = Some stage })) (Some (at stage)) None
 kept_put p stage = record { matched = tt; step = (inl refl, refl) }
 
 put_life : (h : Holder) (b : ℕ) (life : Option Life) → IsHeld h → h.hand b ≡ life → Goes h (after_put b life h)
@@ -167,7 +167,7 @@ put_life h b (Some (over n)) i e = nothing h i
 put_life h b (Some (at stage)) i e =
     let x : IsEmptyAt (place_of b h.places) (at stage) = held_place h b (at stage) i e in
     let fits : FitsPlace b (Some stage) h.places = λ p g. let same : Some x.at ≡ Some p = sym x.found ∙ g in let q : x.at ≡ p =
-    cc in subst (λ (r : Place). numbers_of stage ≡ record { binding = r.binding; pasid = r.pasid }) q x.own in
+    cc in subst (λ (r : TableEntry). numbers_of stage ≡ record { binding = r.binding; pasid = r.pasid }) q x.own in
     goes_at h (after_put b (Some (at stage)) h) b i (with_stage-table b (Some stage) h.places i.table fits)
     (kept_at (place_of b h.places) (place_of b (with_stage b (Some stage) h.places)) (Some x.at) (Some (record x.at { stage = Some stage }))
     (h.hand b) (hand_with b None h.hand b) (Some (at stage)) None x.found (place_of-with_same b (Some stage) h.places x.at x.found) e
@@ -175,7 +175,7 @@ put_life h b (Some (at stage)) i e =
     (λ c n. place_of-with_other b c (Some stage) h.places (place_of c h.places) n refl) (λ c n. hand_other b c None h.hand n)
 
 -- `end`
-kept_end : (p : Place) (n : Numbers) → IsKept (Some p) None (Some (over n)) None
+kept_end : (p : TableEntry) (n : Numbers) → IsKept (Some p) None (Some (over n)) None
 kept_end p n = record { matched = tt; step = refl }
 
 held_binding : (h : Holder) (b : ℕ) (life : Life) → IsHeld h → h.hand b ≡ Some life → (numbers_of_life life).binding ≡ b
@@ -204,7 +204,7 @@ no_hand : (life : Option Life) → IsMatched None life → life ≡ None
 no_hand None m = refl
 no_hand (Some life) m = absurd m
 
-none_else : (r : Option Place) → found_or r None ≡ r
+none_else : (r : Option TableEntry) → found_or r None ≡ r
 none_else None = refl
 none_else (Some p) = refl
 
@@ -212,10 +212,10 @@ begin_pasid : (h : Holder) (e s b : ℕ) (pasid : Option ℕ) → IsHeld h → p
     → Goes h (after_begin e s b pasid h)
 begin_pasid h e s b None i f l = nothing h i
 begin_pasid h e s b (Some q) i f l =
-    let p : Place = begun e s b q in
+    let p : TableEntry = begun e s b q in
     let is_here : is_of b p ≡ true = eq-eqb b b refl in
     let found : place_of b (h.places ++ p ∷ []) ≡ Some p = place_of-push b h.places p ∙ (rw (f, is_here)) in
-    let hand : h.hand b ≡ None = no_hand (h.hand b) (subst (λ (x : Option Place). IsMatched x (h.hand b)) f (i.matched b)) in
+    let hand : h.hand b ≡ None = no_hand (h.hand b) (subst (λ (x : Option TableEntry). IsMatched x (h.hand b)) f (i.matched b)) in
     goes_at h (after_begin e s b (Some q) h) b i
     (begun-table e s b q h.places i.table f (is_lowest s h.places q i.table l).from_one (is_lowest s h.places q i.table l).to_last
     (lowest_alike e s b q h.places i.table l))
@@ -238,7 +238,7 @@ reset_step stage =
       move_keeps (at stage) reset,
     )
 
-reset_stage : (p : Place) (s : Option Stage) (life : Option Life) → p.stage ≡ s → IsInOne p s life
+reset_stage : (p : TableEntry) (s : Option Stage) (life : Option Life) → p.stage ≡ s → IsInOne p s life
     → IsKept (Some p) (Some (record p { stage = option_map reset_of s })) life life
 reset_stage p None None e m = absurd m
 reset_stage p None (Some life) e m = record { matched = m; step = stays (Some life) }
@@ -248,7 +248,7 @@ reset_stage p (Some stage) None e m = record {
 }
 reset_stage p (Some stage) (Some life) e m = absurd m
 
-reset_place : (e : ℕ) (place : Option Place) (life : Option Life) → IsMatched place life → IsKept place (option_map (reset_at e) place) life life
+reset_place : (e : ℕ) (place : Option TableEntry) (life : Option Life) → IsMatched place life → IsKept place (option_map (reset_at e) place) life life
 reset_place e None life m = record { matched = m; step = stays (life_in None life) }
 reset_place e (Some p) life m = by_test (nat_eq p.endpoint e)
   where
@@ -259,18 +259,18 @@ reset_place e (Some p) life m = by_test (nat_eq p.endpoint e)
 reset_goes : (h : Holder) (e : ℕ) → IsHeld h → Goes h (after h (by_reset e))
 reset_goes h e i = record {
   table = reset-table e h.places i.table;
-  cell = λ c. subst (λ (x : Option Place). IsKept (place_of c h.places) x (h.hand c) (h.hand c)) (sym (place_of-reset e c h.places))
+  cell = λ c. subst (λ (x : Option TableEntry). IsKept (place_of c h.places) x (h.hand c) (h.hand c)) (sym (place_of-reset e c h.places))
       (reset_place e (place_of c h.places) (h.hand c) (i.matched c));
 }
 
 -- `take_back`: the place has a live stage, so nothing of the binding is in hand
-record IsLiveAt (place : Option Place) : Type 0 where
-  at : Place
+record IsLiveAt (place : Option TableEntry) : Type 0 where
+  at : TableEntry
   found : place ≡ Some at
   numbers : Numbers
   stage : at.stage ≡ Some (Live numbers)
 
-live_at : (place : Option Place) → IsSomeAnd (option_and_then (λ (p : Place). p.stage) place) IsLive → IsLiveAt place
+live_at : (place : Option TableEntry) → IsSomeAnd (option_and_then (λ (p : TableEntry). p.stage) place) IsLive → IsLiveAt place
 live_at None w = absurd w
 live_at (Some p) w = by_stage p.stage refl w
   where
@@ -289,7 +289,7 @@ live_at (Some p) w = by_stage p.stage refl w
 none_in_hand : (h : Holder) (b : ℕ) → IsHeld h → IsLiveIn b h.places → h.hand b ≡ None
 none_in_hand h b i w =
     let x : IsLiveAt (place_of b h.places) = live_at (place_of b h.places) w in
-    let here : IsInOne x.at x.at.stage (h.hand b) = subst (λ (p : Option Place). IsMatched p (h.hand b)) x.found (i.matched b) in
+    let here : IsInOne x.at x.at.stage (h.hand b) = subst (λ (p : Option TableEntry). IsMatched p (h.hand b)) x.found (i.matched b) in
     out_of_hand x.at (Live x.numbers) (h.hand b) (subst (λ (s : Option Stage). IsInOne x.at s (h.hand b)) x.stage here)
 
 back_other : (h : Holder) (b c : ℕ) → IsHeld h → b ≢ c → IsKept (place_of c h.places) (place_of c (without b h.places)) (h.hand c) (h.hand c)
@@ -371,18 +371,18 @@ life_before : (h : Holder) (b : ℕ) → IsHeld h → IsLiveIn b h.places → Is
 life_before h b i w =
     let x : IsLiveAt (place_of b h.places) = live_at (place_of b h.places) w in
     subst (λ (life : Option Life). IsSomeAnd (life_in (place_of b h.places) life) (λ k. kind_of k ≡ live)) (sym (none_in_hand h b i w))
-    (subst (λ (p : Option Place). IsSomeAnd (life_in p None) (λ k. kind_of k ≡ live)) (sym x.found)
+    (subst (λ (p : Option TableEntry). IsSomeAnd (life_in p None) (λ k. kind_of k ≡ live)) (sym x.found)
     (subst (λ (s : Option Stage). IsSomeAnd (option_map (λ (k : Stage). at k) s) (λ k. kind_of k ≡ live)) (sym x.stage) refl))
 
 life_behind : (h : Holder) (b : ℕ) → IsHeld h → IsLiveIn b h.places → life_of b (after h (take_back b)) ≡ None
 life_behind h b i w = rw (place_of-without_same b h.places, none_in_hand h b i w) refl
 
-without-push : (e s b q : ℕ) (ps : List Place) → place_of b ps ≡ None → without b (ps ++ begun e s b q ∷ []) ≡ ps
+without-push : (e s b q : ℕ) (ps : List TableEntry) → place_of b ps ≡ None → without b (ps ++ begun e s b q ∷ []) ≡ ps
 without-push e s b q [] f = let here : is_of b (begun e s b q) ≡ true = eq-eqb b b refl in rw here refl
 without-push e s b q (p ∷ ps) f =
     let a : (is_of b p ≡ false) × (place_of b ps ≡ None) = find_none (is_of b p) p (place_of b ps) f in
     let other : is_of b p ≡ false = a.0 in
-    rw other (ap (λ (qs : List Place). p ∷ qs) (without-push e s b q ps a.1))
+    rw other (ap (λ (qs : List TableEntry). p ∷ qs) (without-push e s b q ps a.1))
 
 begun_and_back : (h : Holder) (e s b : ℕ) (r : Option ℕ) → place_of b h.places ≡ None → without b (after_begin e s b r h).places ≡ h.places
 begun_and_back h e s b None f = without-absent b h.places f
@@ -400,13 +400,13 @@ taken_back calls w =
 -- A PASID is kept until the end of its binding.
 
 -- the binding has a place, of the space and under the PASID
-abbrev Bears : ℕ → ℕ → Option Place → Type 0
+abbrev Bears : ℕ → ℕ → Option TableEntry → Type 0
 Bears s q place = IsSomeAnd place (λ p. (p.space ≡ s) × (p.pasid ≡ q))
 
-bears_with : (b c s q : ℕ) (stage : Option Stage) (ps : List Place) → Bears s q (place_of c ps) → Bears s q (place_of c (with_stage b stage ps))
+bears_with : (b c s q : ℕ) (stage : Option Stage) (ps : List TableEntry) → Bears s q (place_of c ps) → Bears s q (place_of c (with_stage b stage ps))
 bears_with b c s q stage ps h = by_place (place_of c ps) refl h
   where
-    by_place : (r : Option Place) → place_of c ps ≡ r → Bears s q r → Bears s q (place_of c (with_stage b stage ps))
+    by_place : (r : Option TableEntry) → place_of c ps ≡ r → Bears s q r → Bears s q (place_of c (with_stage b stage ps))
     by_place None f h = absurd h
     by_place (Some p) f h =
         elim (cases_eq b c) [
@@ -418,17 +418,17 @@ bears_with b c s q stage ps h = by_place (place_of c ps) refl h
           | inr n ↦ rw (place_of-with_other b c stage ps (Some p) n f) h
         ]
 
-bears_push : (c s q : ℕ) (ps : List Place) (p : Place) → Bears s q (place_of c ps) → Bears s q (place_of c (ps ++ p ∷ []))
+bears_push : (c s q : ℕ) (ps : List TableEntry) (p : TableEntry) → Bears s q (place_of c ps) → Bears s q (place_of c (ps ++ p ∷ []))
 bears_push c s q ps p h = rw (place_of-push c ps p) (by_found (place_of c ps) (cond (is_of c p) (Some p) None) h)
   where
-    by_found : (r o : Option Place) → Bears s q r → Bears s q (found_or r o)
+    by_found : (r o : Option TableEntry) → Bears s q r → Bears s q (found_or r o)
     by_found None o h = absurd h
     by_found (Some p) o h = h
 
-bears_reset : (e c s q : ℕ) (ps : List Place) → Bears s q (place_of c ps) → Bears s q (place_of c (after_reset e ps))
+bears_reset : (e c s q : ℕ) (ps : List TableEntry) → Bears s q (place_of c ps) → Bears s q (place_of c (after_reset e ps))
 bears_reset e c s q ps h = rw (place_of-reset e c ps) (by_found (place_of c ps) h)
   where
-    by_found : (r : Option Place) → Bears s q r → Bears s q (option_map (reset_at e) r)
+    by_found : (r : Option TableEntry) → Bears s q r → Bears s q (option_map (reset_at e) r)
     by_found None h = absurd h
     by_found (Some p) h = ((reset-keeps e p).1 ∙ h.0, (reset-keeps e p).0 ∙ h.1)
 
@@ -481,12 +481,12 @@ begun_bears : (h : Holder) (e s b q : ℕ) (pasid : Option ℕ) → place_of b h
 begun_bears h e s b q None f l = absurd (cc)
 begun_bears h e s b q (Some q') f l =
     let same : q' ≡ q = cc in
-    let p : Place = begun e s b q' in
+    let p : TableEntry = begun e s b q' in
     let is_here : is_of b p ≡ true = eq-eqb b b refl in
     let found : place_of b (h.places ++ p ∷ []) ≡ Some p = place_of-push b h.places p ∙ (rw (f, is_here)) in
     rw found (refl, same)
 
-kept_at_place : (ps : List Place) (b s q other : ℕ) (r : Option Place) → IsTable ps → place_of b ps ≡ r → Bears s q r
+kept_at_place : (ps : List TableEntry) (b s q other : ℕ) (r : Option TableEntry) → IsTable ps → place_of b ps ≡ r → Bears s q r
     → (lowest other ps ≡ Some q) ↔ (other ≡ s)
 kept_at_place ps b s q other None t f k = absurd k
 kept_at_place ps b s q other (Some p) t f k =

@@ -1,16 +1,16 @@
 -- PASIDs that are shared by space: what the two look-ups of `lowest` find in a table.
-use Rattle.std.proofs.Common.{◌≡◌, ◌≢◌, ◌↔◌, ℕ, ◌+◌, ◌<◌, ◌≤◌, Bool, true, false, not, inl, inr, Option, Some, None, List, [], ◌∷◌, refl, sym, ◌∙◌, ap}
+use Rattle.std.proofs.Common.{◌≡◌, ◌↔◌, ℕ, ◌<◌, ◌≤◌, Bool, true, false, not, inl, inr, Option, Some, None, List, [], ◌∷◌, refl, sym, ◌∙◌, ap}
 use Rattle.std.proofs.Common.{subst, arith}
 use Rattle.std.specs.Prelude.{◌||◌, IfSome, IfNone, All, AllPairs, find, option_map, MatchOption}
-use Rattle.std.specs.List.{range_with_len, list_any}
+use Rattle.std.specs.List.{list_any}
 use Rattle.std.specs.Option.{option_or}
 use Rattle.std.proofs.lemmas.List.Elements.{All-head, All-tail, All-nil, All-cons, All-weaker}
-use Rattle.std.proofs.lemmas.Bool.{cases_Bool, eqb-true, eqb-false, eq-eqb, ne_eqb}
-use Rattle.sva_pasid.specs.Places.{place_of, is_in, borne_by, bears, is_borne, is_bound, lowest_free, lowest, IsLowest, IsOutOfPasids, LowestIsLeast}
+use Rattle.std.proofs.lemmas.Bool.{cases_Bool, eqb-true, eqb-false, eq-eqb}
+use Rattle.sva_pasid.specs.Places.{is_in, borne_by, bears, is_borne, lowest_free, lowest, IsLowest, IsOutOfPasids, LowestIsLeast}
 use Rattle.sva_pasid.specs.Places.{begun, ShareAlike, IsApart, IsOwn, IsTable}
-use Rattle.sva_pasid.specs.declared.bearers.TheConstants.{PASIDS}
-use Rattle.sva_pasid.specs.declared.places.Place.{Place}
-use Rattle.sva_pasid.proofs.PlaceLemmas.{pairs-head, pairs-tail, find_none, find_range, find_range_none, IsFirst, found_in_range, none_in_range, not_false}
+use Rattle.sva_step.specs.declared.limits.TheConstants.{PASIDS}
+use Rattle.sva_pasid.specs.declared.places.TableEntry.{TableEntry}
+use Rattle.sva_pasid.proofs.PlaceLemmas.{pairs-head, pairs-tail, find_none, found_in_range, none_in_range, not_false}
 use Rattle.sva_pasid.proofs.PlaceLemmas.{not_true}
 
 -- what a search finds passes its test, and has what all have
@@ -83,67 +83,67 @@ none_any t (y ∷ ys) h =
     rw e (none_any t ys a.1)
 
 -- a place that was found shares with each
-alike_back : (p q : Place) → ShareAlike p q → ShareAlike q p
+alike_back : (p q : TableEntry) → ShareAlike p q → ShareAlike q p
 alike_back p q a = (λ h. sym (a.0 (sym h)), λ h. sym (a.1 (sym h)))
 
-pub alike_all : (t : Place → Bool) (ps : List Place) (r : Place) → AllPairs IsApart ps → find t ps ≡ Some r → All (λ (p : Place). ShareAlike p r) ps
+pub alike_all : (t : TableEntry → Bool) (ps : List TableEntry) (r : TableEntry) → AllPairs IsApart ps → find t ps ≡ Some r → All (λ (p : TableEntry). ShareAlike p r) ps
 alike_all t [] r a h = absurd (cc)
 alike_all t (p ∷ ps) r a h =
     elim (cases_Bool (t p)) [
       | inl e ↦
           let found : Some p ≡ Some r = rw e at h in
           let same : p ≡ r = cc in
-          subst (λ (x : Place). All (λ (q : Place). ShareAlike q x) (p ∷ ps)) same
-          (All-cons (λ (q : Place). ShareAlike q p) p ps (λ k. refl, λ k. refl)
-          (All-weaker (IsApart p) (λ (q : Place). ShareAlike q p) (λ q x. alike_back p q x.pasids) ps (pairs-head IsApart p ps a)))
+          subst (λ (x : TableEntry). All (λ (q : TableEntry). ShareAlike q x) (p ∷ ps)) same
+          (All-cons (λ (q : TableEntry). ShareAlike q p) p ps (λ k. refl, λ k. refl)
+          (All-weaker (IsApart p) (λ (q : TableEntry). ShareAlike q p) (λ q x. alike_back p q x.pasids) ps (pairs-head IsApart p ps a)))
       | inr e ↦
           let found : find t ps ≡ Some r = rw e at h in
-          All-cons (λ (q : Place). ShareAlike q r) p ps (found_has (IsApart p) t ps r (pairs-head IsApart p ps a) found).pasids
+          All-cons (λ (q : TableEntry). ShareAlike q r) p ps (found_has (IsApart p) t ps r (pairs-head IsApart p ps a) found).pasids
           (alike_all t ps r (pairs-tail IsApart p ps a) found)
     ]
 
 -- two that were found
-pub alike_found : (t u : Place → Bool) (ps : List Place) (p q : Place) → AllPairs IsApart ps → find t ps ≡ Some p → find u ps ≡ Some q → ShareAlike p q
-alike_found t u ps p q a f g = found_has (λ (x : Place). ShareAlike x q) t ps p (alike_all u ps q a g) f
+pub alike_found : (t u : TableEntry → Bool) (ps : List TableEntry) (p q : TableEntry) → AllPairs IsApart ps → find t ps ≡ Some p → find u ps ≡ Some q → ShareAlike p q
+alike_found t u ps p q a f g = found_has (λ (x : TableEntry). ShareAlike x q) t ps p (alike_all u ps q a g) f
 
 -- the PASID that a space bears is that of each of its places
-pub borne_at : (t : Place → Bool) (s : ℕ) (ps : List Place) (p : Place) → AllPairs IsApart ps → find t ps ≡ Some p → p.space ≡ s → borne_by s ps
+pub borne_at : (t : TableEntry → Bool) (s : ℕ) (ps : List TableEntry) (p : TableEntry) → AllPairs IsApart ps → find t ps ≡ Some p → p.space ≡ s → borne_by s ps
     ≡ Some p.pasid
 borne_at t s ps p a f e =
     let there : IsFound (is_in s) ps = found_too t (is_in s) ps p f (eq-eqb p.space s e) in
     let own : there.at.space ≡ s = eqb-true there.at.space s (found_passes (is_in s) ps there.at there.found) in
     let same : there.at.pasid ≡ p.pasid = (alike_found (is_in s) t ps there.at p a there.found f).1 (own ∙ sym e) in
-    ap (λ (r : Option Place). option_map (λ (x : Place). x.pasid) r) there.found ∙ ap (λ (k : ℕ). Some k) same
+    ap (λ (r : Option TableEntry). option_map (λ (x : TableEntry). x.pasid) r) there.found ∙ ap (λ (k : ℕ). Some k) same
 
 -- and where it bears one, it has a place under it
-pub record IsBorneAt (s : ℕ) (ps : List Place) (q : ℕ) : Type 0 where
-  pub at : Place
+pub record IsBorneAt (s : ℕ) (ps : List TableEntry) (q : ℕ) : Type 0 where
+  pub at : TableEntry
   pub found : find (is_in s) ps ≡ Some at
   pub pasid : at.pasid ≡ q
   pub space : at.space ≡ s
 
-pub place_borne : (s : ℕ) (ps : List Place) (q : ℕ) → borne_by s ps ≡ Some q → IsBorneAt s ps q
+pub place_borne : (s : ℕ) (ps : List TableEntry) (q : ℕ) → borne_by s ps ≡ Some q → IsBorneAt s ps q
 place_borne s ps q h = by_result (find (is_in s) ps) refl h
   where
-    by_result : (r : Option Place) → find (is_in s) ps ≡ r → option_map (λ (x : Place). x.pasid) r ≡ Some q → IsBorneAt s ps q
+    by_result : (r : Option TableEntry) → find (is_in s) ps ≡ r → option_map (λ (x : TableEntry). x.pasid) r ≡ Some q → IsBorneAt s ps q
     by_result None e k = absurd (cc)
     by_result (Some p) e k = record { at = p; found = e; pasid = cc; space = eqb-true p.space s (found_passes (is_in s) ps p e) }
 
-pub no_place : (s : ℕ) (ps : List Place) → borne_by s ps ≡ None → find (is_in s) ps ≡ None
+pub no_place : (s : ℕ) (ps : List TableEntry) → borne_by s ps ≡ None → find (is_in s) ps ≡ None
 no_place s ps h = by_result (find (is_in s) ps) refl h
   where
-    by_result : (r : Option Place) → find (is_in s) ps ≡ r → option_map (λ (x : Place). x.pasid) r ≡ None → find (is_in s) ps ≡ None
+    by_result : (r : Option TableEntry) → find (is_in s) ps ≡ r → option_map (λ (x : TableEntry). x.pasid) r ≡ None → find (is_in s) ps ≡ None
     by_result None e k = e
     by_result (Some p) e k = absurd (cc)
 
 -- the lowest PASID that no space bears
-pub record IsFree (ps : List Place) (q : ℕ) : Type 0 where
+pub record IsFree (ps : List TableEntry) (q : ℕ) : Type 0 where
   pub from_one : 1 ≤ q
   pub to_last : q ≤ PASIDS
   pub free : is_borne q ps ≡ false
   pub lower : (r : ℕ) → 1 ≤ r → r < q → is_borne r ps ≡ true
 
-pub is_free : (ps : List Place) (q : ℕ) → lowest_free ps ≡ Some q → IsFree ps q
+pub is_free : (ps : List TableEntry) (q : ℕ) → lowest_free ps ≡ Some q → IsFree ps q
 unfolding lowest_free
 is_free ps q h =
     let f = found_in_range (λ k. not (is_borne k ps)) 1 PASIDS q h in
@@ -154,12 +154,12 @@ is_free ps q h =
       lower = λ k g j. not_true (is_borne k ps) (f.before k g j);
     }
 
-pub none_free : (ps : List Place) → lowest_free ps ≡ None → (q : ℕ) → 1 ≤ q → q ≤ PASIDS → is_borne q ps ≡ true
+pub none_free : (ps : List TableEntry) → lowest_free ps ≡ None → (q : ℕ) → 1 ≤ q → q ≤ PASIDS → is_borne q ps ≡ true
 unfolding lowest_free
 none_free ps h q l m = not_true (is_borne q ps) (none_in_range (λ k. not (is_borne k ps)) 1 PASIDS h q l (omega arith))
 
 -- what `lowest` gives
-lowest_from : (s : ℕ) (ps : List Place) (q : ℕ) (r : Option ℕ) → IsTable ps → borne_by s ps ≡ r → option_or r (lowest_free ps) ≡ Some q → IsLowest s ps q
+lowest_from : (s : ℕ) (ps : List TableEntry) (q : ℕ) (r : Option ℕ) → IsTable ps → borne_by s ps ≡ r → option_or r (lowest_free ps) ≡ Some q → IsLowest s ps q
 lowest_from s ps q None t e h =
     let f : IsFree ps q = is_free ps q h in
     record {
@@ -181,14 +181,14 @@ lowest_from s ps q (Some b) t e h =
       lower = λ k. absurd (cc);
     }
 
-pub is_lowest : (s : ℕ) (ps : List Place) (q : ℕ) → IsTable ps → lowest s ps ≡ Some q → IsLowest s ps q
+pub is_lowest : (s : ℕ) (ps : List TableEntry) (q : ℕ) → IsTable ps → lowest s ps ≡ Some q → IsLowest s ps q
 is_lowest s ps q t h = lowest_from s ps q (borne_by s ps) t refl h
 
-out_from : (s : ℕ) (ps : List Place) (r : Option ℕ) → borne_by s ps ≡ r → option_or r (lowest_free ps) ≡ None → IsOutOfPasids s ps
+out_from : (s : ℕ) (ps : List TableEntry) (r : Option ℕ) → borne_by s ps ≡ r → option_or r (lowest_free ps) ≡ None → IsOutOfPasids s ps
 out_from s ps None e h = record { none = e; all = none_free ps h }
 out_from s ps (Some b) e h = absurd (cc)
 
-pub is_out : (s : ℕ) (ps : List Place) → lowest s ps ≡ None → IsOutOfPasids s ps
+pub is_out : (s : ℕ) (ps : List TableEntry) → lowest s ps ≡ None → IsOutOfPasids s ps
 is_out s ps h = out_from s ps (borne_by s ps) refl h
 
 pub lowest_is_least : LowestIsLeast
@@ -199,21 +199,21 @@ lowest_is_least s ps t = by_result (lowest s ps) refl
     by_result (Some q) h = is_lowest s ps q t h
 
 -- the same of a result that is `lowest`
-pub lowest-some : (s : ℕ) (ps : List Place) (r : Option ℕ) → IsTable ps → r ≡ lowest s ps → IfSome r (λ q. IsLowest s ps q)
+pub lowest-some : (s : ℕ) (ps : List TableEntry) (r : Option ℕ) → IsTable ps → r ≡ lowest s ps → IfSome r (λ q. IsLowest s ps q)
 lowest-some s ps None t h = tt
 lowest-some s ps (Some q) t h = is_lowest s ps q t (sym h)
 
-pub lowest-none : (s : ℕ) (ps : List Place) (r : Option ℕ) → r ≡ lowest s ps → IfNone r (IsOutOfPasids s ps)
+pub lowest-none : (s : ℕ) (ps : List TableEntry) (r : Option ℕ) → r ≡ lowest s ps → IfNone r (IsOutOfPasids s ps)
 lowest-none s ps None h = is_out s ps (sym h)
 lowest-none s ps (Some q) h = tt
 
 -- a new place under that PASID shares with each
-free_alike : (e s b q : ℕ) (ps : List Place) → find (is_in s) ps ≡ None → is_borne q ps ≡ false → All (λ (p : Place). ShareAlike p (begun e s b q)) ps
-free_alike e s b q [] f g = All-nil (λ (p : Place). ShareAlike p (begun e s b q))
+free_alike : (e s b q : ℕ) (ps : List TableEntry) → find (is_in s) ps ≡ None → is_borne q ps ≡ false → All (λ (p : TableEntry). ShareAlike p (begun e s b q)) ps
+free_alike e s b q [] f g = All-nil (λ (p : TableEntry). ShareAlike p (begun e s b q))
 free_alike e s b q (p ∷ ps) f g =
     let here : (is_in s p ≡ false) × (find (is_in s) ps ≡ None) = find_none (is_in s p) p (find (is_in s) ps) f in
     let parts = or_false (bears q p) (is_borne q ps) g in
-    All-cons (λ (x : Place). ShareAlike x (begun e s b q)) p ps
+    All-cons (λ (x : TableEntry). ShareAlike x (begun e s b q)) p ps
     (λ k. absurd (eqb-false p.pasid q parts.0 k), λ k. absurd (eqb-false p.space s here.0 k))
     (free_alike e s b q ps here.1 parts.1)
   where
@@ -221,21 +221,21 @@ free_alike e s b q (p ∷ ps) f g =
     or_false true y h = absurd (cc)
     or_false false y h = (refl, h)
 
-lowest_alike_from : (e s b q : ℕ) (ps : List Place) (r : Option ℕ) → IsTable ps → borne_by s ps ≡ r → option_or r (lowest_free ps) ≡ Some q
-    → All (λ (p : Place). ShareAlike p (begun e s b q)) ps
+lowest_alike_from : (e s b q : ℕ) (ps : List TableEntry) (r : Option ℕ) → IsTable ps → borne_by s ps ≡ r → option_or r (lowest_free ps) ≡ Some q
+    → All (λ (p : TableEntry). ShareAlike p (begun e s b q)) ps
 lowest_alike_from e s b q ps None t k h = free_alike e s b q ps (no_place s ps k) (is_free ps q h).free
 lowest_alike_from e s b q ps (Some own) t k h =
     let same : own ≡ q = cc in
     let at : IsBorneAt s ps own = place_borne s ps own k in
-    All-weaker (λ (p : Place). ShareAlike p at.at) (λ (p : Place). ShareAlike p (begun e s b q))
+    All-weaker (λ (p : TableEntry). ShareAlike p at.at) (λ (p : TableEntry). ShareAlike p (begun e s b q))
     (λ p a. (λ x. a.0 (x ∙ sym (at.pasid ∙ same)) ∙ at.space, λ x. a.1 (x ∙ sym at.space) ∙ (at.pasid ∙ same))) ps
     (alike_all (is_in s) ps at.at t.apart at.found)
 
-pub lowest_alike : (e s b q : ℕ) (ps : List Place) → IsTable ps → lowest s ps ≡ Some q → All (λ (p : Place). ShareAlike p (begun e s b q)) ps
+pub lowest_alike : (e s b q : ℕ) (ps : List TableEntry) → IsTable ps → lowest s ps ≡ Some q → All (λ (p : TableEntry). ShareAlike p (begun e s b q)) ps
 lowest_alike e s b q ps t h = lowest_alike_from e s b q ps (borne_by s ps) t refl h
 
 -- the PASID of a space's place is that of each further binding of the space, and of no other
-pub kept_to_space : (t : Place → Bool) (ps : List Place) (p : Place) (other : ℕ) → IsTable ps → find t ps ≡ Some p
+pub kept_to_space : (t : TableEntry → Bool) (ps : List TableEntry) (p : TableEntry) (other : ℕ) → IsTable ps → find t ps ≡ Some p
     → (lowest other ps ≡ Some p.pasid) ↔ (other ≡ p.space)
 kept_to_space t ps p other table f = (
   λ h. by_borne (borne_by other ps) refl h,

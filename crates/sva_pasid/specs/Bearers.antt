@@ -3,8 +3,8 @@ use Rattle.std.specs.Prelude.{◌≡◌, ℕ, ◌+◌, ◌-◌, ◌<◌, Bool, t
 use Rattle.std.specs.List.{range_with_len, slice_index_or}
 use Rattle.sva_pasid.specs.Places.{count_under}
 use Rattle.sva_pasid.specs.declared.bearers.Bearer.{Bearer}
-use Rattle.sva_pasid.specs.declared.bearers.TheConstants.{PASIDS}
-use Rattle.sva_pasid.specs.declared.places.Place.{Place}
+use Rattle.sva_step.specs.declared.limits.TheConstants.{PASIDS}
+use Rattle.sva_pasid.specs.declared.places.TableEntry.{TableEntry}
 
 -- what is kept of the PASID
 abbrev pub slot : ℕ → List (Option Bearer) → Option Bearer
@@ -39,12 +39,12 @@ lowered None = None
 lowered (Some bearer) = if bearer.bindings == 1 then None else Some (record { space = bearer.space; bindings = bearer.bindings - 1 })
 
 -- what is kept of the PASID is what the places say
-abbrev pub IsBearer : ℕ → List Place → Option Bearer → Type 0
+abbrev pub IsBearer : ℕ → List TableEntry → Option Bearer → Type 0
 IsBearer pasid places None = count_under pasid places ≡ 0
 IsBearer pasid places (Some bearer) =
     (count_under pasid places ≡ bearer.bindings) × (0 < bearer.bindings) × All (λ place. place.pasid ≡ pasid → place.space ≡ bearer.space) places
 
 -- so it is for each PASID up to 32; nothing is kept of 0, which is given to no space
-pub record AreBearers (places : List Place) (bearers : List (Option Bearer)) : Type 0 where
+pub record AreBearers (places : List TableEntry) (bearers : List (Option Bearer)) : Type 0 where
   pub count : length bearers ≡ PASIDS + 1
   pub each : (pasid : ℕ) → pasid < PASIDS + 1 → IsBearer pasid places (slot pasid bearers)

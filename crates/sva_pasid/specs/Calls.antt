@@ -8,11 +8,11 @@ use Rattle.sva_pasid.specs.Moves.Kind.{live, released}
 use Rattle.sva_pasid.specs.Stages.{reset_of}
 use Rattle.sva_pasid.specs.Places.{place_of, stage_of, with_stage, without, lowest, begun, after_reset, IsLiveIn, Awaits, ShareAlike, IsTable}
 use Rattle.sva_pasid.specs.declared.stages.Stage.{Stage}
-use Rattle.sva_pasid.specs.declared.places.Place.{Place}
+use Rattle.sva_pasid.specs.declared.places.TableEntry.{TableEntry}
 
 -- a table, and what is in hand of each binding: a stage that was taken out of the table, or what was released of it
 pub record Holder : Type 0 where
-  pub places : List Place
+  pub places : List TableEntry
   pub hand : ℕ → Option Life
 
 -- a table in which no binding has begun, with nothing in hand
@@ -87,7 +87,7 @@ ArePermitted holder [] = Unit {0}
 ArePermitted holder (call ∷ calls) = IsPermitted holder call × ArePermitted (after holder call) calls
 
 -- the stage of a binding, or what was released of it, wherever it is: in hand or in its place
-abbrev pub life_in : Option Place → Option Life → Option Life
+abbrev pub life_in : Option TableEntry → Option Life → Option Life
 life_in place (Some life) = Some life
 life_in None None = None
 life_in (Some place) None = option_map (λ (stage : Stage). at stage) place.stage
@@ -112,7 +112,7 @@ AlwaysTable = (calls : List Call) → ArePermitted opening calls → IsTable (af
 -- two unreleased bindings have the same PASID exactly where they have the same space, whatever their endpoints
 abbrev pub SharedBySpace : Type 0
 SharedBySpace =
-    (calls : List Call) (binding other : ℕ) (place other_place : Place) → ArePermitted opening calls
+    (calls : List Call) (binding other : ℕ) (place other_place : TableEntry) → ArePermitted opening calls
     → place_of binding (after_all opening calls).places ≡ Some place
     → place_of other (after_all opening calls).places ≡ Some other_place → ShareAlike place other_place
 

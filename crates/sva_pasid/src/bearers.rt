@@ -3,8 +3,7 @@
 ghost use Rattle.std.specs.Prelude.{◌≡◌, ◌+◌, ◌<◌, ◌^◌, IfSome};
 ghost use Rattle.sva_pasid.specs.Bearers.{slot, is_by, raised, lowered, pasid_in, free_in};
 
-/// How many PASIDs are given out, 1 and up.
-pub const PASIDS: u32 = 32;
+use sva_step::{PASID_PLACES, PASIDS};
 
 /// The space that bears a PASID.
 #[derive(Debug, Clone, Copy, PartialEq, Eq)]
@@ -16,7 +15,7 @@ pub struct Bearer {
 }
 
 /// The bearer of each PASID up to 32. PASID 0 has a place that stays empty, so that a PASID is its own index.
-pub type Bearers = [Option<Bearer>; 33];
+pub type Bearers = [Option<Bearer>; PASID_PLACES];
 
 /// The bearer of the PASID; None where no space bears it, as 0 and each above 32.
 pub(crate) fn bearer_in(bearers: &Bearers, pasid: u32) -> Option<Bearer>

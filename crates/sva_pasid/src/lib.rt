@@ -8,9 +8,9 @@ mod stages;
 mod states;
 mod tables;
 
-pub use bearers::{Bearer, PASIDS};
+pub use bearers::Bearer;
 pub use laws::{laws_of_moves, laws_of_tables};
-pub use places::Place;
+pub use places::TableEntry;
 pub use stages::Stage;
 pub use states::{Draining, Invalidating, Live, Lost, Quiet, Released, Stopping};
 pub use tables::Table;

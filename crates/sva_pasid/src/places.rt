@@ -7,7 +7,7 @@ ghost use Rattle.sva_pasid.specs.Indexes.{IsIndexOf};
 use crate::stages::Stage;
 
 /// The place of a binding in the table.
-pub struct Place {
+pub struct TableEntry {
     /// The endpoint's number.
     pub endpoint: u64,
     /// The number of the space, which is the host's own.
@@ -20,8 +20,8 @@ pub struct Place {
     pub stage: Option<Stage>,
 }
 
-impl Place {
-    // What a reset of the endpoint leaves of this place.
+impl TableEntry {
+    /// What a reset of the endpoint leaves of this place.
     fn reset_at(&mut self, endpoint: u64)
         ensures { self.new ≡ reset_at endpoint self.old }
     {
@@ -37,7 +37,7 @@ impl Place {
     }
 
     pub(crate) fn abandon(self) {
-        let Place {
+        let TableEntry {
             endpoint: _,
             space: _,
             binding: _,
@@ -51,7 +51,7 @@ impl Place {
 }
 
 /// Where the place of the binding stands.
-pub(crate) fn index_of(places: &[Place], binding: u64) -> Option<usize>
+pub(crate) fn index_of(places: &[TableEntry], binding: u64) -> Option<usize>
     requires { IsTable places.now }
     ensures some { IfSome result (λ index. IsIndexOf binding places.now index) }
     ensures none { IfNone result (place_of binding places.now ≡ None) }
@@ -60,7 +60,7 @@ pub(crate) fn index_of(places: &[Place], binding: u64) -> Option<usize>
 }
 
 /// What a reset of the endpoint leaves of each of these.
-pub(crate) fn reset_each(places: &mut [Place], endpoint: u64)
+pub(crate) fn reset_each(places: &mut [TableEntry], endpoint: u64)
     ensures { places.new ≡ map (reset_at endpoint) places.old }
 {
     for place in places.iter_mut() {

@@ -5,17 +5,18 @@ ghost use Rattle.std.specs.Option.{option_copied, option_or};
 ghost use Rattle.sva_pasid.specs.Bearers.{pasid_in, free_in};
 
 use crate::bearers::{Bearer, Bearers, bearer_in, first_free, lowered, pasid_of, raised};
-use crate::places::{Place, index_of, reset_each};
+use crate::places::{TableEntry, index_of, reset_each};
 use crate::stages::Stage;
 use crate::states::{Live, Released};
 use std::alloc::{AllocError, Global};
 use std::marker::Model;
+use sva_step::PASID_PLACES;
 
 /// The bindings that are not released, in the order in which they began. A table that goes, at the end of the host itself,
 /// spends the stages that are in it: each ends as by a function level reset, over `Quiet` and `Released`.
 pub struct Table {
-    places: Vec<Place>,
-    // What the places say of each PASID, so that a look-up by PASID goes through no binding.
+    places: Vec<TableEntry>,
+    /// What the places say of each PASID, so that a look-up by PASID goes through no binding.
     bearers: Bearers,
 }
 
@@ -34,11 +35,11 @@ impl Drop for Table {
 
 impl Model for Table {
     ghost use Rattle.std.specs.Prelude.{List};
-    ghost use Rattle.sva_pasid.specs.declared.places.Place.{Place};
+    ghost use Rattle.sva_pasid.specs.declared.places.TableEntry.{TableEntry};
     ghost use Rattle.sva_pasid.specs.Places.{IsTable};
     ghost use Rattle.sva_pasid.specs.Bearers.{AreBearers};
 
-    ghost Value = { List Place };
+    ghost Value = { List TableEntry };
 
     ghost view = { λ table. table.places.items };
 
@@ -56,7 +57,7 @@ impl Table {
     {
         Table {
             places: Vec::new(alloc),
-            bearers: [None; 33],
+            bearers: [None; PASID_PLACES],
         }
     }
 
@@ -76,7 +77,7 @@ impl Table {
     }
 
     /// The place of the binding; None where it was released or never began.
-    pub fn place(&self, binding: u64) -> Option<&Place>
+    pub fn place(&self, binding: u64) -> Option<&TableEntry>
         ensures { option_copied result ≡ place_of binding self.now }
     {
         self.places.iter().find(|place| place.binding == binding)
@@ -84,7 +85,7 @@ impl Table {
 
     /// The place of the first binding to the endpoint that bears the PASID. It is the only one where no space is bound
     /// to the endpoint twice.
-    pub fn place_under(&self, endpoint: u64, pasid: u32) -> Option<&Place>
+    pub fn place_under(&self, endpoint: u64, pasid: u32) -> Option<&TableEntry>
         ensures { option_copied result ≡ place_under endpoint pasid self.now }
     {
         self.places
@@ -93,7 +94,7 @@ impl Table {
     }
 
     /// The place of the first binding of the space to the endpoint.
-    pub fn place_between(&self, endpoint: u64, space: u64) -> Option<&Place>
+    pub fn place_between(&self, endpoint: u64, space: u64) -> Option<&TableEntry>
         ensures { option_copied result ≡ place_between endpoint space self.now }
     {
         self.places
@@ -142,7 +143,7 @@ impl Table {
             unreachable!();
         };
         self.bearers[pasid as usize] = raised(self.bearers[pasid as usize], space);
-        self.places.push_reserved(Place {
+        self.places.push_reserved(TableEntry {
             endpoint,
             space,
             binding,
@@ -220,7 +221,7 @@ impl Table {
         released.spend();
     }
 
-    // Removes the place of the binding, which is there, and gives the stage that is in it.
+    /// Removes the place of the binding, which is there, and gives the stage that is in it.
     fn remove(&mut self, binding: u64) -> Option<Stage>
         requires { IsSome (place_of binding self.old) }
         ensures stage { result ≡ stage_of binding self.old }
@@ -229,7 +230,7 @@ impl Table {
         let Some(index) = index_of(self.places.as_slice(), binding) else {
             unreachable!();
         };
-        let Place {
+        let TableEntry {
             endpoint: _,
             space: _,
             binding: _,

@@ -1,8 +1,8 @@
-// What the program says of itself. `svahost`, the script, reads its texts here as long as the program isn't built, so each
-// of them stands once: a new step is a line of `HELP`.
+//! What the program says of itself. `svahost`, the script, reads its texts here as long as the program isn't built, so each
+//! of them stands once: a new step is a line of `HELP`.
 
 /// The program's version.
-pub const VERSION: &str = "0.1.0";
+pub const VERSION: &str = "0.2.0";
 
 /// What `-h` says of the program.
 pub const ABOUT: &str = "Runs scenarios of a host for shared virtual addressing";
@@ -44,6 +44,10 @@ first scenario, as in examples/first.sva:
     unmap 0 16
     # r: it may only be read
     map 0 16 r
+
+The script ./svahost first builds the program where there is none of the present sources: in one to
+three minutes, without its proof. `./svahost prove` proves it on this machine, with all that it stands
+on, which takes half an hour to an hour; `./svahost --version` says which of the two is run.
 
 `svahost replay < examples/first.sva` runs the steps and prints a report, a line for each step and
 last the counts:

@@ -1,3 +1,5 @@
+//! The command `storm`, with a device and a pager of its own.
+
 ghost use Rattle.std.specs.Prelude.{◌≡◌, ◌⊎◌, ◌≤◌, vec_len, IfErr, IfOk, IfSome, OnOk};
 ghost use Rattle.std.specs.Io.KnownBytes.{IsAtEnd};
 ghost use Rattle.sva_step.specs.Limits.{Fits};
@@ -9,9 +11,11 @@ use std::alloc::{AllocError, Global};
 use std::io::{Read, Write};
 use std::sync::Wait;
 use std::thread::Threads;
-use sva_scenario::{DriveFault, Outcome, Scenario, Told, read_scenario, report_audit};
+use sva_scenario::{
+    Device, DriveFault, Outcome, Pager, Scenario, StormFault, Told, read_scenario, report_audit,
+    storm,
+};
 use sva_step::Verdict;
-use sva_storm::{Device, Pager, StormFault, storm};
 
 /// The program's own device and pager: a use touches nothing, and each job is answered `success`.
 #[derive(Clone, Copy)]

@@ -2,6 +2,7 @@
 use Rattle.std.specs.Prelude.{◌≡◌, ℕ, ◌≤◌, ◌==◌, Bool, true, false, ◌&&◌, ◌||◌, not, if◌then◌else◌, List, [], ◌∷◌, ◌++◌, length, Some, None, All, count_by}
 use Rattle.std.specs.Prelude.{◌↔◌}
 use Rattle.std.specs.List.{list_any}
+use Rattle.sva_step.specs.Limits
 use Rattle.sva_msg.specs.declared.messages.PageRequest.{PageRequest}
 use Rattle.sva_prq.specs.declared.jobs.Ask.{Ask}
 use Rattle.sva_prq.specs.Job.{Job, ask_of}
@@ -65,7 +66,7 @@ JobsHoldTheirRequests =
 -- after all permitted calls no group has more than 32 requests
 abbrev pub GroupsAreBounded : Type 0
 GroupsAreBounded =
-    (history : List GroupCall) → IsGroupHistory history → All (λ group. length group.asks ≤ 32) (groups_after history).groups
+    (history : List GroupCall) → IsGroupHistory history → All (λ group. length group.asks ≤ Limits.page_requests) (groups_after history).groups
 
 -- no two unfinished groups share a unit, a binding and an index
 abbrev pub UnfinishedGroupsDiffer : Type 0

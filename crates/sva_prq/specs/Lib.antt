@@ -3,3 +3,4 @@ pub mod Job
 pub mod Groups
 pub mod Slots
 pub mod GroupCalls
+pub mod JobTable

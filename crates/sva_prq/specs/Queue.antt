@@ -1,6 +1,7 @@
 -- A page request queue over every list of calls. A queue is the list of the requests that wait, the oldest first, and a
 -- history is the list of the calls so far, the latest first.
 use Rattle.std.specs.Prelude.{◌≡◌, ◌<◌, ◌≤◌, false, List, [], ◌∷◌, ◌++◌, length, take, drop}
+use Rattle.sva_step.specs.Limits
 use Rattle.sva_msg.specs.declared.messages.PageRequest.{PageRequest}
 
 -- what lies in a place that isn't used
@@ -33,7 +34,7 @@ queue_after (call ∷ earlier) = queue_after_call (queue_after earlier) call
 -- each call had its condition: a request arrives only where one of the 32 places is free
 abbrev pub IsQueueHistory : List QueueCall → Type 0
 IsQueueHistory [] = Unit {0}
-IsQueueHistory (Arrive request ∷ earlier) = (length (queue_after earlier) < 32) × IsQueueHistory earlier
+IsQueueHistory (Arrive request ∷ earlier) = (length (queue_after earlier) < Limits.page_requests) × IsQueueHistory earlier
 IsQueueHistory (_ ∷ earlier) = IsQueueHistory earlier
 
 -- the requests that arrived, in the order of their arrival
@@ -53,4 +54,4 @@ IsFirstInFirstOut = (history : List QueueCall) → arrivals history ≡ departur
 
 -- no queue is ever above its 32 places
 abbrev pub NeverOverflows : Type 0
-NeverOverflows = (history : List QueueCall) → IsQueueHistory history → length (queue_after history) ≤ 32
+NeverOverflows = (history : List QueueCall) → IsQueueHistory history → length (queue_after history) ≤ Limits.page_requests

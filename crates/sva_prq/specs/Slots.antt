@@ -1,6 +1,7 @@
 -- How the open groups lie in the slots of a slab, and tests of them. No public clause cites this module.
 use Rattle.std.specs.Borrow.{Bor}
 use Rattle.std.specs.Prelude.{◌≡◌, ℕ, ◌+◌, ◌*◌, ◌%◌, ◌<◌, Bool, false, nat_lt, if◌then◌else◌, List, [], ◌∷◌, Option, Some, None, slice_index_or}
+use Rattle.sva_step.specs.Limits
 use Rattle.sva_prq.specs.Groups.{OpenGroup}
 
 -- the slot with this key has the group
@@ -21,7 +22,7 @@ groups_in (Some group ∷ slots) = placed group (groups_in slots)
 -- the cell of a unit and an index in the table of unfinished groups: 32 indexes for each of 8 units. Beyond these bounds
 -- several units or indexes share a cell
 abbrev pub cell_of : (unit index : ℕ) → ℕ
-cell_of unit index = unit % 8 * 32 + index % 32
+cell_of unit index = unit % Limits.most_endpoints * Limits.groups + index % Limits.groups
 
 -- groups in slots, cells that lead to those that are unfinished, and the next serial
 pub record AreKept (slots : List (Option OpenGroup)) (cells : List (Option ℕ)) (next : ℕ) : Type 0 where

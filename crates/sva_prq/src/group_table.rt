@@ -1,29 +1,32 @@
+//! The open page request groups of all units.
+
 ghost use Rattle.std.specs.Prelude.{◌≡◌, Bool, ℕ, ◌+◌, ◌<◌, ◌≤◌, true, false, length, Some, None, IsOk, OnOk, OnErr, IfSome, IfNone, slice_index_or};
 ghost use Rattle.slab.specs.Slab.{get, slab_len, ContainsKey, Updates};
 ghost use Rattle.sva_prq.specs.Slots.{IsAt, IsTest, MayHold, passes_at, cell_of as cell_for};
 ghost use Rattle.sva_prq.specs.Groups.{OpenGroup, no_groups, is_collecting, has_job, is_of_binding, is_of_unit, is_open, new_group, with_request};
 ghost use Rattle.sva_prq.specs.Groups.{job_of, CanFile, filed, job_made, with_room, after_answer, without_unit};
 
-use crate::jobs::{Ask, Job, MOST_ASKS};
+use crate::jobs::{Ask, Job};
 use arrayvec::ArrayVec;
 use slab::Slab;
 use std::alloc::{AllocError, Global};
 use std::marker::Model;
 use sva_msg::PageRequest;
+use sva_step::{GROUPS, MOST_ENDPOINTS, PAGE_REQUESTS};
 
-// The cells of the table of unfinished groups: 32 indexes for each of 8 units.
-const CELLS: usize = 256;
+/// The cells of the table of unfinished groups: one for each index of each unit.
+const CELLS: usize = MOST_ENDPOINTS * GROUPS;
 
-// A page request group that is filed in part or whole and not answered.
+/// A page request group that is filed in part or whole and not answered.
 #[derive(Drop)]
 struct Group {
-    // How many groups began before it. It tells the group from all others.
+    /// How many groups began before it. It tells the group from all others.
     serial: u64,
     unit: u64,
     binding: u64,
     index: u8,
-    asks: ArrayVec<Ask, MOST_ASKS>,
-    // The last request is filed, and the job is made.
+    asks: ArrayVec<Ask, PAGE_REQUESTS>,
+    /// The last request is filed, and the job is made.
     last: bool,
 }
 
@@ -80,7 +83,7 @@ impl Group {
         self.unit == unit
     }
 
-    // Files one request more, and makes the job if it is the last. The group is kept under this key.
+    /// Files one request more, and makes the job if it is the last. The group is kept under this key.
     fn file(&mut self, request: PageRequest, key: usize) -> Option<Job>
         requires { length self.old.asks < 32 }
         ensures group { self.new ≡ with_request self.old request }
@@ -106,8 +109,8 @@ impl Group {
     }
 }
 
-// A copy that needs no memory.
-fn copied(asks: &ArrayVec<Ask, MOST_ASKS>) -> ArrayVec<Ask, MOST_ASKS>
+/// A copy that needs no memory.
+fn copied(asks: &ArrayVec<Ask, PAGE_REQUESTS>) -> ArrayVec<Ask, PAGE_REQUESTS>
     ensures { result.items ≡ asks.now.items }
 {
     let mut copy = ArrayVec::new();
@@ -117,15 +120,15 @@ fn copied(asks: &ArrayVec<Ask, MOST_ASKS>) -> ArrayVec<Ask, MOST_ASKS>
     copy
 }
 
-// The cell of a unit and an index.
+/// The cell of a unit and an index.
 fn cell_of(unit: u64, index: u8) -> usize
     ensures cell { result ≡ cell_for unit index }
     ensures within { result < 256 }
 {
-    (unit % 8) as usize * 32 + (index % 32) as usize
+    (unit % MOST_ENDPOINTS as u64) as usize * GROUPS + index as usize % GROUPS
 }
 
-// The key of a group that passes the test, if there is one.
+/// The key of a group that passes the test, if there is one.
 fn key_where<F: Fn(&Group) -> bool>(slots: &Slab<Group>, test: F) -> Option<usize>
     requires { F.IsAlwaysCallable test }
     ensures found { (passes : OpenGroup → Bool) → IsTest (F.post test) passes
@@ -143,7 +146,7 @@ fn key_where<F: Fn(&Group) -> bool>(slots: &Slab<Group>, test: F) -> Option<usiz
     None
 }
 
-// The key of the unfinished group of this unit, binding and index, if there is one among those to which its cell leads.
+/// The key of the unfinished group of this unit, binding and index, if there is one among those to which its cell leads.
 fn unfinished_key(
     slots: &Slab<Group>,
     cell: Option<usize>,
@@ -164,8 +167,8 @@ fn unfinished_key(
     }
 }
 
-// The key of the group with this serial whose job is made, if there is one. A job of these groups has the key of its own
-// group; where that is at its end, or the job is of other groups, none is known to be there before all have been seen.
+/// The key of the group with this serial whose job is made, if there is one. A job of these groups has the key of its own
+/// group; where that is at its end, or the job is of other groups, none is known to be there before all have been seen.
 fn job_key(slots: &Slab<Group>, key: usize, serial: u64) -> Option<usize>
     ensures found { IfSome result (λ k. passes_at (has_job serial) (get slots.now k) ≡ true) }
     ensures absent { IfNone result ((k : ℕ) → passes_at (has_job serial) (get slots.now k) ≡ false) }
@@ -176,7 +179,7 @@ fn job_key(slots: &Slab<Group>, key: usize, serial: u64) -> Option<usize>
     }
 }
 
-// What a cell has once a group begins under a key: the key, if no other group of the cell can be unfinished.
+/// What a cell has once a group begins under a key: the key, if no other group of the cell can be unfinished.
 fn next_cell(slots: &Slab<Group>, cell: Option<usize>, key: usize) -> Option<usize>
     ensures { IfSome result (λ k. (k ≡ key)
         × ((j : ℕ) → MayHold cell j → (g : OpenGroup) → IsAt slots.now.slots j g → g.last ≡ true)) }
@@ -187,7 +190,7 @@ fn next_cell(slots: &Slab<Group>, cell: Option<usize>, key: usize) -> Option<usi
     }
 }
 
-// Files a request in the group under a key.
+/// Files a request in the group under a key.
 fn join(slots: &mut Slab<Group>, key: usize, request: PageRequest) -> Option<Job>
     requires there { ContainsKey slots.old key }
     requires room { (g : OpenGroup) → IsAt slots.old.slots key g → length g.asks < 32 }
@@ -203,7 +206,7 @@ fn join(slots: &mut Slab<Group>, key: usize, request: PageRequest) -> Option<Job
     group.file(request, key)
 }
 
-// Takes out all groups of a unit, and answers how many they were.
+/// Takes out all groups of a unit, and answers how many they were.
 fn take_unit(slots: &mut Slab<Group>, unit: u64) -> usize
     ensures gone { (key : ℕ) → passes_at (is_of_unit unit) (get slots.old key) ≡ true → get slots.new key ≡ None }
     ensures kept { (key : ℕ) → passes_at (is_of_unit unit) (get slots.old key) ≡ false
@@ -225,7 +228,7 @@ fn take_unit(slots: &mut Slab<Group>, unit: u64) -> usize
     count
 }
 
-// The room once so many groups are gone from the slots.
+/// The room once so many groups are gone from the slots.
 fn room_after(slots: &Slab<Group>, room: usize, gone: usize) -> usize
     requires { slab_len slots.now + (room + gone) ≤ slots.now.capacity }
     ensures { result ≡ room + gone }
@@ -244,12 +247,12 @@ fn room_after(slots: &Slab<Group>, room: usize, gone: usize) -> usize
 #[derive(Drop)]
 pub struct Groups {
     slots: Slab<Group>,
-    // By unit and index, the key that any unfinished group of the cell has. A cell in which a group began while another
-    // was unfinished has none: then a search goes over all groups.
+    /// By unit and index, the key that any unfinished group of the cell has. A cell in which a group began while another
+    /// was unfinished has none: then a search goes over all groups.
     cells: [Option<usize>; CELLS],
-    // How many groups more fit into `slots` as they are.
+    /// How many groups more fit into `slots` as they are.
     room: usize,
-    // The serial of the next group that begins.
+    /// The serial of the next group that begins.
     next: u64,
 }
 

@@ -1,11 +1,10 @@
+//! A job: a whole page request group, with what its requests ask for.
+
 ghost use Rattle.std.specs.Prelude.{◌≡◌, ◌≤◌, length};
 
 use arrayvec::ArrayVec;
 use std::marker::Model;
-
-/// The most page requests of one group, since an endpoint has at most 32 outstanding (this project's own profile of the
-/// Outstanding Page Request Allocation, PCI Express Base 5.0, section 10.5.2).
-pub(crate) const MOST_ASKS: usize = 32;
+use sva_step::PAGE_REQUESTS;
 
 /// What one page request of a group asks for.
 #[derive(Clone, Copy, Debug, Default, PartialEq, Eq)]
@@ -24,9 +23,9 @@ pub struct Job {
     pub(crate) unit: u64,
     pub(crate) binding: u64,
     pub(crate) index: u8,
-    pub(crate) asks: ArrayVec<Ask, MOST_ASKS>,
-    // The serial of its group, and the key under which the group is kept while it is open. The key is no part of what
-    // a job is seen as: a wrong one costs time alone.
+    pub(crate) asks: ArrayVec<Ask, PAGE_REQUESTS>,
+    /// The serial of its group, and the key under which the group is kept while it is open. The key is no part of what
+    /// a job is seen as: a wrong one costs time alone.
     pub(crate) serial: u64,
     pub(crate) key: usize,
 }
@@ -69,7 +68,7 @@ impl Job {
         self.asks.as_slice()
     }
 
-    // The serial of its group.
+    /// The serial of its group.
     pub(crate) fn serial(&self) -> u64
         ensures { result ≡ self.now.serial }
     {

@@ -1,3 +1,5 @@
+//! The laws of the page request queue and of the groups, over every list of their calls.
+
 ghost use Rattle.sva_prq.specs.Queue.{IsFirstInFirstOut, NeverOverflows};
 ghost use Rattle.sva_prq.specs.GroupCalls.{JobsHoldTheirRequests, GroupsAreBounded, UnfinishedGroupsDiffer, OpenGroupsAreSeen, SerialsAreNew};
 ghost use Rattle.sva_prq.specs.GroupCalls.{SerialsDiffer, OpenIsExact};

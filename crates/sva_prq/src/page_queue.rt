@@ -1,13 +1,16 @@
+//! The page request queue of a remapping unit (Intel VT-d, "Page Request Queue").
+
 ghost use Rattle.std.specs.Prelude.{◌≡◌, ◌+◌, ◌<◌, ◌↔◌, [], ◌∷◌, ◌++◌, length, drop, IsTrue, IsNone, slice_get};
 
 use arrayvec::ArrayVec;
 use std::marker::Model;
 use sva_msg::PageRequest;
+use sva_step::PAGE_REQUESTS;
 
-// The places of a page request queue (this project's own choice of the queue's size).
-const PLACES: usize = 32;
+/// The places of a page request queue: as many as page requests may be outstanding at its endpoint.
+const PLACES: usize = PAGE_REQUESTS;
 
-// A page request as it lies in the table, whose unused places hold blank ones.
+/// A page request as it lies in the table, whose unused places hold blank ones.
 #[derive(Clone, Copy)]
 struct Arrival {
     request: PageRequest,

@@ -1,5 +1,6 @@
 -- The calls that change a unit, and what holds after every list of them.
 use Rattle.std.specs.Prelude.{◌≡◌, ℕ, ◌+◌, ◌<◌, ◌≤◌, Bool, true, Some, List, [], ◌∷◌, ◌++◌, length, take, nat_le, slice_get, All, if◌then◌else◌}
+use Rattle.sva_step.specs.Limits
 use Rattle.sva_itags.specs.Tags.{AreTags, IsBusy, all_free}
 use Rattle.sva_itags.specs.Calls.{Call as TagCall, after_all as tags_after}
 use Rattle.sva_itags.specs.Calls.Call.{Take, Arrived as Complete, Clear}
@@ -33,7 +34,7 @@ after_all queue (call ∷ calls) = after_all (after queue call) calls
 
 -- a count of completions is 1 to 8
 abbrev pub IsCounted : Call → Type 0
-IsCounted (Arrived vector count) = (0 < count) × (count ≤ 8)
+IsCounted (Arrived vector count) = (0 < count) × (count ≤ Limits.most_completions)
 IsCounted _ = Unit {0}
 
 -- these descriptors may be submitted: the unit is open; their cookies are below 2^63, at least the front, above those that
@@ -46,7 +47,7 @@ pub record MaySubmit (queue : Queue) (descriptors : List Descriptor) : Type 0 wh
 -- the call meets its condition
 abbrev pub IsPermitted : Queue → Call → Type 0
 IsPermitted queue (Submit descriptors) = MaySubmit queue descriptors
-IsPermitted queue (Arrived vector count) = (0 < count) × (count ≤ 8)
+IsPermitted queue (Arrived vector count) = (0 < count) × (count ≤ Limits.most_completions)
 IsPermitted queue _ = Unit {0}
 
 -- each call of a list meets its condition when its turn comes
@@ -58,14 +59,14 @@ ArePermitted queue (call ∷ calls) = IsPermitted queue call × ArePermitted (af
 abbrev pub AlwaysFits : Type 0
 AlwaysFits =
     (calls : List Call) → All IsCounted calls
-    → (length (after_all empty calls).descriptors ≤ 64) × AreTags (after_all empty calls).tags
+    → (length (after_all empty calls).descriptors ≤ Limits.queue_places) × AreTags (after_all empty calls).tags
 
 -- ---- first in, first out
 
 -- the descriptors that a call puts into the queue
 abbrev pub entering : Queue → Call → List Descriptor
 entering queue (Submit descriptors) =
-    if nat_le (length queue.descriptors + length descriptors) 64 then descriptors else []
+    if nat_le (length queue.descriptors + length descriptors) Limits.queue_places then descriptors else []
 entering queue _ = []
 
 -- the descriptors that a pump with this answer takes off

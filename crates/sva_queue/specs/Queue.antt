@@ -3,6 +3,7 @@
 use Rattle.std.specs.Prelude.{◌≡◌, ℕ, ◌+◌, ◌-◌, ◌^◌, ◌≤◌, ◌&&◌, ◌||◌, not, Bool, true, false, nat_le, if◌then◌else◌}
 use Rattle.std.specs.Prelude.{Option, Some, None, is_none, List, [], ◌∷◌, ◌++◌, length, drop}
 use Rattle.std.specs.List.{list_all}
+use Rattle.sva_step.specs.Limits
 use Rattle.sva_itags.specs.Tags.{all_free, lowest_free, taken, completed}
 use Rattle.sva_itags.specs.declared.itags.Busy.{Busy}
 use Rattle.sva_queue.specs.declared.descriptors.Descriptor.{Descriptor}
@@ -41,7 +42,7 @@ pub record InOrder (queue : Queue) : Type 0 where
 
 -- how many descriptors fit in beside those that are queued
 abbrev pub room_of : Queue → ℕ
-room_of queue = 64 - length queue.descriptors
+room_of queue = Limits.queue_places - length queue.descriptors
 
 -- the queue with more descriptors at its end
 abbrev pub with_more : List Descriptor → Queue → Queue
@@ -51,7 +52,7 @@ with_more more queue =
 -- the queue after a submission: with all of it where it fits, else the same
 abbrev pub submitted : List Descriptor → Queue → Queue
 submitted more queue =
-    if nat_le (length queue.descriptors + length more) 64 then with_more more queue else queue
+    if nat_le (length queue.descriptors + length more) Limits.queue_places then with_more more queue else queue
 
 -- whether no tag is busy
 abbrev pub is_idle : List (Option Busy) → Bool

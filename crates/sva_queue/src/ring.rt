@@ -1,18 +1,17 @@
 //! The places of a queue.
+
 ghost use Rattle.std.specs.Prelude.{◌≡◌, ◌+◌, ◌<◌, ◌≤◌, [], ◌∷◌, ◌++◌, length, drop, slice_get};
 
 use crate::descriptors::Descriptor;
 use arrayvec::ArrayVec;
 use std::marker::Model;
-
-/// How many descriptors a queue holds.
-const PLACES: usize = 64;
+use sva_step::QUEUE_PLACES;
 
 /// Up to 64 descriptors, first in, first out. They lie in a table of 64 places, from the place `head` on and round the table's
 /// end; what is in it never moves.
 #[derive(Drop)]
 pub struct Ring {
-    places: ArrayVec<Descriptor, PLACES>,
+    places: ArrayVec<Descriptor, QUEUE_PLACES>,
     head: usize,
     len: usize,
 }
@@ -35,7 +34,7 @@ impl Ring {
         ensures { result ≡ [] }
     {
         Ring {
-            places: ArrayVec::from([Descriptor::default(); PLACES]),
+            places: ArrayVec::from([Descriptor::default(); QUEUE_PLACES]),
             head: 0,
             len: 0,
         }
@@ -45,7 +44,7 @@ impl Ring {
     pub(crate) fn room(&self) -> usize
         ensures { result + length self.now ≡ 64 }
     {
-        PLACES - self.len
+        QUEUE_PLACES - self.len
     }
 
     /// The first descriptor, if there is one.
@@ -64,7 +63,7 @@ impl Ring {
         requires { length self.old < 64 }
         ensures { self.new ≡ self.old ++ descriptor ∷ [] }
     {
-        let place = (self.head + self.len) % PLACES;
+        let place = (self.head + self.len) % QUEUE_PLACES;
         self.places[place] = descriptor;
         self.len += 1;
     }
@@ -84,7 +83,7 @@ impl Ring {
         ensures { self.new ≡ drop 1 self.old }
     {
         if self.len > 0 {
-            self.head = (self.head + 1) % PLACES;
+            self.head = (self.head + 1) % QUEUE_PLACES;
             self.len -= 1;
         }
     }

@@ -1,3 +1,5 @@
+//! The check of a scenario: how many steps it has.
+
 ghost use Rattle.std.specs.Prelude.{◌≡◌, ◌⊎◌, ◌≤◌, IfOk, IfSome, OnOk};
 ghost use Rattle.std.specs.Io.KnownBytes.{IsAtEnd};
 ghost use Rattle.sva_scenario.specs.declared.reading.TheConstants.{MOST_TURNS};

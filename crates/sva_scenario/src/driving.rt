@@ -1,3 +1,5 @@
+//! The run of a scenario, with its report line by line.
+
 ghost use Rattle.std.specs.Prelude.{◌≡◌, ◌↔◌, ◌⊎◌, ◌≤◌, length, IsTrue, IfOk, IfSome, OnOk, if◌then◌else◌};
 ghost use Rattle.std.specs.Io.KnownBytes.{IsAtEnd};
 ghost use Rattle.sva_core.specs.Reached.{Follows};

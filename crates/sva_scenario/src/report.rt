@@ -1,3 +1,5 @@
+//! The lines of a report.
+
 ghost use Rattle.std.specs.Prelude.{◌≡◌, ◌+◌, ◌^◌, ◌<◌, ◌≤◌, ◌++◌, length, decimal, Err, OnOk};
 ghost use Rattle.sva_grammar.specs.Faults.{line_fault_text};
 ghost use Rattle.sva_scenario.specs.Report.{ended, reply_text, counts_text, steps_text};

@@ -1,4 +1,5 @@
-// How a run over a reader and a writer ends.
+//! How a run over a reader and a writer ends.
+
 use thiserror::Error;
 
 /// Why a run over a reader and a writer ended early.

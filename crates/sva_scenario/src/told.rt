@@ -1,5 +1,6 @@
-// The one module that counts the calls of a stream: no other can reach the counters, so a failure that is counted is one
-// that the stream itself answered.
+//! The one module that counts the calls of a stream: no other can reach the counters, so a failure that is counted is one
+//! that the stream itself answered.
+
 ghost use Rattle.std.specs.Prelude.{◌≡◌, ◌+◌, ◌^◌, ◌<◌, ◌≤◌, length, take, IfSome, IfNone};
 ghost use Rattle.std.specs.Io.KnownBytes.{Appends, Consumes, IsAtEnd, Keeps};
 

@@ -1,3 +1,5 @@
+//! The writing of a text to a stream.
+
 ghost use Rattle.std.specs.Prelude.{◌≡◌, ◌+◌, ◌^◌, ◌<◌, ◌≤◌, length, OnOk, IfErr};
 ghost use Rattle.std.specs.Io.KnownBytes.{Appends};
 ghost use Rattle.sva_scenario.specs.Streams.{AppendsProperPrefix};

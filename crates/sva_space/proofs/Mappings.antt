@@ -23,7 +23,7 @@ use Rattle.sva_space.specs.Laws.{Rising, FiniteMap, Owned, LowestFirst}
 less_is : (a b : ℕ) → a < b → nat_cmp a b ≡ Less
 less_is a b below = grind (arith, nat_tests)
 
-is_less : (a b : ℕ) → nat_cmp a b ≡ Less → a < b
+pub is_less : (a b : ℕ) → nat_cmp a b ≡ Less → a < b
 is_less a b is = elim_rank (nat_cmp a b) is (ranked a b (nat_cmp a b) refl)
   where
     elim_rank : (r : Ordering) → r ≡ Less → MatchOrdering r (a < b) (a ≡ b) (b < a) → a < b

@@ -1,3 +1,5 @@
+//! The laws of an address space, over every list of its calls.
+
 ghost use Rattle.sva_space.specs.Laws.{Rising, FiniteMap, Owned, LowestFirst, LowestBetween};
 
 /// What holds of a space after every list of permitted calls.

@@ -1,3 +1,5 @@
+//! The pages of an address space, each with its frame.
+
 ghost use Rattle.std.specs.Prelude.{◌≡◌, ◌↔◌, ◌<◌, ◌≤◌, ℕ, [], ◌∷◌, IfSome, IfNone, IfErr, IsSome, IsTrue, OnOk, Some, None, find, length, option_map};
 
 use std::alloc::{AllocError, Global};

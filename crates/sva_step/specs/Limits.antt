@@ -1,8 +1,8 @@
 -- The limits of a world and of its tables. They are this project's own, but where a standard's section stands beside one.
-use Rattle.std.specs.Prelude.{◌≡◌, ℕ, ◌≤◌, ◌^◌}
+use Rattle.std.specs.Prelude.{◌≡◌, ℕ, ◌+◌, ◌≤◌, ◌^◌}
 use Rattle.sva_step.specs.declared.limits.TheConstants.{CACHED, GROUPS, ITAGS, MOST_COMPLETIONS, MOST_ENDPOINTS, MOST_FRAMES, MOST_MAPPED, MOST_ORDER}
-use Rattle.sva_step.specs.declared.limits.TheConstants.{MOST_PAGES, MOST_SPACES, MOST_WORKERS, NUMBERS, PAGES, PAGE_REQUESTS, PASIDS, QUEUE_PLACES}
-use Rattle.sva_step.specs.declared.limits.TheConstants.{REQUEST_TAGS, USE_SLOTS}
+use Rattle.sva_step.specs.declared.limits.TheConstants.{MOST_PAGES, MOST_SPACES, MOST_WORKERS, NUMBERS, PAGES, PAGE_REQUESTS, PASIDS, PASID_PLACES}
+use Rattle.sva_step.specs.declared.limits.TheConstants.{QUEUE_PLACES, REQUEST_TAGS, USE_SLOTS}
 use Rattle.sva_step.specs.declared.limits.Config.{Config}
 
 -- the most endpoints of a world, each with a remapping unit of its own
@@ -89,6 +89,7 @@ pub record AreLimits : Type 0 where
   pub pages_stand : MOST_PAGES ≡ most_pages
   pub order_stands : MOST_ORDER ≡ most_order
   pub pasids_stand : PASIDS ≡ pasids
+  pub pasid_places_stand : PASID_PLACES ≡ pasids + 1
   pub queue_places_stand : QUEUE_PLACES ≡ queue_places
   pub itags_stand : ITAGS ≡ itags
   pub completions_stand : MOST_COMPLETIONS ≡ most_completions

@@ -1,3 +1,5 @@
+//! What a step answers, and the text of each answer.
+
 ghost use Rattle.std.specs.Prelude.{◌≡◌, false, ◌++◌, decimal, OnOk, OnErr};
 ghost use Rattle.sva_step.specs.Texts.{answer_text, is_of_host, has_host_number, has_number, frames_text, BeginsWith, TextsTellApart};
 
@@ -184,7 +186,7 @@ impl Answer {
         undo(out, before, written)
     }
 
-    // As `write`, but an `Err` leaves what was appended before it.
+    /// As `write`, but an `Err` leaves what was appended before it.
     fn append(&self, out: &mut Vec<u8>) -> Result<(), AllocError>
         ensures ok { OnOk result (out.new.items ≡ out.old.items ++ answer_text self.now) }
         ensures err { OnErr result (BeginsWith out.new.items out.old.items) }
@@ -218,7 +220,7 @@ impl Answer {
         }
     }
 
-    // As `append`, for the answers of endpoints, of the link and of `bearer` that have numbers, and for those of words alone.
+    /// As `append`, for the answers of endpoints, of the link and of `bearer` that have numbers, and for those of words alone.
     fn append_endpoint(&self, out: &mut Vec<u8>) -> Result<(), AllocError>
         requires { has_host_number self.now ≡ false }
         ensures ok { OnOk result (out.new.items ≡ out.old.items ++ answer_text self.now) }
@@ -247,7 +249,7 @@ impl Answer {
         }
     }
 
-    // The text of an answer that has no number.
+    /// The text of an answer that has no number.
     fn words(&self) -> &'static str
         requires { has_number self.now ≡ false }
         ensures { result.now ≡ answer_text self.now }
@@ -273,7 +275,7 @@ impl Answer {
         }
     }
 
-    // As `words`, for the answers of endpoints, of the link, of `look` and of `bearer`.
+    /// As `words`, for the answers of endpoints, of the link, of `look` and of `bearer`.
     fn endpoint_words(&self) -> &'static str
         requires no_number { has_number self.now ≡ false }
         requires not_of_host { is_of_host self.now ≡ false }
@@ -305,7 +307,7 @@ impl Answer {
     }
 }
 
-// Appends the words and the numbers of the frames, a space before each.
+/// Appends the words and the numbers of the frames, a space before each.
 #[tactic(auto, using(crate::proofs::TextLemmas::begins_with_front))]
 fn put_frames(out: &mut Vec<u8>, words: &str, frames: &FrameList) -> Result<(), AllocError>
     ensures ok { OnOk result (out.new.items ≡ out.old.items ++ (words.now ++ frames_text frames.now)) }
@@ -318,7 +320,7 @@ fn put_frames(out: &mut Vec<u8>, words: &str, frames: &FrameList) -> Result<(), 
     Ok(())
 }
 
-// Appends two numbers, each behind its words.
+/// Appends two numbers, each behind its words.
 fn put_two(
     out: &mut Vec<u8>,
     first: &str,
@@ -334,7 +336,7 @@ fn put_two(
     put_number(out, second, other)
 }
 
-// Appends the text of a job that a worker has taken.
+/// Appends the text of a job that a worker has taken.
 fn put_job(out: &mut Vec<u8>, binding: u64, group: u8, pages: u32) -> Result<(), AllocError>
     ensures ok { OnOk result
         (out.new.items ≡ out.old.items ++ answer_text (Answer.JobTaken binding group pages)) }

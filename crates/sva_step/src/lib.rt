@@ -13,8 +13,8 @@ pub use answers::{Answer, texts_tell_apart};
 pub use frame_list::FrameList;
 pub use limits::{
     CACHED, Config, GROUPS, ITAGS, MOST_COMPLETIONS, MOST_ENDPOINTS, MOST_FRAMES, MOST_MAPPED,
-    MOST_ORDER, MOST_PAGES, MOST_SPACES, MOST_WORKERS, NUMBERS, PAGE_REQUESTS, PAGES, PASIDS,
-    QUEUE_PLACES, REQUEST_TAGS, USE_SLOTS, limits_stand,
+    MOST_ORDER, MOST_PAGES, MOST_SPACES, MOST_WORKERS, NUMBERS, PAGE_REQUESTS, PAGES, PASID_PLACES,
+    PASIDS, QUEUE_PLACES, REQUEST_TAGS, USE_SLOTS, limits_stand,
 };
 pub use refusals::{Refusal, refusals_tell_apart};
 pub use steps::{Step, Verdict};

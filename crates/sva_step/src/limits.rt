@@ -1,15 +1,16 @@
 //! The limits of a world and of its tables. They are this project's own, but where a standard's section stands beside one.
+
 ghost use Rattle.std.specs.Prelude.{◌↔◌, IsTrue};
 ghost use Rattle.sva_step.specs.Limits.{AreLimits, Fits};
 
 /// The most endpoints of a world, each with a remapping unit of its own.
-pub const MOST_ENDPOINTS: u64 = 8;
+pub const MOST_ENDPOINTS: usize = 8;
 
 /// The most frames of a world.
 pub const MOST_FRAMES: u64 = 4096;
 
 /// The most workers of a world.
-pub const MOST_WORKERS: u64 = 4;
+pub const MOST_WORKERS: usize = 4;
 
 /// Page numbers are below this; a page has 4096 bytes.
 pub const PAGES: u64 = 1 << 36;
@@ -32,6 +33,9 @@ pub const MOST_ORDER: u8 = 9;
 /// The PASIDs are 1 to this, of 20 bits (PCI Express Base 5.0, section 6.20).
 pub const PASIDS: u32 = 32;
 
+/// The places of a table with one for each PASID, and one for PASID 0, which stays empty.
+pub const PASID_PLACES: usize = PASIDS as usize + 1;
+
 /// The places of a unit's invalidation queue (Intel VT-d, "Queued Invalidation Interface").
 pub const QUEUE_PLACES: usize = 64;
 
@@ -50,7 +54,8 @@ pub const CACHED: usize = 64;
 /// The use slots of an endpoint are below this.
 pub const USE_SLOTS: usize = 16;
 
-/// The most page requests that are outstanding at an endpoint.
+/// The most page requests that are outstanding at an endpoint (Outstanding Page Request Allocation, PCI Express Base 5.0,
+/// section 10.5.2).
 pub const PAGE_REQUESTS: usize = 32;
 
 /// The Page Request Group Indexes in use are below this, of nine bits (PCI Express Base 5.0, section 10.4.1).
@@ -74,9 +79,9 @@ impl Config {
     pub fn fits(&self) -> bool
         ensures { IsTrue result ↔ Fits self.now }
     {
-        (1..=MOST_ENDPOINTS).contains(&self.endpoints)
+        (1..=MOST_ENDPOINTS as u64).contains(&self.endpoints)
             && (1..=MOST_FRAMES).contains(&self.frames)
-            && (1..=MOST_WORKERS).contains(&self.workers)
+            && (1..=MOST_WORKERS as u64).contains(&self.workers)
             && self.first <= NUMBERS
     }
 }

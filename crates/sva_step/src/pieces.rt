@@ -5,7 +5,7 @@ ghost use Rattle.sva_step.specs.Texts.{BeginsWith};
 use itoa::Buffer;
 use std::alloc::AllocError;
 
-// Appends some words.
+/// Appends some words.
 pub(crate) fn put(out: &mut Vec<u8>, words: &str) -> Result<(), AllocError>
     ensures ok { OnOk result (out.new.items ≡ out.old.items ++ words.now) }
     ensures err { OnErr result (out.new.items ≡ out.old.items) }
@@ -13,7 +13,7 @@ pub(crate) fn put(out: &mut Vec<u8>, words: &str) -> Result<(), AllocError>
     out.extend_from_slice(words.as_bytes())
 }
 
-// Appends some words and a decimal number.
+/// Appends some words and a decimal number.
 pub(crate) fn put_number(out: &mut Vec<u8>, words: &str, number: u64) -> Result<(), AllocError>
     ensures ok { OnOk result (out.new.items ≡ out.old.items ++ (words.now ++ decimal number)) }
     ensures err { OnErr result (BeginsWith out.new.items out.old.items) }
@@ -22,7 +22,7 @@ pub(crate) fn put_number(out: &mut Vec<u8>, words: &str, number: u64) -> Result<
     put(out, Buffer::new().format(number))
 }
 
-// Takes back what was appended behind the first `before` bytes, where that ended in an `Err`.
+/// Takes back what was appended behind the first `before` bytes, where that ended in an `Err`.
 pub(crate) fn undo(
     out: &mut Vec<u8>,
     before: usize,

@@ -1,3 +1,5 @@
+//! Why a step is refused, and the text of each refusal.
+
 ghost use Rattle.std.specs.Prelude.{◌≡◌, false, ◌++◌, OnOk, OnErr};
 ghost use Rattle.sva_step.specs.Refusals.{number_of, name_of, is_of_call, refusal_text, TellApart};
 ghost use Rattle.sva_step.specs.Texts.{BeginsWith};
@@ -134,8 +136,8 @@ impl Refusal {
         }
     }
 
-    // As `name`, for the refusals of endpoints, of the link and of workers, and of a step that finds no number or no
-    // memory.
+    /// As `name`, for the refusals of endpoints, of the link and of workers, and of a step that finds no number or no
+    /// memory.
     fn endpoint_name(self) -> &'static str
         requires { is_of_call self ≡ false }
         ensures { result.now ≡ name_of self }
@@ -177,7 +179,7 @@ impl Refusal {
         undo(out, before, written)
     }
 
-    // As `write`, but an `Err` leaves what was appended before it.
+    /// As `write`, but an `Err` leaves what was appended before it.
     fn append(&self, out: &mut Vec<u8>) -> Result<(), AllocError>
         ensures ok { OnOk result (out.new.items ≡ out.old.items ++ refusal_text self.now) }
         ensures err { OnErr result (BeginsWith out.new.items out.old.items) }

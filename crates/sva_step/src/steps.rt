@@ -1,3 +1,5 @@
+//! The steps that a host, its endpoints and their link take.
+
 ghost use Rattle.std.specs.Prelude.{◌≡◌};
 ghost use Rattle.sva_step.specs.Steps.{is_plain};
 
@@ -80,7 +82,7 @@ pub enum Step {
     /// Begins to take a binding back: sends Stop, or ends one that a reset has cut off.
     ///
     /// In a scenario `unbind B`. Refused by the first of these that holds: NoSuchBinding, NotLive, Resetting,
-    /// NumbersSpent, OutOfMemory.
+    /// NumbersSpent, OutOfMemory. The last three don't apply to a Lost binding, for which nothing is sent.
     Unbind {
         /// The number of an unreleased binding, below 2^63.
         binding: u64,
@@ -88,7 +90,7 @@ pub enum Step {
     /// Moves a binding to its next stage.
     ///
     /// In a scenario `advance B`. Refused by the first of these that holds: NoSuchBinding, Resetting, NotYet,
-    /// QueueFull, NumbersSpent.
+    /// QueueFull, NumbersSpent. A Quiet binding is refused by none of the last four.
     Advance {
         /// The number of an unreleased binding, below 2^63.
         binding: u64,
@@ -96,7 +98,7 @@ pub enum Step {
     /// Takes the head of an endpoint's invalidation queue (Intel VT-d, "Queued Invalidation Interface").
     ///
     /// In a scenario `pump E`. Refused by the first of these that holds: NoSuchEndpoint, Resetting, NumbersSpent,
-    /// OutOfMemory.
+    /// OutOfMemory. The last two apply only where an Invalidate would be sent.
     Pump {
         /// The number of the endpoint, below the config's count (at most 8).
         endpoint: u64,
@@ -126,7 +128,8 @@ pub enum Step {
     /// A worker answers the job that it holds.
     ///
     /// In a scenario `answer W V`. Refused by the first of these that holds: NoSuchWorker, NoJob, BadVerdict, NoFrame,
-    /// SpaceFull, NumbersSpent, OutOfMemory.
+    /// SpaceFull, NumbersSpent, OutOfMemory. BadVerdict, NoFrame and SpaceFull apply only to a success with a Live
+    /// binding at an open unit, NumbersSpent and OutOfMemory only where the job isn't dropped.
     Reply {
         /// The number of the worker, below the config's count (at most 4).
         worker: u64,
@@ -225,7 +228,7 @@ pub enum Step {
     /// The link delivers a message.
     ///
     /// In a scenario `deliver M`. Refused by the first of these that holds: NoSuchMessage, Overtakes, NumbersSpent,
-    /// OutOfMemory.
+    /// OutOfMemory. The last two apply only where a message is sent in answer.
     Deliver {
         /// The number of a message in flight, below 2^63.
         message: u64,

@@ -4,8 +4,8 @@ use Rattle.std.proofs.Common.{length, ap, sym, subst, arith, refl, inl, inr, ◌
 use Rattle.sva_step.specs.declared.limits.Config.{Config}
 use Rattle.sva_step.specs.declared.steps.Step.{Step}
 use Rattle.sva_step.specs.declared.steps.Step.TheVariants.{Deliver}
-use Rattle.sva_fabric.specs.declared.receipts.Receipt.{Receipt}
-use Rattle.sva_fabric.specs.Receipts.{Seat}
+use Rattle.sva_journal.specs.declared.receipts.Receipt.{Receipt}
+use Rattle.sva_fabric.specs.Receipts.{PortState}
 use Rattle.sva_storm.specs.Plays.{is_accepted, is_memory}
 use Rattle.sva_storm.specs.Asks.{due_after, due_at_last, AreDeliveries, HasDelivered, service_at, AreServices, HasServed, HasAsked, IsAsked}
 use Rattle.sva_storm.specs.declared.endings.Turn.{Turn}
@@ -23,7 +23,7 @@ due_more message [] r = refl
 due_more message (c ∷ calls) r = due_more (due_after message c) calls r
 
 -- the link under way: so many calls in so many turns, and the message that is due
-pub record IsDelivering (message turn : ℕ) (before after : Seat) : Type 0 where
+pub record IsDelivering (message turn : ℕ) (before after : PortState) : Type 0 where
   pub calls : List Receipt
   pub number : after.number ≡ before.number
   pub kept : after.receipts ≡ before.receipts ++ calls
@@ -33,16 +33,16 @@ pub record IsDelivering (message turn : ℕ) (before after : Seat) : Type 0 wher
   pub count : length calls ≡ turn
 
 -- nothing was delivered yet
-pub delivering_none : (seat : Seat) → IsDelivering 0 0 seat seat
-delivering_none seat =
-    record { calls = []; number = refl; kept = sym (append-nil seat.receipts); deliveries = tt; due = refl; below = omega arith; count = refl }
+pub delivering_none : (state : PortState) → IsDelivering 0 0 state state
+delivering_none state =
+    record { calls = []; number = refl; kept = sym (append-nil state.receipts); deliveries = tt; due = refl; below = omega arith; count = refl }
 
 below_more : (message turn : ℕ) (done : Bool) → message ≤ turn → (if done then message + 1 else message) ≤ turn + 1
 below_more message turn true h = omega arith
 below_more message turn false h = omega arith
 
 -- a turn more: the next message is due where this one was accepted
-pub delivering_more : (message turn : ℕ) (before after next : Seat) (done : Bool)
+pub delivering_more : (message turn : ℕ) (before after next : PortState) (done : Bool)
     → IsDelivering message turn before after → HasAsked (Deliver message) after next done
     → IsDelivering (if done then message + 1 else message) (turn + 1) before next
 delivering_more message turn before after next done d h =
@@ -50,8 +50,8 @@ delivering_more message turn before after next done d h =
     let count = d.count in
     record {
       calls = d.calls ++ r ∷ [];
-      number = ap (λ (s : Seat). s.number) h.kept ∙ d.number;
-      kept = ap (λ (s : Seat). s.receipts) h.kept ∙ ap (λ l. l ++ r ∷ []) d.kept ∙ append_assoc before.receipts d.calls (r ∷ []);
+      number = ap (λ (s : PortState). s.number) h.kept ∙ d.number;
+      kept = ap (λ (s : PortState). s.receipts) h.kept ∙ ap (λ l. l ++ r ∷ []) d.kept ∙ append_assoc before.receipts d.calls (r ∷ []);
       deliveries = deliveries_more 0 d.calls r d.deliveries (h.of_step ∙ ap Deliver (sym d.due));
       due = due_more 0 d.calls r ∙ ap (λ m. if is_accepted r.answer then m + 1 else m) d.due ∙ ap (λ b. if b then message + 1 else message) h.answered;
       below = below_more message turn done d.below;
@@ -59,7 +59,7 @@ delivering_more message turn before after next done d h =
     }
 
 -- what the link has delivered when all its turns are used
-pub has_delivered : (config : Config) (message turn used left : ℕ) (before after : Seat)
+pub has_delivered : (config : Config) (message turn used left : ℕ) (before after : PortState)
     → IsDelivering message turn before after → used ≡ turn → left ≡ 0 → HasDelivered config used left false before after
 has_delivered config message turn used left before after d all none = record {
   calls = d.calls;
@@ -72,7 +72,7 @@ has_delivered config message turn used left before after d all none = record {
 }
 
 -- and when its last turn made no call
-pub delivered_last : (config : Config) (message turn used left : ℕ) (before after next : Seat) (t : Turn)
+pub delivered_last : (config : Config) (message turn used left : ℕ) (before after next : PortState) (t : Turn)
     → IsDelivering message turn before after → IsLast config after next t → used ≡ turn + 1
     → HasDelivered config used left (is_memory t) before next
 delivered_last config message turn used left before after next t d l one =
@@ -80,8 +80,8 @@ delivered_last config message turn used left before after next t d l one =
     let count = d.count in
     record {
       calls = d.calls;
-      number = ap (λ (s : Seat). s.number) e ∙ d.number;
-      kept = ap (λ (s : Seat). s.receipts) e ∙ d.kept;
+      number = ap (λ (s : PortState). s.number) e ∙ d.number;
+      kept = ap (λ (s : PortState). s.receipts) e ∙ d.kept;
       deliveries = d.deliveries;
       few = omega arith;
       each = omega arith;
@@ -96,7 +96,7 @@ services_more turn endpoints (c ∷ calls) r all step =
     (all.0, services_more (turn + 1) endpoints calls r all.1 (step ∙ ap (λ n. service_at n endpoints) next))
 
 -- the service under way: a call in each turn so far
-pub record IsServing (endpoints turn : ℕ) (before after : Seat) : Type 0 where
+pub record IsServing (endpoints turn : ℕ) (before after : PortState) : Type 0 where
   pub calls : List Receipt
   pub number : after.number ≡ before.number
   pub kept : after.receipts ≡ before.receipts ++ calls
@@ -104,11 +104,11 @@ pub record IsServing (endpoints turn : ℕ) (before after : Seat) : Type 0 where
   pub count : length calls ≡ turn
 
 -- nothing was served yet
-pub serving_none : (endpoints : ℕ) (seat : Seat) → IsServing endpoints 0 seat seat
-serving_none endpoints seat = record { calls = []; number = refl; kept = sym (append-nil seat.receipts); services = tt; count = refl }
+pub serving_none : (endpoints : ℕ) (state : PortState) → IsServing endpoints 0 state state
+serving_none endpoints state = record { calls = []; number = refl; kept = sym (append-nil state.receipts); services = tt; count = refl }
 
 -- a turn more, accepted or not
-pub serving_more : (endpoints turn : ℕ) (before after next : Seat) (done : Bool)
+pub serving_more : (endpoints turn : ℕ) (before after next : PortState) (done : Bool)
     → IsServing endpoints turn before after → HasAsked (service_at turn endpoints) after next done
     → IsServing endpoints (turn + 1) before next
 serving_more endpoints turn before after next done s h =
@@ -117,14 +117,14 @@ serving_more endpoints turn before after next done s h =
     let here : turn ≡ 0 + length s.calls = omega arith in
     record {
       calls = s.calls ++ r ∷ [];
-      number = ap (λ (s : Seat). s.number) h.kept ∙ s.number;
-      kept = ap (λ (s : Seat). s.receipts) h.kept ∙ ap (λ l. l ++ r ∷ []) s.kept ∙ append_assoc before.receipts s.calls (r ∷ []);
+      number = ap (λ (s : PortState). s.number) h.kept ∙ s.number;
+      kept = ap (λ (s : PortState). s.receipts) h.kept ∙ ap (λ l. l ++ r ∷ []) s.kept ∙ append_assoc before.receipts s.calls (r ∷ []);
       services = services_more 0 endpoints s.calls r s.services (h.of_step ∙ ap (λ n. service_at n endpoints) here);
       count = omega (arith, length-append s.calls (r ∷ []));
     }
 
 -- a turn after which the service goes on
-pub serving_after : (config : Config) (endpoints turn : ℕ) (before after next : Seat) (step : Step) (t : Turn)
+pub serving_after : (config : Config) (endpoints turn : ℕ) (before after next : PortState) (step : Step) (t : Turn)
     → IsServing endpoints turn before after → step ≡ service_at turn endpoints → IsAsked config step after next t → (t ≡ Accepted) ⊎ (t ≡ Again)
     → IsServing endpoints (turn + 1) before next
 serving_after config endpoints turn before after next step t s same h (inl is) =
@@ -135,7 +135,7 @@ serving_after config endpoints turn before after next step t s same h (inr is) =
     (subst (λ x. HasAsked x after next false) same (subst (λ o. IsAsked config step after next o) is h))
 
 -- what the service has served when all its turns are used
-pub has_served : (config : Config) (endpoints turn used left : ℕ) (before after : Seat)
+pub has_served : (config : Config) (endpoints turn used left : ℕ) (before after : PortState)
     → IsServing endpoints turn before after → used ≡ turn → left ≡ 0 → HasServed config endpoints used left false before after
 has_served config endpoints turn used left before after s all none = record {
   calls = s.calls;
@@ -148,7 +148,7 @@ has_served config endpoints turn used left before after s all none = record {
 }
 
 -- and when its last turn made no call
-pub served_last : (config : Config) (endpoints turn used left : ℕ) (before after next : Seat) (t : Turn)
+pub served_last : (config : Config) (endpoints turn used left : ℕ) (before after next : PortState) (t : Turn)
     → IsServing endpoints turn before after → IsLast config after next t → used ≡ turn + 1
     → HasServed config endpoints used left (is_memory t) before next
 served_last config endpoints turn used left before after next t s l one =
@@ -156,8 +156,8 @@ served_last config endpoints turn used left before after next t s l one =
     let count = s.count in
     record {
       calls = s.calls;
-      number = ap (λ (s : Seat). s.number) e ∙ s.number;
-      kept = ap (λ (s : Seat). s.receipts) e ∙ s.kept;
+      number = ap (λ (s : PortState). s.number) e ∙ s.number;
+      kept = ap (λ (s : PortState). s.receipts) e ∙ s.kept;
       services = s.services;
       few = omega arith;
       each = omega arith;

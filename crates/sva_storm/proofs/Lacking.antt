@@ -1,6 +1,6 @@
 -- Which thread of a storm wanted memory, told of one after another.
 use Rattle.std.proofs.Common.{◌≡◌, ◌∙◌, ◌||◌, ◌⊎◌, inl, inr, Bool, true, false, not, List, [], ◌∷◌, ◌++◌, length, get_or, ap, sym, refl, arith}
-use Rattle.sva_storm.specs.declared.seats.HostSeat.{HostSeat}
+use Rattle.sva_storm.specs.declared.thread_states.HostThreadState.{HostThreadState}
 use Rattle.sva_storm.specs.Lacks.{lacks_of_hosts, one_lacks}
 
 -- the last is told of first
@@ -38,11 +38,11 @@ or_false : (b : Bool) → (b || false) ≡ b
 or_false true = refl
 or_false false = refl
 
--- the host's seat is the only one of its kind
-pub host_lacks : {C : Type 0} (hosts : List (HostSeat C)) (host : HostSeat C) → length hosts ≡ 1 → host ≡ get_or hosts 0 host
+-- the host's state is the only one of its kind
+pub host_lacks : {C : Type 0} (hosts : List (HostThreadState C)) (host : HostThreadState C) → length hosts ≡ 1 → host ≡ get_or hosts 0 host
     → one_lacks (lacks_of_hosts hosts) ≡ host.out_of_memory
 host_lacks [] host one is = absurd (omega arith)
-host_lacks {C} (h ∷ []) host one is = or_false h.out_of_memory ∙ ap (λ (x : HostSeat C). x.out_of_memory) (sym is)
+host_lacks {C} (h ∷ []) host one is = or_false h.out_of_memory ∙ ap (λ (x : HostThreadState C). x.out_of_memory) (sym is)
 host_lacks (h ∷ i ∷ rest) host one is = absurd (omega arith)
 
 pub either : (a b x y : Bool) → a ≡ x → b ≡ y → (a || b) ≡ (x || y)

@@ -9,9 +9,9 @@ use Rattle.sva_laws.proofs.Withheld.{config_kept}
 use Rattle.sva_fabric.specs.declared.audits.Audit.{Audit}
 use Rattle.sva_fabric.specs.declared.audits.FirstBadReceipt.{FirstBadReceipt}
 use Rattle.sva_fabric.specs.declared.ports.Ports.{Ports}
-use Rattle.sva_fabric.specs.Audits.{seats_of, new_seats, IsFinished}
+use Rattle.sva_fabric.specs.Audits.{states_of, new_ports, IsFinished}
 use Rattle.sva_fabric.specs.Journal.{as_defined, world_of}
-use Rattle.sva_fabric.specs.Receipts.{Seat, seats_from, new_seat}
+use Rattle.sva_fabric.specs.Receipts.{PortState, new_ports_from, new_port}
 use Rattle.sva_storm.specs.Storms.{HasFinished}
 
 -- the frames of an audit that is ok are all frames of the config
@@ -25,32 +25,32 @@ storm_frames config audit h =
     omega (arith, a.3, a.4, a.5, all, kept)
 
 -- the audit of all ports
-pub has_finished : (config : Config) (parts : ℕ) (seats : List Seat) (held used : ℕ) (result : Result Audit FirstBadReceipt)
-    → parts ≡ 3 + config.endpoints + config.workers → length seats ≡ 3 + config.endpoints + config.workers
-    → IsFinished config parts seats held used result → HasFinished config result
-has_finished config parts seats held used result is all f = record {
-  seats = seats;
+pub has_finished : (config : Config) (parts : ℕ) (states : List PortState) (held used : ℕ) (result : Result Audit FirstBadReceipt)
+    → parts ≡ 3 + config.endpoints + config.workers → length states ≡ 3 + config.endpoints + config.workers
+    → IsFinished config parts states held used result → HasFinished config result
+has_finished config parts states held used result is all f = record {
+  states = states;
   all = all;
   held = held;
   used = used;
-  finished = subst (λ (n : ℕ). IsFinished config n seats held used result) is f;
+  finished = subst (λ (n : ℕ). IsFinished config n states held used result) is f;
 }
 
--- so many seats in a row
-seats_count : (first count : ℕ) → length (seats_from first count) ≡ count
-unfolding seats_from
-seats_count first zero = refl
-seats_count first (suc count) = omega (arith, length-append (seats_from first count) (new_seat (first + count) ∷ []), seats_count first count)
+-- so many states in a row
+new_ports_count : (first count : ℕ) → length (new_ports_from first count) ≡ count
+unfolding new_ports_from
+new_ports_count first zero = refl
+new_ports_count first (suc count) = omega (arith, length-append (new_ports_from first count) (new_port (first + count) ∷ []), new_ports_count first count)
 
 -- the host's, the link's and the service's, and one for each endpoint and each worker
-pub ports_count : (config : Config) (seats : List Seat) → seats ≡ new_seats config → length seats ≡ 3 + config.endpoints + config.workers
-ports_count config seats same =
-    let row = seats_from 3 config.endpoints in
-    let rest = seats_from (3 + config.endpoints) config.workers in
+pub ports_count : (config : Config) (states : List PortState) → states ≡ new_ports config → length states ≡ 3 + config.endpoints + config.workers
+ports_count config states same =
+    let row = new_ports_from 3 config.endpoints in
+    let rest = new_ports_from (3 + config.endpoints) config.workers in
     omega (
       arith,
       ap length same,
       length-append row rest,
-      seats_count 3 config.endpoints,
-      seats_count (3 + config.endpoints) config.workers,
+      new_ports_count 3 config.endpoints,
+      new_ports_count (3 + config.endpoints) config.workers,
     )

@@ -8,11 +8,11 @@ use Rattle.std.specs.Borrow.{Bor}
 use Rattle.std.specs.Slice.{IsItemAt}
 use Rattle.sva_step.specs.declared.limits.Config.{Config}
 use Rattle.sva_step.specs.declared.steps.Step.{Step}
-use Rattle.sva_fabric.specs.declared.receipts.Receipt.{Receipt}
-use Rattle.sva_fabric.specs.Receipts.{Seat}
+use Rattle.sva_journal.specs.declared.receipts.Receipt.{Receipt}
+use Rattle.sva_fabric.specs.Receipts.{PortState}
 use Rattle.sva_storm.specs.Plays.{is_accepted, lines_behind, IsFirst, lines_after, lines_left, AreTries}
 use Rattle.sva_storm.specs.Ends.{HasStrayed}
-use Rattle.sva_storm.specs.Hands.{InHand}
+use Rattle.sva_storm.specs.LoopTokens.{LoopTokens}
 use Rattle.sva_storm.specs.Plays.{begins, ends, begun_by, ended_by, IsPassed, IsPlayed, HasPlayed, HasCalledOnce, IsTry, IsTurn, is_memory}
 use Rattle.sva_storm.specs.declared.endings.Turn.{Turn}
 use Rattle.sva_storm.specs.declared.endings.Turn.TheVariants.{Accepted, Again, Memory, Strayed}
@@ -59,7 +59,7 @@ lines_over script a None item none = item.3
 lines_over script a (Some line) item none = absurd (none line refl)
 
 -- a loop under way: so many lines were accepted in so many turns. Each turn made a call, or the line that is due is passed over
-pub record IsPlaying (script : List Step) (accepted turn : ℕ) (before after : Seat) (h k : InHand) : Type 0 where
+pub record IsPlaying (script : List Step) (accepted turn : ℕ) (before after : PortState) (h k : LoopTokens) : Type 0 where
   pub calls : List Receipt
   pub number : after.number ≡ before.number
   pub kept : after.receipts ≡ before.receipts ++ calls
@@ -70,11 +70,11 @@ pub record IsPlaying (script : List Step) (accepted turn : ℕ) (before after : 
   pub tickets : k.tickets + ended_by calls ≡ h.tickets + begun_by calls
 
 -- nothing was played yet
-pub playing_none : (script : List Step) (seat : Seat) (h : InHand) → IsPlaying script 0 0 seat seat h h
-playing_none script seat h = record {
+pub playing_none : (script : List Step) (state : PortState) (h : LoopTokens) → IsPlaying script 0 0 state state h h
+playing_none script state h = record {
   calls = [];
   number = refl;
-  kept = sym (append-nil seat.receipts);
+  kept = sym (append-nil state.receipts);
   tries = tt;
   left = refl;
   few = omega arith;
@@ -96,7 +96,7 @@ all_called_at_end passes lines count turn none (inl all) = all
 all_called_at_end passes lines count turn none (inr passed) = absurd (subst (λ (l : List Step). IsPassed passes l) none passed)
 
 -- a turn that passes over its line
-pub playing_still : (script : List Step) (a turn : ℕ) (before after next : Seat) (h k m : InHand) (line : Step)
+pub playing_still : (script : List Step) (a turn : ℕ) (before after next : PortState) (h k m : LoopTokens) (line : Step)
     → IsPlaying script a turn before after h k
     → slice_get script a ≡ Some line → k.passes line ≡ true
     → next ≡ after → m ≡ k
@@ -104,20 +104,20 @@ pub playing_still : (script : List Step) (a turn : ℕ) (before after next : Sea
 playing_still script a turn before after next h k m line p at passed e i =
     let front = p.left ∙ line_at script a line at in
     let tickets = p.tickets in
-    let same : m.tickets ≡ k.tickets = ap (λ (x : InHand). x.tickets) i in
+    let same : m.tickets ≡ k.tickets = ap (λ (x : LoopTokens). x.tickets) i in
     record {
       calls = p.calls;
-      number = ap (λ (s : Seat). s.number) e ∙ p.number;
-      kept = ap (λ (s : Seat). s.receipts) e ∙ p.kept;
+      number = ap (λ (s : PortState). s.number) e ∙ p.number;
+      kept = ap (λ (s : PortState). s.receipts) e ∙ p.kept;
       tries = p.tries;
       left = p.left;
       few = let few = p.few in omega arith;
-      each = inr (subst (λ (l : List Step). IsPassed m.passes l) (sym front) (ap (λ (x : InHand). x.passes line) i ∙ passed));
+      each = inr (subst (λ (l : List Step). IsPassed m.passes l) (sym front) (ap (λ (x : LoopTokens). x.passes line) i ∙ passed));
       tickets = omega arith;
     }
 
 -- a turn with a call: the line was accepted, or is to be tried again
-pub playing_called : (script : List Step) (a turn : ℕ) (before after next : Seat) (h k m : InHand) (line : Step) (done : Bool)
+pub playing_called : (script : List Step) (a turn : ℕ) (before after next : PortState) (h k m : LoopTokens) (line : Step) (done : Bool)
     → IsPlaying script a turn before after h k
     → slice_get script a ≡ Some line → k.passes line ≡ false
     → HasCalledOnce line after next done k.tickets m.tickets
@@ -137,8 +137,8 @@ playing_called script a turn before after next h k m line true p at asked c =
     all_called k.passes (lines_left script p.calls) (drop (a + 1) script) line (length p.calls) turn (p.left ∙ front) asked p.each in
     record {
       calls = p.calls ++ r ∷ [];
-      number = ap (λ (s : Seat). s.number) c.kept ∙ p.number;
-      kept = ap (λ (s : Seat). s.receipts) c.kept ∙ ap (λ l. l ++ r ∷ []) p.kept ∙ append_assoc before.receipts p.calls (r ∷ []);
+      number = ap (λ (s : PortState). s.number) c.kept ∙ p.number;
+      kept = ap (λ (s : PortState). s.receipts) c.kept ∙ ap (λ l. l ++ r ∷ []) p.kept ∙ append_assoc before.receipts p.calls (r ∷ []);
       tries = tries_more script p.calls r p.tries first;
       left = left_more script p.calls r ∙ ap (λ b. if b then lines_behind (lines_left script p.calls) else lines_left script p.calls) c.answered
           ∙ ap lines_behind (p.left ∙ front);
@@ -161,8 +161,8 @@ playing_called script a turn before after next h k m line false p at asked c =
     all_called k.passes (lines_left script p.calls) (drop (a + 1) script) line (length p.calls) turn (p.left ∙ front) asked p.each in
     record {
       calls = p.calls ++ r ∷ [];
-      number = ap (λ (s : Seat). s.number) c.kept ∙ p.number;
-      kept = ap (λ (s : Seat). s.receipts) c.kept ∙ ap (λ l. l ++ r ∷ []) p.kept ∙ append_assoc before.receipts p.calls (r ∷ []);
+      number = ap (λ (s : PortState). s.number) c.kept ∙ p.number;
+      kept = ap (λ (s : PortState). s.receipts) c.kept ∙ ap (λ l. l ++ r ∷ []) p.kept ∙ append_assoc before.receipts p.calls (r ∷ []);
       tries = tries_more script p.calls r p.tries first;
       left = left_more script p.calls r ∙ ap (λ b. if b then lines_behind (lines_left script p.calls) else lines_left script p.calls) c.answered ∙ p.left;
       few = omega (arith, length-append p.calls (r ∷ []));
@@ -171,7 +171,7 @@ playing_called script a turn before after next h k m line false p at asked c =
     }
 
 -- a turn after which the loop goes on to the next line
-pub playing_accepted : (config : Config) (script : List Step) (a turn : ℕ) (before after next : Seat) (h k m : InHand) (line : Step) (t : Turn)
+pub playing_accepted : (config : Config) (script : List Step) (a turn : ℕ) (before after next : PortState) (h k m : LoopTokens) (line : Step) (t : Turn)
     → IsPlaying script a turn before after h k → slice_get script a ≡ Some line → IsTurn config line after next k m t → t ≡ Accepted
     → IsPlaying script (a + 1) (turn + 1) before next h m
 playing_accepted config script a turn before after next h k m line t p at (inl passed) is =
@@ -182,7 +182,7 @@ playing_accepted config script a turn before after next h k m line t p at (inr a
     (subst (λ (o : Turn). IsTry config line after next k.tickets m.tickets o) is asked.1)
 
 -- a turn after which it stays at its line
-pub playing_again : (config : Config) (script : List Step) (a turn : ℕ) (before after next : Seat) (h k m : InHand) (line : Step) (t : Turn)
+pub playing_again : (config : Config) (script : List Step) (a turn : ℕ) (before after next : PortState) (h k m : LoopTokens) (line : Step) (t : Turn)
     → IsPlaying script a turn before after h k → slice_get script a ≡ Some line → IsTurn config line after next k m t → t ≡ Again
     → IsPlaying script a (turn + 1) before next h m
 playing_again config script a turn before after next h k m line t p at (inl passed) is =
@@ -192,7 +192,7 @@ playing_again config script a turn before after next h k m line t p at (inr aske
     (subst (λ (o : Turn). IsTry config line after next k.tickets m.tickets o) is asked.1)
 
 -- what a loop has played when no line is left
-pub played_all : (config : Config) (script : List Step) (a turn used left : ℕ) (before after : Seat) (h k : InHand)
+pub played_all : (config : Config) (script : List Step) (a turn used left : ℕ) (before after : PortState) (h k : LoopTokens)
     → IsPlaying script a turn before after h k → length script ≤ a → used ≡ turn → HasPlayed config script used left false before after h k
 played_all config script a turn used left before after h k p over all =
     let none = p.left ∙ drop_all a script over in
@@ -207,13 +207,13 @@ played_all config script a turn used left before after h k p over all =
       played = inl (omega arith, inl none);
     }
 
-ended_by_turns : (config : Config) (passes : Step → Bool) (lines : List Step) (count turn used left : ℕ) (seat : Seat)
-    → (count ≡ turn) ⊎ IsPassed passes lines → used ≡ turn → left ≡ 0 → IsPlayed config passes lines count used left false seat
-ended_by_turns config passes lines count turn used left seat (inl e) all none = inl (omega arith, inr none)
-ended_by_turns config passes lines count turn used left seat (inr passed) all none = inr (inl (none, passed))
+ended_by_turns : (config : Config) (passes : Step → Bool) (lines : List Step) (count turn used left : ℕ) (state : PortState)
+    → (count ≡ turn) ⊎ IsPassed passes lines → used ≡ turn → left ≡ 0 → IsPlayed config passes lines count used left false state
+ended_by_turns config passes lines count turn used left state (inl e) all none = inl (omega arith, inr none)
+ended_by_turns config passes lines count turn used left state (inr passed) all none = inr (inl (none, passed))
 
 -- and when no turn is left
-pub played_out : (config : Config) (script : List Step) (a turn used left : ℕ) (before after : Seat) (h k : InHand)
+pub played_out : (config : Config) (script : List Step) (a turn used left : ℕ) (before after : PortState) (h k : LoopTokens)
     → IsPlaying script a turn before after h k → used ≡ turn → left ≡ 0 → HasPlayed config script used left false before after h k
 played_out config script a turn used left before after h k p all none = record {
   calls = p.calls;
@@ -226,17 +226,17 @@ played_out config script a turn used left before after h k p all none = record {
 }
 
 -- how it ends by a turn that asked its line and made no call
-ended_by_turn : (config : Config) (passes : Step → Bool) (line : Step) (lines : List Step) (count used left t u : ℕ) (before after : Seat) (o : Turn)
+ended_by_turn : (config : Config) (passes : Step → Bool) (line : Step) (lines : List Step) (count used left t u : ℕ) (before after : PortState) (o : Turn)
     → IsTry config line before after t u o → (o ≡ Accepted → ⊥) → (o ≡ Again → ⊥) → used ≡ count + 1
     → (after ≡ before) × (u ≡ t) × IsPlayed config passes lines count used left (is_memory o) after
 ended_by_turn config passes line lines count used left t u before after Accepted h a b one = absurd (a refl)
 ended_by_turn config passes line lines count used left t u before after Again h a b one = absurd (b refl)
 ended_by_turn config passes line lines count used left t u before after Memory h a b one = (h.0, h.1, inl one)
 ended_by_turn config passes line lines count used left t u before after Strayed h a b one =
-    (h.0, h.1, inr (inr (one, subst (λ (s : Seat). HasStrayed config s) (sym h.0) h.2)))
+    (h.0, h.1, inr (inr (one, subst (λ (s : PortState). HasStrayed config s) (sym h.0) h.2)))
 
 -- and when its last turn made no call
-pub played_last : (config : Config) (script : List Step) (a turn used left : ℕ) (before after next : Seat) (h k m : InHand) (line : Step) (o : Turn)
+pub played_last : (config : Config) (script : List Step) (a turn used left : ℕ) (before after next : PortState) (h k m : LoopTokens) (line : Step) (o : Turn)
     → IsPlaying script a turn before after h k → slice_get script a ≡ Some line → IsTurn config line after next k m o
     → (o ≡ Accepted → ⊥) → (o ≡ Again → ⊥) → used ≡ turn + 1
     → HasPlayed config script used left (is_memory o) before next h m
@@ -251,8 +251,8 @@ played_last config script a turn used left before after next h k m line o p at (
     let same : m.tickets ≡ k.tickets = last.1 in
     record {
       calls = p.calls;
-      number = ap (λ (s : Seat). s.number) last.0 ∙ p.number;
-      kept = ap (λ (s : Seat). s.receipts) last.0 ∙ p.kept;
+      number = ap (λ (s : PortState). s.number) last.0 ∙ p.number;
+      kept = ap (λ (s : PortState). s.receipts) last.0 ∙ p.kept;
       tries = p.tries;
       few = omega arith;
       tickets = omega arith;
@@ -260,12 +260,12 @@ played_last config script a turn used left before after next h k m line o p at (
     }
 
 -- a loop without a turn, which wanted memory
-pub played_none : (config : Config) (script : List Step) (used left : ℕ) (seat : Seat) (h : InHand)
-    → used ≡ 0 → HasPlayed config script used left true seat seat h h
-played_none config script used left seat h none = record {
+pub played_none : (config : Config) (script : List Step) (used left : ℕ) (state : PortState) (h : LoopTokens)
+    → used ≡ 0 → HasPlayed config script used left true state state h h
+played_none config script used left state h none = record {
   calls = [];
   number = refl;
-  kept = sym (append-nil seat.receipts);
+  kept = sym (append-nil state.receipts);
   tries = tt;
   few = omega arith;
   tickets = refl;

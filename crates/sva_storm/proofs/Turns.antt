@@ -10,15 +10,15 @@ use Rattle.sva_step.specs.declared.steps.Step.TheVariants.{Bind, Unbind, Advance
 use Rattle.sva_step.specs.Steps.{is_plain}
 use Rattle.sva_fabric.specs.declared.faults.Fault.{Fault}
 use Rattle.sva_fabric.specs.declared.faults.Fault.TheVariants as fault
-use Rattle.sva_fabric.specs.declared.running.StepFault.TheVariants as step_fault
-use Rattle.sva_fabric.specs.Receipts.{Seat}
-use Rattle.sva_fabric.specs.Stocks.{LeaseNumbers, TicketNumbers}
+use Rattle.sva_journal.specs.declared.running.StepFault.TheVariants as step_fault
+use Rattle.sva_fabric.specs.Receipts.{PortState}
+use Rattle.sva_fabric.specs.TokenNumbers.{LeaseNumbers, TicketNumbers}
 use Rattle.sva_fabric.specs.Tokens.{HasCalled, IsFault}
 use Rattle.sva_storm.specs.declared.endings.Turn.{Turn}
 use Rattle.sva_storm.specs.declared.endings.Turn.TheVariants.{Accepted, Again, Memory, Strayed}
 use Rattle.sva_storm.specs.Asks.{IsAsked}
 use Rattle.sva_storm.specs.Ends.{HasStrayed}
-use Rattle.sva_storm.specs.Hands.{passes_with_tickets, passes_with_bindings}
+use Rattle.sva_storm.specs.LoopTokens.{passes_with_tickets, passes_with_bindings}
 use Rattle.sva_storm.specs.Plays.{is_accepted, begins, ends, HasCalledOnce, IsTry, turn_after_fault}
 
 -- the token that was taken from its place is the one that was found there
@@ -32,7 +32,7 @@ pub same_ticket : (tickets : List TicketNumbers) (place e s : ℕ) (t : TicketNu
 same_ticket tickets place e s t = taken_is tickets place t (λ (found : TicketNumbers). (found.endpoint ≡ e) × (found.slot ≡ s))
 
 -- a call that was accepted
-pub accepted_once : (config : Config) (before after : Seat) (step line : Step) (t u : ℕ) (a : Answer)
+pub accepted_once : (config : Config) (before after : PortState) (step line : Step) (t u : ℕ) (a : Answer)
     → HasCalled config before after step (Ok a) → step ≡ line → u + ends line ≡ t + begins line → HasCalledOnce line before after true t u
 accepted_once config before after step line t u a h i tokens = record {
   receipt = h.receipt;
@@ -43,7 +43,7 @@ accepted_once config before after step line t u a h i tokens = record {
 }
 
 -- a use that ended
-pub ended_once : (config : Config) (before after : Seat) (e s d r t u : ℕ) (a : Answer)
+pub ended_once : (config : Config) (before after : PortState) (e s d r t u : ℕ) (a : Answer)
     → HasCalled config before after (EndUse d r) (Ok a) → d ≡ e → r ≡ s → u + 1 ≡ t
     → HasCalledOnce (EndUse e s) before after true t u
 ended_once config before after e s d r t u a h i j less = record {
@@ -55,7 +55,7 @@ ended_once config before after e s d r t u a h i j less = record {
 }
 
 -- a call that made, moved or spent no token
-pub fault_try : (config : Config) (before after : Seat) (step line : Step) (f : Fault) (t u : ℕ)
+pub fault_try : (config : Config) (before after : PortState) (step line : Step) (f : Fault) (t u : ℕ)
     → IsFault config before after step f → step ≡ line → u ≡ t → IsTry config line before after t u (turn_after_fault f)
 fault_try config before after step line (fault.Refused refusal) t u h i same = record {
   receipt = h.receipt;
@@ -65,8 +65,8 @@ fault_try config before after step line (fault.Refused refusal) t u h i same = r
   tickets = omega arith;
 }
 fault_try config before after step line fault.Memory t u h i same = (h, same)
-fault_try config before after step line (fault.Strayed place found) t u h i same =
-    (h.0, same, record { fault = step_fault.Strayed place found; of_receipt = tt; refused = h.1 })
+fault_try config before after step line (fault.Strayed strayed) t u h i same =
+    (h.0, same, record { fault = step_fault.Strayed strayed; of_receipt = tt; refused = h.1 })
 
 -- a plain step begins no use, and ends none
 begins_none : (line : Step) → is_plain line ≡ true → begins line ≡ 0
@@ -78,7 +78,7 @@ ends_none (EndUse endpoint slot) plain = absurd (cc plain)
 ends_none line plain = refl
 
 -- a plain line that was asked
-pub plain_try : (config : Config) (line : Step) (before after : Seat) (t : ℕ) (o : Turn)
+pub plain_try : (config : Config) (line : Step) (before after : PortState) (t : ℕ) (o : Turn)
     → is_plain line ≡ true → IsAsked config line before after o → IsTry config line before after t t o
 plain_try config line before after t Accepted plain h =
     let begun = begins_none line plain in
@@ -121,8 +121,8 @@ others_passed_by_host leases leavings (Advance binding) kind bind unbind advance
 others_passed_by_host leases leavings line kind bind unbind advance = ap not kind
 
 -- 16 tickets or more, and fewer
-pub full_hand : (count : ℕ) → 16 ≤ count → nat_le 16 count ≡ true
-full_hand count h = grind (arith, nat_tests)
+pub full_tickets : (count : ℕ) → 16 ≤ count → nat_le 16 count ≡ true
+full_tickets count h = grind (arith, nat_tests)
 
-pub room_in_hand : (count : ℕ) → count < 16 → nat_le 16 count ≡ false
-room_in_hand count h = grind (arith, nat_tests)
+pub room_for_ticket : (count : ℕ) → count < 16 → nat_le 16 count ≡ false
+room_for_ticket count h = grind (arith, nat_tests)

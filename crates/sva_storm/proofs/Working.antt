@@ -4,8 +4,8 @@ use Rattle.std.proofs.Common.{length, ap, sym, subst, arith, refl, inl, inr, ◌
 use Rattle.sva_step.specs.declared.limits.Config.{Config}
 use Rattle.sva_step.specs.declared.steps.Step.TheVariants.{Reply}
 use Rattle.sva_step.specs.declared.steps.Verdict.{Verdict}
-use Rattle.sva_fabric.specs.declared.receipts.Receipt.{Receipt}
-use Rattle.sva_fabric.specs.Receipts.{Seat}
+use Rattle.sva_journal.specs.declared.receipts.Receipt.{Receipt}
+use Rattle.sva_fabric.specs.Receipts.{PortState}
 use Rattle.sva_storm.specs.Asks.{IsAsked}
 use Rattle.sva_storm.specs.Jobs.{AreJobs, IsJobStep, IsJobTurn, is_left, holds_after, holds_at_last, HasAnswered, HasWorked}
 use Rattle.sva_storm.specs.Plays.{is_memory}
@@ -23,7 +23,7 @@ holds_more holds [] r = refl
 holds_more holds (c ∷ calls) r = holds_more (holds_after holds c) calls r
 
 -- a loop under way, and whether a job is in hand
-pub record IsWorking (worker turn : ℕ) (holds : Bool) (before after : Seat) : Type 0 where
+pub record IsWorking (worker turn : ℕ) (holds : Bool) (before after : PortState) : Type 0 where
   pub calls : List Receipt
   pub number : after.number ≡ before.number
   pub kept : after.receipts ≡ before.receipts ++ calls
@@ -32,26 +32,26 @@ pub record IsWorking (worker turn : ℕ) (holds : Bool) (before after : Seat) : 
   pub count : length calls ≡ turn
 
 -- no job was taken yet
-pub working_none : (worker : ℕ) (seat : Seat) → IsWorking worker 0 false seat seat
-working_none worker seat = record { calls = []; number = refl; kept = sym (append-nil seat.receipts); jobs = tt; holding = refl; count = refl }
+pub working_none : (worker : ℕ) (state : PortState) → IsWorking worker 0 false state state
+working_none worker state = record { calls = []; number = refl; kept = sym (append-nil state.receipts); jobs = tt; holding = refl; count = refl }
 
 -- a turn that was answered
-pub working_more : (worker turn : ℕ) (holds held : Bool) (before after next : Seat)
+pub working_more : (worker turn : ℕ) (holds held : Bool) (before after next : PortState)
     → IsWorking worker turn holds before after → HasWorked worker after next holds held → IsWorking worker (turn + 1) held before next
 working_more worker turn holds held before after next w h =
     let r = h.receipt in
     let count = w.count in
     record {
       calls = w.calls ++ r ∷ [];
-      number = ap (λ (s : Seat). s.number) h.kept ∙ w.number;
-      kept = ap (λ (s : Seat). s.receipts) h.kept ∙ ap (λ l. l ++ r ∷ []) w.kept ∙ append_assoc before.receipts w.calls (r ∷ []);
+      number = ap (λ (s : PortState). s.number) h.kept ∙ w.number;
+      kept = ap (λ (s : PortState). s.receipts) h.kept ∙ ap (λ l. l ++ r ∷ []) w.kept ∙ append_assoc before.receipts w.calls (r ∷ []);
       jobs = jobs_more worker false w.calls r w.jobs (subst (λ b. IsJobStep worker b r.step) (sym w.holding) h.of_job);
       holding = holds_more false w.calls r ∙ ap (λ b. holds_after b r) w.holding ∙ sym h.holding;
       count = omega (arith, length-append w.calls (r ∷ []));
     }
 
 -- a turn after which the loop goes on
-pub working_after : (config : Config) (worker turn : ℕ) (holds held : Bool) (before after next : Seat) (t : Turn)
+pub working_after : (config : Config) (worker turn : ℕ) (holds held : Bool) (before after next : PortState) (t : Turn)
     → IsWorking worker turn holds before after → IsJobTurn config worker after next holds held t → (t ≡ Accepted) ⊎ (t ≡ Again)
     → IsWorking worker (turn + 1) held before next
 working_after config worker turn holds held before after next t w h (inl is) =
@@ -60,7 +60,7 @@ working_after config worker turn holds held before after next t w h (inr is) =
     working_more worker turn holds held before after next w (subst (λ o. IsJobTurn config worker after next holds held o) is h)
 
 -- a turn after which it ends
-pub last_job : (config : Config) (worker : ℕ) (holds held : Bool) (before after : Seat) (t : Turn)
+pub last_job : (config : Config) (worker : ℕ) (holds held : Bool) (before after : PortState) (t : Turn)
     → IsJobTurn config worker before after holds held t → (t ≡ Accepted → ⊥) → (t ≡ Again → ⊥) → IsLast config before after t
 last_job config worker holds held before after Accepted h a b = a refl
 last_job config worker holds held before after Again h a b = b refl
@@ -68,7 +68,7 @@ last_job config worker holds held before after Memory h a b = h
 last_job config worker holds held before after Strayed h a b = h
 
 -- an answer's turn
-pub job_asked : (config : Config) (worker : ℕ) (verdict : Verdict) (before after : Seat) (held : Bool) (t : Turn)
+pub job_asked : (config : Config) (worker : ℕ) (verdict : Verdict) (before after : PortState) (held : Bool) (t : Turn)
     → IsAsked config (Reply worker verdict) before after t → held ≡ is_left t → IsJobTurn config worker before after true held t
 job_asked config worker verdict before after held Accepted h is =
     record { receipt = h.receipt; kept = h.kept; of_job = (verdict, h.of_step); holding = is ∙ ap not (sym h.answered) }
@@ -78,7 +78,7 @@ job_asked config worker verdict before after held Memory h is = h
 job_asked config worker verdict before after held Strayed h is = h
 
 -- what a loop has answered when all its turns are used
-pub has_answered : (config : Config) (worker turn used left : ℕ) (holds : Bool) (before after : Seat)
+pub has_answered : (config : Config) (worker turn used left : ℕ) (holds : Bool) (before after : PortState)
     → IsWorking worker turn holds before after → used ≡ turn → left ≡ 0 → HasAnswered config worker used left false before after
 has_answered config worker turn used left holds before after w all none = record {
   calls = w.calls;
@@ -91,7 +91,7 @@ has_answered config worker turn used left holds before after w all none = record
 }
 
 -- and when its last turn made no call
-pub answered_last : (config : Config) (worker turn used left : ℕ) (holds : Bool) (before after next : Seat) (t : Turn)
+pub answered_last : (config : Config) (worker turn used left : ℕ) (holds : Bool) (before after next : PortState) (t : Turn)
     → IsWorking worker turn holds before after → IsLast config after next t → used ≡ turn + 1
     → HasAnswered config worker used left (is_memory t) before next
 answered_last config worker turn used left holds before after next t w l one =
@@ -99,8 +99,8 @@ answered_last config worker turn used left holds before after next t w l one =
     let count = w.count in
     record {
       calls = w.calls;
-      number = ap (λ (s : Seat). s.number) e ∙ w.number;
-      kept = ap (λ (s : Seat). s.receipts) e ∙ w.kept;
+      number = ap (λ (s : PortState). s.number) e ∙ w.number;
+      kept = ap (λ (s : PortState). s.receipts) e ∙ w.kept;
       jobs = w.jobs;
       few = omega arith;
       each = omega arith;

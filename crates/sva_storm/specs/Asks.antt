@@ -3,8 +3,8 @@ use Rattle.std.specs.Prelude.{◌≡◌, ◌≤◌, ◌==◌, ◌/◌, ◌%◌, 
 use Rattle.sva_step.specs.declared.limits.Config.{Config}
 use Rattle.sva_step.specs.declared.steps.Step.{Step}
 use Rattle.sva_step.specs.declared.steps.Step.TheVariants.{Deliver, Pump, Serve}
-use Rattle.sva_fabric.specs.declared.receipts.Receipt.{Receipt}
-use Rattle.sva_fabric.specs.Receipts.{Seat}
+use Rattle.sva_journal.specs.declared.receipts.Receipt.{Receipt}
+use Rattle.sva_fabric.specs.Receipts.{PortState}
 use Rattle.sva_storm.specs.Ends.{HasStrayed, AreSpent}
 use Rattle.sva_storm.specs.Plays.{is_accepted}
 use Rattle.sva_storm.specs.declared.endings.Turn.{Turn}
@@ -28,7 +28,7 @@ AreDeliveries message (receipt ∷ receipts) = (receipt.step ≡ Deliver message
 
 -- The link has made these calls by its port, one in each turn but perhaps the last: it delivered the messages by their numbers, from 0 on,
 -- each tried until it was accepted.
-pub record HasDelivered (config : Config) (turns_used turns_left : ℕ) (out_of_memory : Bool) (before after : Seat) : Type 0 where
+pub record HasDelivered (config : Config) (turns_used turns_left : ℕ) (out_of_memory : Bool) (before after : PortState) : Type 0 where
   pub calls : List Receipt
   pub number : after.number ≡ before.number
   pub kept : after.receipts ≡ before.receipts ++ calls
@@ -53,7 +53,7 @@ AreServices turn endpoints [] = Unit {0}
 AreServices turn endpoints (receipt ∷ receipts) = (receipt.step ≡ service_at turn endpoints) × AreServices (turn + 1) endpoints receipts
 
 -- The service has made these calls by its port, one in each turn but perhaps the last: it pumped and served each endpoint in turn.
-pub record HasServed (config : Config) (endpoints turns_used turns_left : ℕ) (out_of_memory : Bool) (before after : Seat) : Type 0 where
+pub record HasServed (config : Config) (endpoints turns_used turns_left : ℕ) (out_of_memory : Bool) (before after : PortState) : Type 0 where
   pub calls : List Receipt
   pub number : after.number ≡ before.number
   pub kept : after.receipts ≡ before.receipts ++ calls
@@ -65,14 +65,14 @@ pub record HasServed (config : Config) (endpoints turns_used turns_left : ℕ) (
 -- ---- One turn
 
 -- one call more, of this step
-pub record HasAsked (step : Step) (before after : Seat) (accepted : Bool) : Type 0 where
+pub record HasAsked (step : Step) (before after : PortState) (accepted : Bool) : Type 0 where
   pub receipt : Receipt
   pub kept : after ≡ record before { receipts = before.receipts ++ receipt ∷ [] }
   pub of_step : receipt.step ≡ step
   pub answered : is_accepted receipt.answer ≡ accepted
 
 -- what a turn did to its port: a call of this step, or none, where memory was wanted or the port had strayed
-abbrev pub IsAsked : Config → Step → (before after : Seat) → Turn → Type 0
+abbrev pub IsAsked : Config → Step → (before after : PortState) → Turn → Type 0
 IsAsked config step before after Accepted = HasAsked step before after true
 IsAsked config step before after Again = HasAsked step before after false
 IsAsked config step before after Memory = after ≡ before

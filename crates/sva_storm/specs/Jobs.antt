@@ -8,8 +8,8 @@ use Rattle.sva_step.specs.declared.steps.Step.{Step}
 use Rattle.sva_step.specs.declared.steps.Step.TheVariants.{Take, Reply}
 use Rattle.sva_step.specs.declared.steps.Verdict.{Verdict}
 use Rattle.sva_step.specs.declared.steps.Verdict.TheVariants.{Success, Invalid, Failure}
-use Rattle.sva_fabric.specs.declared.receipts.Receipt.{Receipt}
-use Rattle.sva_fabric.specs.Receipts.{Seat}
+use Rattle.sva_journal.specs.declared.receipts.Receipt.{Receipt}
+use Rattle.sva_fabric.specs.Receipts.{PortState}
 use Rattle.sva_storm.specs.Ends.{HasStrayed, AreSpent}
 use Rattle.sva_storm.specs.Plays.{is_accepted}
 use Rattle.sva_storm.specs.declared.endings.Turn.{Turn}
@@ -42,7 +42,7 @@ AreJobs worker holds (receipt ∷ receipts) = IsJobStep worker holds receipt.ste
 
 -- A loop that began with no job in hand has made these calls by its port, one in each turn but perhaps the last: it took jobs, and
 -- answered each before it took the next.
-pub record HasAnswered (config : Config) (worker turns_used turns_left : ℕ) (out_of_memory : Bool) (before after : Seat) : Type 0 where
+pub record HasAnswered (config : Config) (worker turns_used turns_left : ℕ) (out_of_memory : Bool) (before after : PortState) : Type 0 where
   pub calls : List Receipt
   pub number : after.number ≡ before.number
   pub kept : after.receipts ≡ before.receipts ++ calls
@@ -64,14 +64,14 @@ verdict_after Success Again = Invalid
 verdict_after verdict _ = verdict
 
 -- a call that was answered
-pub record HasWorked (worker : ℕ) (before after : Seat) (holds held : Bool) : Type 0 where
+pub record HasWorked (worker : ℕ) (before after : PortState) (holds held : Bool) : Type 0 where
   pub receipt : Receipt
   pub kept : after ≡ record before { receipts = before.receipts ++ receipt ∷ [] }
   pub of_job : IsJobStep worker holds receipt.step
   pub holding : held ≡ holds_after holds receipt
 
 -- what a worker's turn did to its port: a call that takes a job or answers the one in hand, or none, where memory was wanted or the port had strayed
-abbrev pub IsJobTurn : Config → (worker : ℕ) → (before after : Seat) → (holds held : Bool) → Turn → Type 0
+abbrev pub IsJobTurn : Config → (worker : ℕ) → (before after : PortState) → (holds held : Bool) → Turn → Type 0
 IsJobTurn config worker before after holds held Accepted = HasWorked worker before after holds held
 IsJobTurn config worker before after holds held Again = HasWorked worker before after holds held
 IsJobTurn config worker before after holds held Memory = after ≡ before

@@ -1,15 +1,15 @@
 -- Which threads of a storm wanted memory.
 use Rattle.std.specs.Prelude.{◌||◌, Bool, false, List, [], ◌∷◌, map}
-use Rattle.sva_storm.specs.declared.seats.Seat.{Seat}
-use Rattle.sva_storm.specs.declared.seats.HostSeat.{HostSeat}
+use Rattle.sva_storm.specs.declared.thread_states.ThreadState.{ThreadState}
+use Rattle.sva_storm.specs.declared.thread_states.HostThreadState.{HostThreadState}
 
--- of each of these seats, whether its thread wanted memory
-abbrev pub lacks_of : {C D P : Type 0} → List (Seat C D P) → List Bool
-lacks_of {C} {D} {P} seats = map (λ (seat : Seat C D P). seat.out_of_memory) seats
+-- of each of these states, whether its thread wanted memory
+abbrev pub lacks_of : {C D P : Type 0} → List (ThreadState C D P) → List Bool
+lacks_of {C} {D} {P} states = map (λ (state : ThreadState C D P). state.out_of_memory) states
 
--- and of the host's seat
-abbrev pub lacks_of_hosts : {C : Type 0} → List (HostSeat C) → List Bool
-lacks_of_hosts {C} hosts = map (λ (host : HostSeat C). host.out_of_memory) hosts
+-- and of the host's state
+abbrev pub lacks_of_hosts : {C : Type 0} → List (HostThreadState C) → List Bool
+lacks_of_hosts {C} hosts = map (λ (host : HostThreadState C). host.out_of_memory) hosts
 
 -- did one of them?
 abbrev pub one_lacks : List Bool → Bool

@@ -1,9 +1,9 @@
 pub mod Ends
-pub mod Hands
+pub mod LoopTokens
 pub mod Plays
 pub mod Lines
 pub mod Jobs
 pub mod Asks
 pub mod Lacks
-pub mod Crews
+pub mod Threads
 pub mod Storms

@@ -5,14 +5,14 @@ use Rattle.sva_step.specs.declared.answers.Answer.{Answer}
 use Rattle.sva_step.specs.declared.refusals.Refusal.{Refusal}
 use Rattle.sva_step.specs.declared.steps.Step.{Step}
 use Rattle.sva_step.specs.declared.steps.Step.TheVariants.{BeginUse, EndUse}
-use Rattle.sva_fabric.specs.declared.receipts.Receipt.{Receipt}
-use Rattle.sva_fabric.specs.declared.running.StepFault.{StepFault}
-use Rattle.sva_fabric.specs.declared.running.StepFault.TheVariants as step_fault
+use Rattle.sva_journal.specs.declared.receipts.Receipt.{Receipt}
+use Rattle.sva_journal.specs.declared.running.StepFault.{StepFault}
+use Rattle.sva_journal.specs.declared.running.StepFault.TheVariants as step_fault
 use Rattle.sva_fabric.specs.declared.faults.Fault.{Fault}
 use Rattle.sva_fabric.specs.declared.faults.Fault.TheVariants as fault
-use Rattle.sva_fabric.specs.Receipts.{Seat}
+use Rattle.sva_fabric.specs.Receipts.{PortState}
 use Rattle.sva_storm.specs.Ends.{HasStrayed}
-use Rattle.sva_storm.specs.Hands.{InHand}
+use Rattle.sva_storm.specs.LoopTokens.{LoopTokens}
 use Rattle.sva_storm.specs.declared.endings.Turn.{Turn}
 use Rattle.sva_storm.specs.declared.endings.Turn.TheVariants.{Accepted, Again, Memory, Strayed}
 
@@ -73,23 +73,23 @@ IsPassed passes (line ∷ lines) = passes line ≡ true
 -- How a loop ended behind so many calls, with these lines left. Where it wanted memory, its last turn made no call, or it had no turn. Else each turn
 -- made a call, and no line or no turn is left; or no turn is left, and the line that is due is passed over; or the last turn made none since the port
 -- had strayed.
-abbrev pub IsPlayed : Config → (passes : Step → Bool) → List Step → (calls turns_used turns_left : ℕ) → (out_of_memory : Bool) → Seat → Type 0
-IsPlayed config passes lines calls used left true seat = (used ≡ calls + 1) ⊎ (used ≡ 0)
-IsPlayed config passes lines calls used left false seat =
+abbrev pub IsPlayed : Config → (passes : Step → Bool) → List Step → (calls turns_used turns_left : ℕ) → (out_of_memory : Bool) → PortState → Type 0
+IsPlayed config passes lines calls used left true state = (used ≡ calls + 1) ⊎ (used ≡ 0)
+IsPlayed config passes lines calls used left false state =
     ((used ≡ calls) × ((lines ≡ []) ⊎ (left ≡ 0)))
-    ⊎ (((left ≡ 0) × IsPassed passes lines) ⊎ ((used ≡ calls + 1) × HasStrayed config seat))
+    ⊎ (((left ≡ 0) × IsPassed passes lines) ⊎ ((used ≡ calls + 1) × HasStrayed config state))
 
 -- A loop has made these calls by its port: they are tries of the script's lines in order, and no more than the turns that were used. Of
 -- the uses that began by them and didn't end the tickets are in hand, beside those that were before.
 pub record HasPlayed (config : Config) (script : List Step) (turns_used turns_left : ℕ) (out_of_memory : Bool)
-    (before after : Seat) (hand_before hand_after : InHand) : Type 0 where
+    (before after : PortState) (tokens_before tokens_after : LoopTokens) : Type 0 where
   pub calls : List Receipt
   pub number : after.number ≡ before.number
   pub kept : after.receipts ≡ before.receipts ++ calls
   pub tries : AreTries script calls
   pub few : length calls ≤ turns_used
-  pub tickets : hand_after.tickets + ended_by calls ≡ hand_before.tickets + begun_by calls
-  pub played : IsPlayed config hand_after.passes (lines_left script calls) (length calls) turns_used turns_left out_of_memory after
+  pub tickets : tokens_after.tickets + ended_by calls ≡ tokens_before.tickets + begun_by calls
+  pub played : IsPlayed config tokens_after.passes (lines_left script calls) (length calls) turns_used turns_left out_of_memory after
 
 -- ---- One turn
 
@@ -97,13 +97,13 @@ pub record HasPlayed (config : Config) (script : List Step) (turns_used turns_le
 abbrev pub turn_by : Result Receipt StepFault → Turn
 turn_by (Ok receipt) = if is_accepted receipt.answer then Accepted else Again
 turn_by (Err step_fault.Memory) = Memory
-turn_by (Err (step_fault.Strayed place found)) = Strayed
+turn_by (Err (step_fault.Strayed strayed)) = Strayed
 
 -- what becomes of a turn whose call made, moved or spent no token
 abbrev pub turn_after_fault : Fault → Turn
 turn_after_fault (fault.Refused refusal) = Again
 turn_after_fault fault.Memory = Memory
-turn_after_fault (fault.Strayed place found) = Strayed
+turn_after_fault (fault.Strayed strayed) = Strayed
 
 -- did it want memory?
 abbrev pub is_memory : Turn → Bool
@@ -111,7 +111,7 @@ is_memory Memory = true
 is_memory _ = false
 
 -- one call more, of this step
-pub record HasCalledOnce (line : Step) (before after : Seat) (accepted : Bool) (tickets_before tickets_after : ℕ) : Type 0 where
+pub record HasCalledOnce (line : Step) (before after : PortState) (accepted : Bool) (tickets_before tickets_after : ℕ) : Type 0 where
   pub receipt : Receipt
   pub kept : after ≡ record before { receipts = before.receipts ++ receipt ∷ [] }
   pub of_line : receipt.step ≡ line
@@ -119,14 +119,14 @@ pub record HasCalledOnce (line : Step) (before after : Seat) (accepted : Bool) (
   pub tickets : tickets_after + (if accepted then ends line else 0) ≡ tickets_before + (if accepted then begins line else 0)
 
 -- what a turn that asks its line did to the port, and to the tickets in hand
-abbrev pub IsTry : Config → Step → (before after : Seat) → (tickets_before tickets_after : ℕ) → Turn → Type 0
+abbrev pub IsTry : Config → Step → (before after : PortState) → (tickets_before tickets_after : ℕ) → Turn → Type 0
 IsTry config line before after tickets_before tickets_after Accepted = HasCalledOnce line before after true tickets_before tickets_after
 IsTry config line before after tickets_before tickets_after Again = HasCalledOnce line before after false tickets_before tickets_after
 IsTry config line before after tickets_before tickets_after Memory = (after ≡ before) × (tickets_after ≡ tickets_before)
 IsTry config line before after tickets_before tickets_after Strayed = (after ≡ before) × (tickets_after ≡ tickets_before) × HasStrayed config before
 
 -- what a turn did: it passes over its line exactly where that is one that can't be asked with what is in hand, and then changes nothing
-abbrev pub IsTurn : Config → Step → (before after : Seat) → (hand_before hand_after : InHand) → Turn → Type 0
-IsTurn config line before after hand_before hand_after turn =
-    ((hand_before.passes line ≡ true) × (turn ≡ Again) × (after ≡ before) × (hand_after ≡ hand_before))
-    ⊎ ((hand_before.passes line ≡ false) × IsTry config line before after hand_before.tickets hand_after.tickets turn)
+abbrev pub IsTurn : Config → Step → (before after : PortState) → (tokens_before tokens_after : LoopTokens) → Turn → Type 0
+IsTurn config line before after tokens_before tokens_after turn =
+    ((tokens_before.passes line ≡ true) × (turn ≡ Again) × (after ≡ before) × (tokens_after ≡ tokens_before))
+    ⊎ ((tokens_before.passes line ≡ false) × IsTry config line before after tokens_before.tickets tokens_after.tickets turn)

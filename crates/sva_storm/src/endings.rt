@@ -3,11 +3,11 @@
 ghost use Rattle.std.specs.Prelude.{◌≡◌};
 ghost use Rattle.sva_storm.specs.Plays.{is_memory};
 
-use sva_fabric::{FirstBadReceipt, Tally, UseTicket};
+use sva_fabric::{FirstBadReceipt, Ledgers, UseTicket};
 use thiserror::Error;
 
 /// How a loop ended.
-pub struct Ended<C: Tally> {
+pub struct Ended<C: Ledgers> {
     /// How many turns weren't used.
     pub turns_left: u64,
     /// Want of memory ended it.
@@ -53,7 +53,7 @@ pub(crate) struct Spent {
 }
 
 impl Spent {
-    // A turn ended them, and so many are left.
+    /// A turn ended them, and so many are left.
     pub(crate) fn by(ended: Turn, turns_left: u64) -> Spent
         ensures turns { result.turns_left ≡ turns_left }
         ensures memory { result.out_of_memory ≡ is_memory ended }

@@ -2,25 +2,25 @@
 
 ghost use Rattle.std.specs.Prelude.{◌≡◌, ◌-◌, ◌<◌, ◌≤◌, List, true, length, slice_get, is_some, IfSome};
 ghost use Rattle.sva_step.specs.declared.steps.Step.TheVariants as step;
-ghost use Rattle.sva_fabric.specs.Stocks.{LeaseNumbers};
-ghost use Rattle.sva_storm.specs.Hands.{has_lease, has_leaving, hand_of_bindings};
+ghost use Rattle.sva_fabric.specs.TokenNumbers.{LeaseNumbers};
+ghost use Rattle.sva_storm.specs.LoopTokens.{has_lease, has_leaving, tokens_of_bindings};
 ghost use Rattle.sva_storm.specs.Plays.{HasPlayed, IsTry, IsTurn};
 
 use crate::endings::{Spent, Turn};
 use crate::using::{turn_after, turn_of};
 use std::sync::Wait;
 use std::thread::yield_now;
-use sva_fabric::{Fabric, Lease, Leaving, Moved, Port, Tally};
+use sva_fabric::{Fabric, Lease, Leaving, Ledgers, Moved, Port};
 use sva_step::Step;
 
 /// The bindings that the host's thread has in hand.
-pub(crate) struct Holdings<C: Tally> {
+pub(crate) struct BindingTokens<C: Ledgers> {
     pub(crate) leases: Vec<Lease<C>>,
     pub(crate) leavings: Vec<Leaving<C>>,
 }
 
-// The place of the lease of a binding.
-fn lease_of<C: Tally>(leases: &[Lease<C>], binding: u64) -> Option<usize>
+/// The place of the lease of a binding.
+fn lease_of<C: Ledgers>(leases: &[Lease<C>], binding: u64) -> Option<usize>
     ensures is_there { is_some result ≡ has_lease binding leases.now }
     ensures place { IfSome result (λ place. (place < length leases.now) × IfSome (slice_get leases.now place) (λ lease. lease.binding ≡ binding)) }
 {
@@ -32,8 +32,8 @@ fn lease_of<C: Tally>(leases: &[Lease<C>], binding: u64) -> Option<usize>
     None
 }
 
-// The place of the leaving of a binding.
-fn leaving_of<C: Tally>(leavings: &[Leaving<C>], binding: u64) -> Option<usize>
+/// The place of the leaving of a binding.
+fn leaving_of<C: Ledgers>(leavings: &[Leaving<C>], binding: u64) -> Option<usize>
     ensures is_there { is_some result ≡ has_leaving binding leavings.now }
     ensures place { IfSome result (λ place. (place < length leavings.now) × IfSome (slice_get leavings.now place) (λ leaving. leaving ≡ binding)) }
 {
@@ -45,18 +45,18 @@ fn leaving_of<C: Tally>(leavings: &[Leaving<C>], binding: u64) -> Option<usize>
     None
 }
 
-// Plays the host's lines in their order, each until it is accepted.
-pub(crate) fn host<C: Tally, R: Wait>(
+/// Plays the host's lines in their order, each until it is accepted.
+pub(crate) fn host<C: Ledgers, R: Wait>(
     fabric: &Fabric<C>,
     rt: &R,
     port: &mut Port<C>,
     script: &[Step],
     turns: u64,
-    holdings: &mut Holdings<C>,
+    tokens: &mut BindingTokens<C>,
 ) -> Spent
     ensures played { HasPlayed C.config script.now (turns - result.turns_left) result.turns_left result.out_of_memory port.old port.new
-        (hand_of_bindings holdings.old.leases.items holdings.old.leavings.items)
-        (hand_of_bindings holdings.new.leases.items holdings.new.leavings.items) }
+        (tokens_of_bindings tokens.old.leases.items tokens.old.leavings.items)
+        (tokens_of_bindings tokens.new.leases.items tokens.new.leavings.items) }
     ensures memory { result.out_of_memory ≡ true → result.turns_left < turns }
     ensures turns { result.turns_left ≤ turns }
 {
@@ -68,7 +68,7 @@ pub(crate) fn host<C: Tally, R: Wait>(
                 out_of_memory: false,
             };
         };
-        match host_turn(fabric, rt, port, line, holdings) {
+        match host_turn(fabric, rt, port, line, tokens) {
             Turn::Accepted => accepted += 1,
             Turn::Again => yield_now(),
             ended => return Spent::by(ended, turns - turn - 1),
@@ -80,22 +80,22 @@ pub(crate) fn host<C: Tally, R: Wait>(
     }
 }
 
-// One try of a line.
-fn host_turn<C: Tally, R: Wait>(
+/// One try of a line.
+fn host_turn<C: Ledgers, R: Wait>(
     fabric: &Fabric<C>,
     rt: &R,
     port: &mut Port<C>,
     line: &Step,
-    holdings: &mut Holdings<C>,
+    tokens: &mut BindingTokens<C>,
 ) -> Turn
     ensures { IsTurn C.config line.now port.old port.new
-        (hand_of_bindings holdings.old.leases.items holdings.old.leavings.items)
-        (hand_of_bindings holdings.new.leases.items holdings.new.leavings.items) result }
+        (tokens_of_bindings tokens.old.leases.items tokens.old.leavings.items)
+        (tokens_of_bindings tokens.new.leases.items tokens.new.leavings.items) result }
 {
     if line.is_plain() {
         return turn_of(fabric.step(rt, port, line));
     }
-    let Holdings { leases, leavings } = holdings;
+    let BindingTokens { leases, leavings } = tokens;
     match line {
         Step::Bind { endpoint, space } => bind(fabric, rt, port, leases, *endpoint, *space),
         Step::Unbind { binding } => unbind(fabric, rt, port, leases, leavings, *binding),
@@ -104,8 +104,8 @@ fn host_turn<C: Tally, R: Wait>(
     }
 }
 
-// One try to bind. The lease's place is reserved before the call.
-fn bind<C: Tally, R: Wait>(
+/// One try to bind. The lease's place is reserved before the call.
+fn bind<C: Ledgers, R: Wait>(
     fabric: &Fabric<C>,
     rt: &R,
     port: &mut Port<C>,
@@ -127,8 +127,8 @@ fn bind<C: Tally, R: Wait>(
     }
 }
 
-// One try to begin to take a binding back. The leaving's place is reserved before the call.
-fn unbind<C: Tally, R: Wait>(
+/// One try to begin to take a binding back. The leaving's place is reserved before the call.
+fn unbind<C: Ledgers, R: Wait>(
     fabric: &Fabric<C>,
     rt: &R,
     port: &mut Port<C>,
@@ -137,7 +137,7 @@ fn unbind<C: Tally, R: Wait>(
     binding: u64,
 ) -> Turn
     ensures { IsTurn C.config (step.Unbind binding) port.old port.new
-        (hand_of_bindings leases.old.items leavings.old.items) (hand_of_bindings leases.new.items leavings.new.items) result }
+        (tokens_of_bindings leases.old.items leavings.old.items) (tokens_of_bindings leases.new.items leavings.new.items) result }
 {
     let Some(place) = lease_of(leases.as_slice(), binding) else {
         return Turn::Again;
@@ -158,8 +158,8 @@ fn unbind<C: Tally, R: Wait>(
     }
 }
 
-// One try to move a binding on.
-fn advance<C: Tally, R: Wait>(
+/// One try to move a binding on.
+fn advance<C: Ledgers, R: Wait>(
     fabric: &Fabric<C>,
     rt: &R,
     port: &mut Port<C>,
@@ -167,7 +167,7 @@ fn advance<C: Tally, R: Wait>(
     binding: u64,
 ) -> Turn
     ensures { (leases : List LeaseNumbers) → IsTurn C.config (step.Advance binding) port.old port.new
-        (hand_of_bindings leases leavings.old.items) (hand_of_bindings leases leavings.new.items) result }
+        (tokens_of_bindings leases leavings.old.items) (tokens_of_bindings leases leavings.new.items) result }
 {
     let Some(place) = leaving_of(leavings.as_slice(), binding) else {
         return Turn::Again;

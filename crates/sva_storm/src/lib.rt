@@ -2,23 +2,23 @@
 //! audit of the world's journal ends.
 #![tactic(auto)]
 
-mod crew;
+mod callbacks;
 mod endings;
-mod gates;
-mod hands;
 mod hosting;
 mod lines;
 mod linking;
 mod paging;
-mod seats;
 mod storming;
+mod thread_states;
+mod threads;
+mod tickets;
 mod using;
 
+pub use callbacks::{Device, Pager};
 pub use endings::{Ended, StormFault};
-pub use gates::{Device, Pager};
 pub use paging::fault_loop;
 pub use storming::storm;
 pub use sva_fabric::{
-    Audit, Blanks, Fabric, Lease, Port, Ports, Tally, Tokens, UseTicket, ports_of,
+    Audit, Blanks, Fabric, Lease, Ledgers, Port, Ports, Tokens, UseTicket, ports_of,
 };
 pub use using::endpoint_loop;

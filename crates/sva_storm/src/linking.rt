@@ -8,19 +8,19 @@ use crate::endings::{Spent, Turn};
 use crate::using::turn_of;
 use std::sync::Wait;
 use std::thread::yield_now;
-use sva_fabric::{Fabric, Port, Tally};
+use sva_fabric::{Fabric, Ledgers, Port};
 use sva_step::Step;
 
-// Asks a step that needs no token once.
-fn ask<C: Tally, R: Wait>(fabric: &Fabric<C>, rt: &R, port: &mut Port<C>, step: &Step) -> Turn
+/// Asks a step that needs no token once.
+fn ask<C: Ledgers, R: Wait>(fabric: &Fabric<C>, rt: &R, port: &mut Port<C>, step: &Step) -> Turn
     requires plain { is_plain step.now ≡ true }
     ensures asked { IsAsked C.config step.now port.old port.new result }
 {
     turn_of(fabric.step(rt, port, step))
 }
 
-// Delivers the messages by their numbers, from 0 on, each tried until it is accepted.
-pub(crate) fn link<C: Tally, R: Wait>(
+/// Delivers the messages by their numbers, from 0 on, each tried until it is accepted.
+pub(crate) fn link<C: Ledgers, R: Wait>(
     fabric: &Fabric<C>,
     rt: &R,
     port: &mut Port<C>,
@@ -43,7 +43,7 @@ pub(crate) fn link<C: Tally, R: Wait>(
     }
 }
 
-// What the service does in a turn: it pumps and serves each endpoint in turn. A world has one endpoint at least.
+/// What the service does in a turn: it pumps and serves each endpoint in turn. A world has one endpoint at least.
 fn service_step(turn: u64, endpoints: u64) -> Step
     ensures plain { is_plain result ≡ true }
     ensures step { result ≡ service_at turn endpoints }
@@ -56,8 +56,8 @@ fn service_step(turn: u64, endpoints: u64) -> Step
     }
 }
 
-// Pumps and serves each of the endpoints in turn.
-pub(crate) fn service<C: Tally, R: Wait>(
+/// Pumps and serves each of the endpoints in turn.
+pub(crate) fn service<C: Ledgers, R: Wait>(
     fabric: &Fabric<C>,
     rt: &R,
     port: &mut Port<C>,

@@ -3,19 +3,19 @@
 ghost use Rattle.std.specs.Prelude.{◌≡◌, ◌-◌, ◌≤◌, false, vec_len, is_some, IfSome};
 ghost use Rattle.sva_storm.specs.Jobs.{HasAnswered, IsJobTurn, is_left, verdict_after};
 
+use crate::callbacks::Pager;
 use crate::endings::{Ended, Spent, Turn};
-use crate::gates::Pager;
 use crate::using::turn_of;
 use std::alloc::Global;
 use std::sync::Wait;
 use std::thread::yield_now;
-use sva_fabric::{Fabric, Port, StepFault, Tally};
+use sva_fabric::{Fabric, Ledgers, Port, StepFault};
 use sva_step::{Answer, Step, Verdict};
 
 /// Takes jobs as a worker, has the pager decide of each, and answers so, in as many turns as are given: a taking and an answer are a turn
 /// each. A success that is refused is answered `Invalid`; any other refused call is tried again. Want of memory ends the loop, and so
 /// does a port whose last receipt doesn't stand. A refused call lets other threads run. There are no tickets.
-pub fn fault_loop<C: Tally, R: Wait, P: Pager>(
+pub fn fault_loop<C: Ledgers, R: Wait, P: Pager>(
     fabric: &Fabric<C>,
     rt: &R,
     alloc: Global,
@@ -39,8 +39,8 @@ pub fn fault_loop<C: Tally, R: Wait, P: Pager>(
     }
 }
 
-// Takes and answers jobs.
-pub(crate) fn answer_jobs<C: Tally, R: Wait, P: Pager>(
+/// Takes and answers jobs.
+pub(crate) fn answer_jobs<C: Ledgers, R: Wait, P: Pager>(
     fabric: &Fabric<C>,
     rt: &R,
     port: &mut Port<C>,
@@ -65,8 +65,8 @@ pub(crate) fn answer_jobs<C: Tally, R: Wait, P: Pager>(
     }
 }
 
-// One turn: a job is taken, or the one in hand is answered as was decided.
-fn take_turn<C: Tally, R: Wait, P: Pager>(
+/// One turn: a job is taken, or the one in hand is answered as was decided.
+fn take_turn<C: Ledgers, R: Wait, P: Pager>(
     fabric: &Fabric<C>,
     rt: &R,
     port: &mut Port<C>,
@@ -84,8 +84,8 @@ fn take_turn<C: Tally, R: Wait, P: Pager>(
     ended
 }
 
-// One try to take a job, of which the pager decides.
-fn take_job<C: Tally, R: Wait, P: Pager>(
+/// One try to take a job, of which the pager decides.
+fn take_job<C: Ledgers, R: Wait, P: Pager>(
     fabric: &Fabric<C>,
     rt: &R,
     port: &mut Port<C>,
@@ -99,7 +99,7 @@ fn take_job<C: Tally, R: Wait, P: Pager>(
     let receipt = match fabric.step(rt, port, &Step::Take { worker }) {
         Ok(receipt) => receipt,
         Err(StepFault::Memory) => return Turn::Memory,
-        Err(StepFault::Strayed { .. }) => return Turn::Strayed,
+        Err(StepFault::Strayed(_)) => return Turn::Strayed,
     };
     let Ok(
         Answer::JobTaken {
@@ -115,7 +115,7 @@ fn take_job<C: Tally, R: Wait, P: Pager>(
     Turn::Accepted
 }
 
-// What is left to be answered after an answer's turn. A success that was refused is `Invalid` at the next try.
+/// What is left to be answered after an answer's turn. A success that was refused is `Invalid` at the next try.
 fn left_to_answer(verdict: Verdict, ended: Turn) -> Option<Verdict>
     ensures left { is_some result ≡ is_left ended }
     ensures invalid { IfSome result (λ v. v ≡ verdict_after verdict ended) }

@@ -2,19 +2,19 @@
 
 ghost use Rattle.std.specs.Prelude.{◌≡◌, ◌≢◌, ◌↔◌, ◌⊎◌, ◌+◌, vec_len, true, false, IfOk, IfErr, Ok, Err};
 ghost use Rattle.sva_step.specs.Limits.{Fits};
-ghost use Rattle.sva_storm.specs.Crews.{is_lacking, seat_count};
+ghost use Rattle.sva_storm.specs.Threads.{is_lacking, port_count};
 ghost use Rattle.sva_storm.specs.Storms.{HasFinished, IsFound};
 ghost use Rattle.sva_storm.specs.declared.endings.StormFault.TheVariants as storm_fault;
 
-use crate::crew::{Crew, cast_of};
+use crate::callbacks::{Device, Pager};
 use crate::endings::StormFault;
-use crate::gates::{Device, Pager};
-use crate::seats::Role;
+use crate::thread_states::Role;
+use crate::threads::{ThreadStates, roles_of};
 use std::alloc::Global;
 use std::marker::Brand;
 use std::sync::Wait;
 use std::thread::Threads;
-use sva_fabric::{Audit, Blanks, Fabric, Tally};
+use sva_fabric::{Audit, Blanks, Fabric, Ledgers};
 use sva_grammar::Scenario;
 use sva_step::Step;
 
@@ -40,16 +40,16 @@ pub fn storm<R: Threads + Wait + Sync, D: Device + Send + Drop, P: Pager + Send 
     if !scenario.config.fits() {
         return Err(StormFault::Config);
     }
-    let Ok((script, roles)) = cast_of(alloc, scenario.steps.as_slice(), devices, pagers) else {
+    let Ok((script, roles)) = roles_of(alloc, scenario.steps.as_slice(), devices, pagers) else {
         return Err(StormFault::Memory);
     };
     let blanks = Blanks::new(&scenario.config);
     play_all::<Brand, R, D, P>(rt, alloc, scenario, turns, script, roles, blanks)
 }
 
-// The storm on the fabric whose calls are counted by this blank.
+/// The storm on the fabric whose calls are counted by this blank.
 fn play_all<
-    C: Tally + Send + Sync,
+    C: Ledgers + Send + Sync,
     R: Threads + Wait + Sync,
     D: Device + Send + Drop,
     P: Pager + Send + Drop,
@@ -77,30 +77,30 @@ fn play_all<
     let Ok((fabric, ports)) = Fabric::<C>::open(alloc, scenario.config, blanks) else {
         return Err(StormFault::Memory);
     };
-    let Ok(mut crew) = Crew::new(alloc, ports, script, roles, turns) else {
+    let Ok(mut states) = ThreadStates::new(alloc, ports, script, roles, turns) else {
         return Err(StormFault::Memory);
     };
-    let started = crew.run(rt, &fabric);
-    settle(fabric, crew, started)
+    let started = states.run(rt, &fabric);
+    settle(fabric, states, started)
 }
 
-// Ends a storm: its seats are taken apart, and their receipts and tokens audited. The audit is told where each thread was started, and
-// none wanted memory.
-fn settle<C: Tally, D: Device + Drop, P: Pager + Drop>(
+/// Ends a storm: its states are taken apart, and their receipts and tokens audited. The audit is told where each thread was started, and
+/// none wanted memory.
+fn settle<C: Ledgers, D: Device + Drop, P: Pager + Drop>(
     fabric: Fabric<C>,
-    crew: Crew<C, D, P>,
+    states: ThreadStates<C, D, P>,
     started: bool,
 ) -> Result<Audit, StormFault>
     requires parts { C.parts ≡ 3 + C.config.endpoints + C.config.workers }
-    requires seats { seat_count crew ≡ 3 + C.config.endpoints + C.config.workers }
+    requires states { port_count states ≡ 3 + C.config.endpoints + C.config.workers }
     ensures config { result ≢ Err storm_fault.Config }
     ensures audit { IfOk result (λ audit. HasFinished C.config (Ok audit)) }
     ensures bad { IfErr result (λ fault. IsFound C.config fault) }
-    ensures lacked { is_lacking crew ≡ true → result ≡ Err storm_fault.Memory }
+    ensures lacked { is_lacking states ≡ true → result ≡ Err storm_fault.Memory }
     ensures started { started ≡ false → result ≡ Err storm_fault.Memory }
-    ensures memory { result ≡ Err storm_fault.Memory → (started ≡ false) ⊎ (is_lacking crew ≡ true) }
+    ensures memory { result ≡ Err storm_fault.Memory → (started ≡ false) ⊎ (is_lacking states ≡ true) }
 {
-    let (ports, tokens, lacked) = crew.rise();
+    let (ports, tokens, lacked) = states.into_parts();
     let audit = fabric.finish(ports, tokens);
     if !started | lacked {
         return Err(StormFault::Memory);

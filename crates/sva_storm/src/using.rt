@@ -2,16 +2,16 @@
 
 ghost use Rattle.std.specs.Prelude.{◌≡◌, ◌-◌, ◌≤◌, [], vec_len, vec_capacity};
 ghost use Rattle.sva_step.specs.declared.steps.Step.TheVariants as step;
-ghost use Rattle.sva_storm.specs.Hands.{hand_of_tickets};
+ghost use Rattle.sva_storm.specs.LoopTokens.{tokens_of_tickets};
 ghost use Rattle.sva_storm.specs.Plays.{HasPlayed, IsTurn, turn_by, turn_after_fault};
 
+use crate::callbacks::Device;
 use crate::endings::{Ended, Spent, Turn};
-use crate::gates::Device;
-use crate::hands::{MOST_TICKETS, place_of};
+use crate::tickets::{MOST_TICKETS, place_of};
 use std::alloc::Global;
 use std::sync::Wait;
 use std::thread::yield_now;
-use sva_fabric::{Fabric, Fault, Port, Receipt, StepFault, Tally, UseTicket};
+use sva_fabric::{Fabric, Fault, Ledgers, Port, Receipt, StepFault, UseTicket};
 use sva_step::Step;
 
 /// Plays the lines of a script in their order, each until it is accepted, in as many turns as are given. A use that begins is touched by
@@ -19,7 +19,7 @@ use sva_step::Step;
 /// hand the line of a use is passed over in a turn without a call, and so is a line whose ticket isn't in hand, or that binds, unbinds or advances:
 /// that changes nothing, so it is passed over until no turn is left. Want of memory ends the loop, and so does a port whose last receipt doesn't stand.
 /// A turn in which nothing was accepted lets other threads run.
-pub fn endpoint_loop<C: Tally, R: Wait, D: Device>(
+pub fn endpoint_loop<C: Ledgers, R: Wait, D: Device>(
     fabric: &Fabric<C>,
     rt: &R,
     alloc: Global,
@@ -29,7 +29,7 @@ pub fn endpoint_loop<C: Tally, R: Wait, D: Device>(
     turns: u64,
 ) -> Ended<C>
     ensures played { HasPlayed C.config script.now (turns - result.turns_left) result.turns_left result.out_of_memory port.old port.new
-        (hand_of_tickets []) (hand_of_tickets result.tickets.items) }
+        (tokens_of_tickets []) (tokens_of_tickets result.tickets.items) }
     ensures turns { result.turns_left ≤ turns }
     ensures few { vec_len result.tickets ≤ 16 }
 {
@@ -45,8 +45,8 @@ pub fn endpoint_loop<C: Tally, R: Wait, D: Device>(
     }
 }
 
-// Plays the lines with the tickets in hand.
-pub(crate) fn play<C: Tally, R: Wait, D: Device>(
+/// Plays the lines with the tickets in hand.
+pub(crate) fn play<C: Ledgers, R: Wait, D: Device>(
     fabric: &Fabric<C>,
     rt: &R,
     port: &mut Port<C>,
@@ -57,7 +57,7 @@ pub(crate) fn play<C: Tally, R: Wait, D: Device>(
 ) -> Spent
     requires { vec_len tickets.old ≤ 16 }
     ensures played { HasPlayed C.config script.now (turns - result.turns_left) result.turns_left result.out_of_memory port.old port.new
-        (hand_of_tickets tickets.old.items) (hand_of_tickets tickets.new.items) }
+        (tokens_of_tickets tickets.old.items) (tokens_of_tickets tickets.new.items) }
     ensures turns { result.turns_left ≤ turns }
     ensures few { vec_len tickets.new ≤ 16 }
 {
@@ -87,8 +87,8 @@ pub(crate) fn play<C: Tally, R: Wait, D: Device>(
     }
 }
 
-// One try of a line.
-fn take_turn<C: Tally, R: Wait, D: Device>(
+/// One try of a line.
+fn take_turn<C: Ledgers, R: Wait, D: Device>(
     fabric: &Fabric<C>,
     rt: &R,
     port: &mut Port<C>,
@@ -99,7 +99,7 @@ fn take_turn<C: Tally, R: Wait, D: Device>(
     requires few { vec_len tickets.old ≤ 16 }
     requires room { 16 ≤ vec_capacity tickets.old }
     ensures turn { IsTurn C.config line.now port.old port.new
-        (hand_of_tickets tickets.old.items) (hand_of_tickets tickets.new.items) result }
+        (tokens_of_tickets tickets.old.items) (tokens_of_tickets tickets.new.items) result }
     ensures few { vec_len tickets.new ≤ 16 }
     ensures room { vec_capacity tickets.new ≡ vec_capacity tickets.old }
 {
@@ -120,8 +120,8 @@ fn take_turn<C: Tally, R: Wait, D: Device>(
     }
 }
 
-// One try to begin a use, which the device touches then.
-fn begin_use<C: Tally, R: Wait, D: Device>(
+/// One try to begin a use, which the device touches then.
+fn begin_use<C: Ledgers, R: Wait, D: Device>(
     fabric: &Fabric<C>,
     rt: &R,
     port: &mut Port<C>,
@@ -135,7 +135,7 @@ fn begin_use<C: Tally, R: Wait, D: Device>(
     requires few { vec_len tickets.old ≤ 16 }
     requires room { 16 ≤ vec_capacity tickets.old }
     ensures turn { IsTurn C.config (step.BeginUse endpoint pasid page write) port.old port.new
-        (hand_of_tickets tickets.old.items) (hand_of_tickets tickets.new.items) result }
+        (tokens_of_tickets tickets.old.items) (tokens_of_tickets tickets.new.items) result }
     ensures few { vec_len tickets.new ≤ 16 }
     ensures room { vec_capacity tickets.new ≡ vec_capacity tickets.old }
 {
@@ -152,8 +152,8 @@ fn begin_use<C: Tally, R: Wait, D: Device>(
     }
 }
 
-// One try to end the use of a slot.
-fn end_use<C: Tally, R: Wait>(
+/// One try to end the use of a slot.
+fn end_use<C: Ledgers, R: Wait>(
     fabric: &Fabric<C>,
     rt: &R,
     port: &mut Port<C>,
@@ -162,7 +162,7 @@ fn end_use<C: Tally, R: Wait>(
     slot: u64,
 ) -> Turn
     ensures turn { IsTurn C.config (step.EndUse endpoint slot) port.old port.new
-        (hand_of_tickets tickets.old.items) (hand_of_tickets tickets.new.items) result }
+        (tokens_of_tickets tickets.old.items) (tokens_of_tickets tickets.new.items) result }
     ensures few { vec_len tickets.new ≤ vec_len tickets.old }
     ensures room { vec_capacity tickets.new ≡ vec_capacity tickets.old }
 {
@@ -179,7 +179,7 @@ fn end_use<C: Tally, R: Wait>(
     }
 }
 
-// What becomes of a turn whose plain step was asked.
+/// What becomes of a turn whose plain step was asked.
 pub(crate) fn turn_of(asked: Result<Receipt, StepFault>) -> Turn
     ensures { result ≡ turn_by asked }
 {
@@ -189,17 +189,17 @@ pub(crate) fn turn_of(asked: Result<Receipt, StepFault>) -> Turn
             Err(_) => Turn::Again,
         },
         Err(StepFault::Memory) => Turn::Memory,
-        Err(StepFault::Strayed { .. }) => Turn::Strayed,
+        Err(StepFault::Strayed(_)) => Turn::Strayed,
     }
 }
 
-// What becomes of a turn whose call made, moved or spent no token.
+/// What becomes of a turn whose call made, moved or spent no token.
 pub(crate) fn turn_after(fault: &Fault) -> Turn
     ensures { result ≡ turn_after_fault fault.now }
 {
     match fault {
         Fault::Refused { .. } => Turn::Again,
         Fault::Memory => Turn::Memory,
-        Fault::Strayed { .. } => Turn::Strayed,
+        Fault::Strayed(_) => Turn::Strayed,
     }
 }

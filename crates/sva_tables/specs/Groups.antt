@@ -1,11 +1,12 @@
 -- The groups of page requests of an endpoint (PCI Express Base 5.0, section 10.4).
 use Rattle.std.specs.Prelude.{◌≡◌, ℕ, ◌+◌, ◌<◌, [], ◌∷◌, Bool, true, false, List, replicate, slice_index_or, sum_by, ◌==◌, if◌then◌else◌}
+use Rattle.sva_step.specs.Limits
 use Rattle.sva_tables.specs.declared.groups.GroupPlace.{GroupPlace}
 use Rattle.sva_tables.specs.declared.groups.GroupPlace.TheVariants.{Free, Collecting, Out, Stale}
 
 -- no index has a group. Of the 9 bits of a Page Request Group Index 0 to 31 are used (a limit of this project)
 abbrev pub no_groups : List GroupPlace
-no_groups = replicate 32 Free
+no_groups = replicate Limits.groups Free
 
 -- an index from 32 on is never taken
 abbrev pub group_at : List GroupPlace → ℕ → GroupPlace

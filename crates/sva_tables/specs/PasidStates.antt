@@ -1,11 +1,12 @@
 -- What an endpoint does under each PASID.
-use Rattle.std.specs.Prelude.{ℕ, Bool, true, false, List, replicate, slice_index_or, slice_set, nat_lt, if◌then◌else◌}
+use Rattle.std.specs.Prelude.{ℕ, suc, Bool, true, false, List, replicate, slice_index_or, slice_set, nat_lt, if◌then◌else◌}
+use Rattle.sva_step.specs.Limits
 use Rattle.sva_tables.specs.declared.pasid_states.PasidState.{PasidState}
 use Rattle.sva_tables.specs.declared.pasid_states.PasidState.TheVariants.{Off, On, Stopping}
 
 -- the place P of the list is that of PASID P; place 0 stays off
 abbrev pub all_off : List PasidState
-all_off = replicate 33 Off
+all_off = replicate (suc Limits.pasids) Off
 
 -- what the endpoint does under a PASID; from 33 on each is off
 abbrev pub state_of : List PasidState → ℕ → PasidState

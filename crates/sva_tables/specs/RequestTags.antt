@@ -1,5 +1,6 @@
 -- The tags of translation requests (PCI Express Base 5.0, section 10.2).
 use Rattle.std.specs.Prelude.{ℕ, Bool, true, false, List, replicate, if◌then◌else◌, slice_index_or, ◌==◌}
+use Rattle.sva_step.specs.Limits
 use Rattle.sva_cache.specs.declared.coverage.Invalidation.{Invalidation}
 use Rattle.sva_tables.specs.declared.request_tags.RequestTag.{RequestTag}
 use Rattle.sva_tables.specs.declared.request_tags.RequestTag.TheVariants.{Free, Out, Doomed}
@@ -11,7 +12,7 @@ request_at tags tag = slice_index_or tags tag Free
 
 -- no request is out: there are 32 request tags (a limit of this project)
 abbrev pub no_requests : List RequestTag
-no_requests = replicate 32 Free
+no_requests = replicate Limits.request_tags Free
 
 -- may a new request bear the tag? A doomed one bears its own still, until its completion comes
 abbrev pub is_free : RequestTag → Bool

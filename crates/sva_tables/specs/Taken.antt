@@ -1,12 +1,13 @@
 -- The invalidations that an endpoint has taken and not yet completed (PCI Express Base 5.0, section 10.3).
 use Rattle.std.specs.Prelude.{ℕ, Bool, false, List, map, replicate, slice_set, Option, Some, None, is_some, ◌&&◌, ◌||◌, not, if◌then◌else◌}
 use Rattle.std.specs.List.{list_any, list_all, enumerate_from}
+use Rattle.sva_step.specs.Limits
 use Rattle.sva_tables.specs.declared.taken_table.Taken.{Taken}
 use Rattle.sva_itags.specs.Vector.{is_named}
 
 -- the place T of the list is that of ITag T
 abbrev pub none_taken : List (Option Taken)
-none_taken = replicate 32 None
+none_taken = replicate Limits.itags None
 
 -- each ITag that is named has an invalidation
 abbrev pub are_pending : ℕ → List (Option Taken) → Bool

@@ -1,5 +1,6 @@
 -- The slots of uses of cached translations.
 use Rattle.std.specs.Prelude.{ℕ, Bool, true, false, List, replicate, slice_index_or, ◌==◌}
+use Rattle.sva_step.specs.Limits
 use Rattle.sva_cache.specs.declared.coverage.Invalidation.{Invalidation}
 use Rattle.sva_tables.specs.declared.use_slots.UseSlot.{UseSlot}
 use Rattle.sva_tables.specs.declared.use_slots.UseSlot.TheVariants.{Free, Running, Dead}
@@ -7,7 +8,7 @@ use Rattle.sva_cache.specs.Coverage.{covers}
 
 -- no use has a slot: there are 16 of them (a limit of this project)
 abbrev pub no_uses : List UseSlot
-no_uses = replicate 16 Free
+no_uses = replicate Limits.use_slots Free
 
 -- a slot from 16 on is never taken
 abbrev pub slot_at : List UseSlot → ℕ → UseSlot

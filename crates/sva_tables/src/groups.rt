@@ -1,10 +1,12 @@
+//! The page request groups of an endpoint, by their indexes.
+
 ghost use Rattle.std.specs.Prelude.{◌≡◌, ◌<◌, ◌≤◌, IfSome, Some, None, if◌then◌else◌, map, position, slice_set, length};
 ghost use Rattle.std.specs.List.{list_any};
 ghost use Rattle.sva_tables.specs.Groups.{stale_of};
 
-use crate::limits::GROUPS;
 use arrayvec::ArrayVec;
 use std::marker::Model;
+use sva_step::GROUPS;
 
 /// The place of one Page Request Group Index: 0 to 31 of its nine bits (PCI Express Base 5.0, section 10.4.1).
 #[derive(Clone, Copy, Debug, PartialEq, Eq)]
@@ -236,7 +238,7 @@ impl GroupTable {
     }
 }
 
-// Makes each of these that is a group of this PASID that is out stale.
+/// Makes each of these that is a group of this PASID that is out stale.
 fn make_each_stale(places: &mut [GroupPlace], pasid: u32)
     ensures { places.new ≡ map (stale_of pasid) places.old }
 {

@@ -1,10 +1,9 @@
-// The tables that an endpoint with address translation services, page requests and PASIDs keeps beside its cache, each of
-// a fixed size: the states of its PASIDs, the translation requests that are out, its uses, the invalidations that it has
-// taken and its groups of page requests. No call takes memory.
+//! The tables that an endpoint with address translation services, page requests and PASIDs keeps beside its cache, each of
+//! a fixed size: the states of its PASIDs, the translation requests that are out, its uses, the invalidations that it has
+//! taken and its groups of page requests. No call takes memory.
 #![tactic(auto)]
 
 mod groups;
-mod limits;
 mod pasid_states;
 mod request_tags;
 mod taken_table;

@@ -1,8 +1,10 @@
+//! What an endpoint does under each PASID.
+
 ghost use Rattle.std.specs.Prelude.{◌≡◌, false};
 
-use crate::limits::PASID_PLACES;
 use arrayvec::ArrayVec;
 use std::marker::Model;
+use sva_step::PASID_PLACES;
 
 /// What an endpoint does under a PASID. How a device is told to start or stop is its own affair (PCI Express Base 5.0,
 /// section 6.20): here by the messages Start and Stop (this project's own rule).

@@ -1,11 +1,13 @@
+//! The tags of the translation requests that are out.
+
 ghost use Rattle.std.specs.Prelude.{◌≡◌, ◌<◌, IfSome, List, map, position, slice_set};
 ghost use Rattle.std.specs.List.{list_any};
 ghost use Rattle.sva_tables.specs.RequestTags.{doomed_by};
 
-use crate::limits::REQUEST_TAGS;
 use arrayvec::ArrayVec;
 use std::marker::Model;
 use sva_cache::Invalidation;
+use sva_step::REQUEST_TAGS;
 
 /// The place of one tag of a translation request (PCI Express Base 5.0, section 10.2.2).
 #[derive(Clone, Copy, Debug, PartialEq, Eq)]
@@ -142,7 +144,7 @@ impl RequestTags {
     }
 }
 
-// Dooms each of these that is out and covered.
+/// Dooms each of these that is out and covered.
 fn doom_each(places: &mut [RequestTag], invalidation: &Invalidation)
     ensures { places.new ≡ map (doomed_by invalidation.now) places.old }
 {

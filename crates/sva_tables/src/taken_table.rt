@@ -1,12 +1,14 @@
+//! The invalidations that an endpoint took and hasn't completed yet, by their ITags.
+
 ghost use Rattle.std.specs.Prelude.{◌≡◌, ◌<◌, Some, None, if◌then◌else◌, map, slice_set};
 ghost use Rattle.sva_itags.specs.Vector.{is_named};
 ghost use Rattle.sva_tables.specs.Taken.{without_note};
 
-use crate::limits::{ITAGS, USE_SLOTS};
 use arrayvec::ArrayVec;
 use std::marker::Model;
 use sva_cache::Invalidation;
 use sva_itags::is_tag_named;
+use sva_step::{ITAGS, USE_SLOTS};
 
 /// An invalidation that was taken and isn't completed yet (PCI Express Base 5.0, section 10.3).
 #[derive(Clone, Copy, Debug, PartialEq, Eq)]
@@ -38,7 +40,7 @@ impl Taken {
     }
 }
 
-// What is left under this ITag where those that the vector names are completed.
+/// What is left under this ITag where those that the vector names are completed.
 fn without_named(place: Option<Taken>, vector: u32, itag: usize) -> Option<Taken>
     requires { itag < 32 }
     ensures { result ≡ (if is_named vector itag then None else place) }
@@ -50,7 +52,7 @@ fn without_named(place: Option<Taken>, vector: u32, itag: usize) -> Option<Taken
     }
 }
 
-// What is left in this place where the use of this slot is noted no more.
+/// What is left in this place where the use of this slot is noted no more.
 fn without_note(place: Option<Taken>, slot: u64) -> Option<Taken>
     ensures { result ≡ without_note slot place }
 {
@@ -137,7 +139,7 @@ impl TakenTable {
     }
 }
 
-// Forgets the use of this slot in each of these.
+/// Forgets the use of this slot in each of these.
 fn forget_in_each(places: &mut [Option<Taken>], slot: u64)
     ensures { places.new ≡ map (without_note slot) places.old }
 {

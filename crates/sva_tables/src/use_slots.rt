@@ -1,11 +1,13 @@
+//! The slots of the uses of cached translations.
+
 ghost use Rattle.std.specs.Prelude.{◌≡◌, ◌<◌, IfSome, map, position, slice_set, length};
 ghost use Rattle.std.specs.List.{list_any};
 ghost use Rattle.sva_tables.specs.UseSlots.{runs_covered, cut_off};
 
-use crate::limits::USE_SLOTS;
 use arrayvec::ArrayVec;
 use std::marker::Model;
 use sva_cache::Invalidation;
+use sva_step::USE_SLOTS;
 
 /// A use of a cached translation: translated requests (AT field 10b; PCI Express Base 5.0, section 10.2.1) to one frame.
 #[derive(Clone, Copy, Debug, PartialEq, Eq)]
@@ -165,7 +167,7 @@ impl UseSlots {
     }
 }
 
-// Tells for each of these slots whether a use runs in it that the invalidation covers.
+/// Tells for each of these slots whether a use runs in it that the invalidation covers.
 fn covered_in(slots: &[UseSlot], invalidation: &Invalidation) -> [bool; USE_SLOTS]
     requires { length slots.now ≡ 16 }
     ensures { result ≡ map (runs_covered invalidation.now) slots.now }
@@ -177,7 +179,7 @@ fn covered_in(slots: &[UseSlot], invalidation: &Invalidation) -> [bool; USE_SLOT
     covered
 }
 
-// Ends each running use of these.
+/// Ends each running use of these.
 fn cut_off_each(slots: &mut [UseSlot])
     ensures { slots.new ≡ map cut_off slots.old }
 {

@@ -46,7 +46,7 @@ impl Live {
         Lost { binding, pasid }
     }
 
-    // The binding is as if it had not begun: nothing was sent of it.
+    /// The binding is as if it had not begun: nothing was sent of it.
     pub(crate) fn take_back(self) {
         let Live {
             binding: _,

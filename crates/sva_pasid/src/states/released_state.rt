@@ -32,7 +32,7 @@ impl Released {
         self.pasid
     }
 
-    // Called where the place of the binding goes.
+    /// Called where the place of the binding goes.
     pub(crate) fn spend(self) {
         let Released {
             binding: _,

@@ -1,5 +1,6 @@
 use Rattle.sva_grammar.proofs.NameLemmas.{lines_are_named}
-use Rattle.sva_grammar.proofs.LawLemmas.{lines_are_counted, numbers_are_decimal, scripts_are_read}
+use Rattle.sva_grammar.proofs.LawLemmas.{numbers_are_decimal, scripts_are_read}
+use Rattle.sva_grammar.proofs.LineLemmas.{lines_are_counted}
 use Rattle.sva_grammar.proofs.VectorLemmas.{vectors_are_hexadecimal}
 use Rattle.sva_grammar.proofs.grammar.laws.Goals as goal
 

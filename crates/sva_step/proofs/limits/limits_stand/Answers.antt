@@ -13,6 +13,7 @@ returns c = record {
   pages_stand = refl;
   order_stands = refl;
   pasids_stand = refl;
+  pasid_places_stand = refl;
   queue_places_stand = refl;
   itags_stand = refl;
   completions_stand = refl;

@@ -1,6 +1,6 @@
 use Rattle.std.proofs.Common.{◌≡◌, ◌∙◌, ℕ, List, rules, not, inr, ap, sym, subst, refl}
 use Rattle.sva_step.specs.declared.steps.Step.TheVariants.{Advance}
-use Rattle.sva_storm.specs.Hands.{has_leaving}
+use Rattle.sva_storm.specs.LoopTokens.{has_leaving}
 use Rattle.sva_storm.specs.Plays.{IsTry}
 use Rattle.sva_storm.proofs.Turns.{accepted_once, fault_try, taken_is}
 use Rattle.sva_storm.proofs.hosting.advance.Goals as goal
@@ -31,7 +31,7 @@ returns-in-Err g c =
     c.swap_remove-leaving.ensures.value (search rules) in
     λ leases. inr (
       ap not (sym (c.in-Some.ensures.is_there ∙ ap (λ (l : List ℕ). has_leaving c.args.binding l) c.as_slice.ensures.value)),
-      subst (λ turn. IsTry g.C.Tally.config (Advance c.args.binding) c.args.port.now c.advance.new.port 0 0 turn) (sym c.turn_after.ensures)
-          (fault_try g.C.Tally.config c.args.port.now c.advance.new.port (Advance c.swap_remove-leaving.result) (Advance c.args.binding)
+      subst (λ turn. IsTry g.C.Ledgers.config (Advance c.args.binding) c.args.port.now c.advance.new.port 0 0 turn) (sym c.turn_after.ensures)
+          (fault_try g.C.Ledgers.config c.args.port.now c.advance.new.port (Advance c.swap_remove-leaving.result) (Advance c.args.binding)
           c.in-Err.fault 0 0 (search rules) (ap Advance same) refl),
     )

@@ -9,6 +9,6 @@ returns-in-Ok g c = accepted_once _ _ _ _ _ 0 0 _ c.in-Ok.ensures.bound refl ref
 
 pub returns-in-Err : goal.returns-in-Err
 returns-in-Err g c =
-    subst (λ turn. IsTry g.C.Tally.config (Bind c.args.endpoint c.args.space) c.args.port.now c.bind.new.port 0 0 turn) (sym c.turn_after.ensures)
-    (fault_try g.C.Tally.config c.args.port.now c.bind.new.port (Bind c.args.endpoint c.args.space) (Bind c.args.endpoint c.args.space)
+    subst (λ turn. IsTry g.C.Ledgers.config (Bind c.args.endpoint c.args.space) c.args.port.now c.bind.new.port 0 0 turn) (sym c.turn_after.ensures)
+    (fault_try g.C.Ledgers.config c.args.port.now c.bind.new.port (Bind c.args.endpoint c.args.space) (Bind c.args.endpoint c.args.space)
     c.in-Err.fault 0 0 c.in-Err.ensures.fault refl refl)

@@ -1,5 +1,5 @@
 use Rattle.std.proofs.Common.{◌≡◌, drop}
-use Rattle.sva_storm.specs.Hands.{has_lease}
+use Rattle.sva_storm.specs.LoopTokens.{has_lease}
 use Rattle.sva_storm.proofs.hosting.lease_of.Given as goal
 
 -- the leases so far are others

@@ -1,5 +1,5 @@
 use Rattle.std.proofs.Common.{◌≡◌, drop}
-use Rattle.sva_storm.specs.Hands.{has_leaving}
+use Rattle.sva_storm.specs.LoopTokens.{has_leaving}
 use Rattle.sva_storm.proofs.hosting.leaving_of.Given as goal
 
 -- the leavings so far are others

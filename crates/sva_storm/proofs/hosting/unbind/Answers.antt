@@ -1,7 +1,7 @@
 use Rattle.std.proofs.Common.{◌≡◌, ◌∙◌, List, rules, not, inr, ap, sym, subst, refl}
 use Rattle.sva_step.specs.declared.steps.Step.TheVariants.{Unbind}
-use Rattle.sva_fabric.specs.Stocks.{LeaseNumbers}
-use Rattle.sva_storm.specs.Hands.{has_lease}
+use Rattle.sva_fabric.specs.TokenNumbers.{LeaseNumbers}
+use Rattle.sva_storm.specs.LoopTokens.{has_lease}
 use Rattle.sva_storm.specs.Plays.{IsTry}
 use Rattle.sva_storm.proofs.Turns.{accepted_once, fault_try, taken_is}
 use Rattle.sva_storm.proofs.hosting.unbind.Goals as goal
@@ -28,7 +28,7 @@ returns-in-Err g c =
     (search rules) c.swap_remove-lease.ensures.value (search rules) in
     inr (
       ap not (sym (c.in-Some.ensures.is_there ∙ ap (λ (l : List LeaseNumbers). has_lease c.args.binding l) c.as_slice.ensures.value)),
-      subst (λ turn. IsTry g.C.Tally.config (Unbind c.args.binding) c.args.port.now c.unbind.new.port 0 0 turn) (sym c.turn_after.ensures)
-          (fault_try g.C.Tally.config c.args.port.now c.unbind.new.port (Unbind c.swap_remove-lease.result.binding) (Unbind c.args.binding)
+      subst (λ turn. IsTry g.C.Ledgers.config (Unbind c.args.binding) c.args.port.now c.unbind.new.port 0 0 turn) (sym c.turn_after.ensures)
+          (fault_try g.C.Ledgers.config c.args.port.now c.unbind.new.port (Unbind c.swap_remove-lease.result.binding) (Unbind c.args.binding)
           c.in-Err.fault 0 0 (search rules) (ap Unbind same) refl),
     )

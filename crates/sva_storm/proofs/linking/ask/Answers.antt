@@ -5,7 +5,7 @@ use Rattle.sva_storm.proofs.linking.ask.Goals as goal
 
 pub returns : goal.returns
 returns g c = record {
-  asked = subst (λ turn. IsAsked g.C.Tally.config c.args.step.now c.args.port.now c.step.new.port turn) (sym c.turn_of.ensures)
-      (asked_turn g.C.Tally.config c.args.step.now c.args.port.now c.step.new.port c.step.result c.step.ensures.answered c.step.ensures.kept
+  asked = subst (λ turn. IsAsked g.C.Ledgers.config c.args.step.now c.args.port.now c.step.new.port turn) (sym c.turn_of.ensures)
+      (asked_turn g.C.Ledgers.config c.args.step.now c.args.port.now c.step.new.port c.step.result c.step.ensures.answered c.step.ensures.kept
       c.step.ensures.err c.step.ensures.fault);
 }

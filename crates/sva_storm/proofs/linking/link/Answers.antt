@@ -11,25 +11,25 @@ loop-turn-preserved g c =
     let line = Deliver c.loop-turn.message in
     elim c.match-ask.branch [
       | in-Accepted w ↦
-          let asked = subst (λ turn. IsAsked g.C.Tally.config line c.loop-turn.port c.ask.new.port turn) w.in-Accepted.is c.ask.ensures.asked in
+          let asked = subst (λ turn. IsAsked g.C.Ledgers.config line c.loop-turn.port c.ask.new.port turn) w.in-Accepted.is c.ask.ensures.asked in
           subst (λ m. IsDelivering m (c.loop-turn.turn + 1) c.args.port.now c.ask.new.port) (sym w.message-is)
           (delivering_more c.loop-turn.message c.loop-turn.turn c.args.port.now c.loop-turn.port c.ask.new.port true c.loop-turn.invariant asked)
       | in-Again w ↦
-          let asked = subst (λ turn. IsAsked g.C.Tally.config line c.loop-turn.port c.ask.new.port turn) w.in-Again.is c.ask.ensures.asked in
+          let asked = subst (λ turn. IsAsked g.C.Ledgers.config line c.loop-turn.port c.ask.new.port turn) w.in-Again.is c.ask.ensures.asked in
           subst (λ m. IsDelivering m (c.loop-turn.turn + 1) c.args.port.now c.ask.new.port) (sym w.message-is)
           (delivering_more c.loop-turn.message c.loop-turn.turn c.args.port.now c.loop-turn.port c.ask.new.port false c.loop-turn.invariant asked)
     ]
 
 pub returns-in_default-clause-delivered : goal.returns-in_default-clause-delivered
 returns-in_default-clause-delivered g c =
-    let last = last_asked g.C.Tally.config (Deliver c.loop-turn.message) c.loop-turn.port c.ask.new.port c.ask.result c.ask.ensures.asked
+    let last = last_asked g.C.Ledgers.config (Deliver c.loop-turn.message) c.loop-turn.port c.ask.new.port c.ask.result c.ask.ensures.asked
     c.in_default.not-Accepted c.in_default.not-Again in
-    subst (λ (b : Bool). HasDelivered g.C.Tally.config (c.args.turns - c.by.result.turns_left) c.by.result.turns_left b c.args.port.now c.ask.new.port)
+    subst (λ (b : Bool). HasDelivered g.C.Ledgers.config (c.args.turns - c.by.result.turns_left) c.by.result.turns_left b c.args.port.now c.ask.new.port)
     (sym c.by.ensures.memory)
-    (delivered_last g.C.Tally.config c.loop-turn.message c.loop-turn.turn (c.args.turns - c.by.result.turns_left) c.by.result.turns_left
+    (delivered_last g.C.Ledgers.config c.loop-turn.message c.loop-turn.turn (c.args.turns - c.by.result.turns_left) c.by.result.turns_left
     c.args.port.now c.loop-turn.port c.ask.new.port c.ask.result c.loop-turn.invariant last (omega arith))
 
 pub returns-clause-delivered : goal.returns-clause-delivered
 returns-clause-delivered g c =
-    has_delivered g.C.Tally.config c.loop-turn.message c.loop-turn.turn (c.args.turns - 0) 0 c.args.port.now c.loop-turn.port c.loop-turn.invariant
+    has_delivered g.C.Ledgers.config c.loop-turn.message c.loop-turn.turn (c.args.turns - 0) 0 c.args.port.now c.loop-turn.port c.loop-turn.invariant
     (omega arith) refl

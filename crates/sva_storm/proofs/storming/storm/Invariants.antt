@@ -3,8 +3,8 @@ use Rattle.sva_storm.proofs.storming.storm.Given as goal
 abbrev pub ghosts-play_all-C-Ledger : goal.ghosts-play_all-C-Ledger
 ghosts-play_all-C-Ledger g a = record { name = a.blanks.calls.name; parts = a.blanks.calls.parts }
 
-abbrev pub ghosts-play_all-C-Tally : goal.ghosts-play_all-C-Tally
-ghosts-play_all-C-Tally g a = record {
+abbrev pub ghosts-play_all-C-Ledgers : goal.ghosts-play_all-C-Ledgers
+ghosts-play_all-C-Ledgers g a = record {
   config = a.scenario.now.config;
   bindings = a.blanks.bindings.name;
   uses = a.blanks.uses.name;

@@ -1,7 +1,7 @@
 use Rattle.std.proofs.Common.{◌≡◌, ◌∙◌, List, rules, not, inr, ap, sym, subst, arith, length}
 use Rattle.sva_step.specs.declared.steps.Step.TheVariants.{EndUse}
-use Rattle.sva_fabric.specs.Stocks.{TicketNumbers}
-use Rattle.sva_storm.specs.Hands.{has_ticket}
+use Rattle.sva_fabric.specs.TokenNumbers.{TicketNumbers}
+use Rattle.sva_storm.specs.LoopTokens.{has_ticket}
 use Rattle.sva_storm.specs.Plays.{IsTry}
 use Rattle.sva_storm.proofs.Turns.{same_ticket, ended_once, fault_try}
 use Rattle.sva_storm.proofs.using.end_use.Goals as goal
@@ -26,8 +26,8 @@ returns-in-Err-clause-turn g c =
     inr (
       ap not (sym (c.in-Some.ensures.is_there
           ∙ ap (λ (l : List TicketNumbers). has_ticket c.args.endpoint c.args.slot l) c.as_slice.ensures.value)),
-      subst (λ turn. IsTry g.C.Tally.config (EndUse c.args.endpoint c.args.slot) c.args.port.now c.end.new.port t u turn) (sym c.turn_after.ensures)
-          (fault_try g.C.Tally.config c.args.port.now c.end.new.port (EndUse c.swap_remove-ticket.result.endpoint c.swap_remove-ticket.result.slot)
+      subst (λ turn. IsTry g.C.Ledgers.config (EndUse c.args.endpoint c.args.slot) c.args.port.now c.end.new.port t u turn) (sym c.turn_after.ensures)
+          (fault_try g.C.Ledgers.config c.args.port.now c.end.new.port (EndUse c.swap_remove-ticket.result.endpoint c.swap_remove-ticket.result.slot)
           (EndUse c.args.endpoint c.args.slot) c.in-Err.fault t u (search rules)
           (λ k. EndUse (same.0 k) (same.1 k))
           (omega (arith, c.swap_remove-ticket.ensures.len, c.push_reserved.ensures.len, c.args.tickets.now.ok.0, c.push_reserved.new.self.ok.0))),

@@ -1,4 +1,4 @@
-use Rattle.sva_labels.proofs.Said.{every_step}
+use Rattle.sva_refinement.proofs.Said.{every_step}
 use Rattle.sva_core.proofs.Reaching.{follows, reached, follows_on, memory_on, sound_reached, spaces_reached}
 use Rattle.sva_core.proofs.world.World.apply.Goals as goal
 

@@ -1,6 +1,5 @@
 use Rattle.std.proofs.Common.{sym, ap, ◌∙◌}
-use Rattle.sva_cache.specs.declared.coverage.Extent.{Extent}
-use Rattle.sva_cache.specs.declared.coverage.Invalidation.{Invalidation}
+use Rattle.sva_msg.specs.declared.extents.Extent.{Extent}
 use Rattle.sva_endpoint.specs.Deliveries.{after_receive, after_invalidate}
 use Rattle.sva_endpoint.proofs.device.Endpoint.take.Goals as goal
 

@@ -2,14 +2,13 @@ use Rattle.std.proofs.Common.{ap}
 use Rattle.std.specs.Prelude.{Ok}
 use Rattle.sva_step.specs.declared.answers.Answer.{Answer}
 use Rattle.sva_step.specs.declared.steps.Step.TheVariants as step
-use Rattle.sva_fabric.specs.Stocks.{Holding}
+use Rattle.sva_journal.specs.Books.{TokenCounts}
 use Rattle.sva_fabric.specs.Tokens.{IsFault}
 use Rattle.sva_fabric.proofs.Calls.{of_reply, passed_on, passed_by}
-use Rattle.sva_fabric.proofs.Hands.{one_bound}
 use Rattle.sva_fabric.proofs.fabric.Fabric.bind.Goals as goal
 
 pub answer-requires : goal.answer-requires
-answer-requires g c = record { held = ap (λ (h : Holding). h.bindings) c.nothing-held.ensures }
+answer-requires g c = record { held = ap (λ (h : TokenCounts). h.bindings) c.none-held.ensures }
 
 pub returns-in_err-answer-clause-bound : goal.returns-in_err-answer-clause-bound
 returns-in_err-answer-clause-bound g c = passed_by c.from_residual.result c.in_err-answer.field-0.0 _ c.from_residual.ensures
@@ -17,14 +16,11 @@ returns-in_err-answer-clause-bound g c = passed_by c.from_residual.result c.in_e
 pub returns-in_err-answer-clause-fault : goal.returns-in_err-answer-clause-fault
 returns-in_err-answer-clause-fault g c =
     passed_on c.from_residual.result c.in_err-answer.field-0.0
-    (λ f. IsFault g.C.Tally.config c.args.port.now c.answer.new.port (step.Bind c.args.endpoint c.args.space) f)
+    (λ f. IsFault g.C.Ledgers.config c.args.port.now c.answer.new.port (step.Bind c.args.endpoint c.args.space) f)
     c.from_residual.ensures c.in_err-answer.ensures.fault
 
 pub unreachable-requires : goal.unreachable-requires
 unreachable-requires g c = c.in_default.ensures.none c.in_ok-answer.ensures.suits
-
-pub invariant_of-result : goal.invariant_of-result
-invariant_of-result g c = one_bound _ _ _ _ _ c.nothing-held.ensures c.in-Some.ensures.some c.in_ok-answer.ensures.handed
 
 pub returns-clause-bound : goal.returns-clause-bound
 returns-clause-bound g c = of_reply c.in_ok-answer.ensures.called (ap (λ (a : Answer). Ok a) c.in-Some.ensures.some)

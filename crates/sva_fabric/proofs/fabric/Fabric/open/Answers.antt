@@ -17,7 +17,10 @@ pub returns-in_default-clause-bad : goal.returns-in_default-clause-bad
 returns-in_default-clause-bad g c = (λ is. absurd (cc), λ unfit. absurd (unfit c.in_ok-running.ensures.ok.0))
 
 pub returns-clause-ok : goal.returns-clause-ok
-returns-clause-ok g c = (c.in_ok-running.ensures.ok.0, c.in-Ok.ensures)
+returns-clause-ok g c = (c.in_ok-running.ensures.ok.0, c.in-Ok.ensures.states)
+
+pub returns-clause-ports : goal.returns-clause-ports
+returns-clause-ports g c = c.in-Ok.ensures.ports
 
 pub returns-clause-bad : goal.returns-clause-bad
 returns-clause-bad g c = (λ is. absurd (cc), λ unfit. absurd (unfit c.in_ok-running.ensures.ok.0))

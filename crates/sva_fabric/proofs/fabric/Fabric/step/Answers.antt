@@ -1,11 +1,11 @@
 use Rattle.std.proofs.Common.{sym, subst}
-use Rattle.sva_fabric.specs.Stocks.{Holding, IsHandedIn}
-use Rattle.sva_fabric.proofs.Hands.{plain_handed}
+use Rattle.sva_journal.specs.Books.{TokenCounts, IsHandedIn}
+use Rattle.sva_journal.proofs.TokenLemmas.{plain_handed}
 use Rattle.sva_fabric.proofs.fabric.Fabric.step.Goals as goal
 
 pub call-requires : goal.call-requires
 call-requires g c = record {
-  held = subst (λ (h : Holding). IsHandedIn c.args.step.now h) (sym c.nothing.ensures) (plain_handed c.args.step.now c.requires.plain);
+  held = subst (λ (h : TokenCounts). IsHandedIn c.args.step.now h) (sym c.none.ensures) (plain_handed c.args.step.now c.requires.plain);
 }
 
 pub returns-clause-answered : goal.returns-clause-answered

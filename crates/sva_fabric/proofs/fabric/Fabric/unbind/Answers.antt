@@ -1,6 +1,6 @@
 use Rattle.std.proofs.Common.{ℕ, refl, ap}
 use Rattle.sva_step.specs.declared.steps.Step.TheVariants as step
-use Rattle.sva_fabric.specs.Stocks.{LeaseNumbers}
+use Rattle.sva_fabric.specs.TokenNumbers.{LeaseNumbers}
 use Rattle.sva_fabric.proofs.Calls.{of_step, fault_of}
 use Rattle.sva_fabric.proofs.fabric.Fabric.unbind.Goals as goal
 
@@ -23,6 +23,6 @@ returns-clause-leaving g c = tt
 pub returns-clause-fault : goal.returns-clause-fault
 returns-clause-fault g c = (
   refl,
-  fault_of g.C.Tally.config c.args.port.now c.answer.new.port c.in-Err.fault c.in-Err.ensures.fault
+  fault_of g.C.Ledgers.config c.args.port.now c.answer.new.port c.in-Err.fault c.in-Err.ensures.fault
       (ap (λ (n : ℕ). step.Unbind n) c.binding-binding.ensures),
 )

@@ -1,5 +1,5 @@
 use Rattle.std.proofs.Common.{ap}
-use Rattle.sva_fabric.specs.Stocks.{LeaseNumbers}
+use Rattle.sva_fabric.specs.TokenNumbers.{LeaseNumbers}
 use Rattle.sva_fabric.proofs.tokens.Lease.binding.Goals as goal
 
 pub returns : goal.returns

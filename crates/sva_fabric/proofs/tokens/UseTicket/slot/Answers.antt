@@ -1,5 +1,5 @@
 use Rattle.std.proofs.Common.{ap}
-use Rattle.sva_fabric.specs.Stocks.{TicketNumbers}
+use Rattle.sva_fabric.specs.TokenNumbers.{TicketNumbers}
 use Rattle.sva_fabric.proofs.tokens.UseTicket.slot.Goals as goal
 
 pub returns : goal.returns

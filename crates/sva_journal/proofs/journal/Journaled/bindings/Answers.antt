@@ -1,5 +1,5 @@
 use Rattle.std.proofs.Common.{ap, ◌∙◌}
-use Rattle.sva_labels.specs.Tallies.{unreleased}
+use Rattle.sva_refinement.specs.Tallies.{unreleased}
 use Rattle.sva_journal.specs.Journal.{bindings_of}
 use Rattle.sva_journal.proofs.journal.Journaled.bindings.Goals as goal
 

@@ -1,6 +1,6 @@
 use Rattle.std.proofs.Common.{◌≡◌, suc, List, [], ◌∷◌, ◌++◌, length, ap, sym, subst, ◌∙◌, arith}
 use Rattle.sva_model.specs.Steps.{Reply}
-use Rattle.sva_labels.specs.Tallies.{IsTallied}
+use Rattle.sva_refinement.specs.Tallies.{IsTallied}
 use Rattle.sva_journal.specs.declared.journal.Entry.{Entry}
 use Rattle.sva_journal.specs.Journal.{History, CountsFollow, world_of, entry_of, answer_of}
 use Rattle.sva_journal.specs.Suiting.{Suits}

@@ -1,5 +1,5 @@
 use Rattle.std.proofs.Common.{ap, ◌∙◌}
-use Rattle.sva_labels.specs.Tallies.{slots_taken}
+use Rattle.sva_refinement.specs.Tallies.{slots_taken}
 use Rattle.sva_journal.specs.Journal.{uses_of}
 use Rattle.sva_journal.proofs.journal.Journaled.uses.Goals as goal
 

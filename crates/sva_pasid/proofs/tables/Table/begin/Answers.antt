@@ -1,9 +1,8 @@
-use Rattle.std.proofs.Common.{◌≡◌, ℕ, List, [], ◌∷◌, ◌++◌, Some, None, sym, ◌∙◌, subst, arith}
+use Rattle.std.proofs.Common.{◌≡◌, ℕ, [], ◌∷◌, ◌++◌, Some, None, sym, ◌∙◌, arith}
 use Rattle.std.specs.Prelude.{IsSome}
 use Rattle.std.proofs.lemmas.Bool.{false≢true}
-use Rattle.sva_pasid.specs.Places.{place_of, lowest, begun, IsLowest, IsTable}
-use Rattle.sva_pasid.specs.Bearers.{AreBearers}
-use Rattle.sva_pasid.specs.declared.places.Place.{Place}
+use Rattle.sva_pasid.specs.Places.{place_of, lowest, begun, IsLowest}
+use Rattle.sva_pasid.specs.declared.places.TableEntry.{TableEntry}
 use Rattle.sva_pasid.proofs.PlaceLemmas.{begun-table}
 use Rattle.sva_pasid.proofs.ShareLemmas.{is_lowest, lowest_alike}
 use Rattle.sva_pasid.proofs.BearerLemmas.{lowest-is, bearers-begun}
@@ -43,7 +42,7 @@ invariant_of-self-2 c =
     let least : IsLowest c.args.space ps c.in-Some.pasid = is_lowest c.args.space ps c.in-Some.pasid c.self.invariant.0 chosen in
     let alike = lowest_alike c.args.endpoint c.args.space c.args.binding c.in-Some.pasid ps c.self.invariant.0 chosen in
     let fresh : place_of c.args.binding ps ≡ None = rw c.self.view_is c.requires.fresh in
-    let place : Place = begun c.args.endpoint c.args.space c.args.binding c.in-Some.pasid in
+    let place : TableEntry = begun c.args.endpoint c.args.space c.args.binding c.in-Some.pasid in
     let items : c.push_reserved.new.self.items ≡ ps ++ place ∷ [] = cc in
     rw (items, c.raised.ensures) (
       begun-table c.args.endpoint c.args.space c.args.binding c.in-Some.pasid ps c.self.invariant.0 fresh least.from_one least.to_last alike,

@@ -1,6 +1,4 @@
-use Rattle.std.proofs.Common.{sym, ◌∙◌, ap, ℕ, Option}
-use Rattle.std.specs.Prelude.{is_some}
-use Rattle.sva_pasid.specs.Places.{borne_by}
+use Rattle.std.proofs.Common.{sym, ◌∙◌}
 use Rattle.sva_pasid.proofs.BearerLemmas.{pasid_in-is, bound-is}
 use Rattle.sva_pasid.proofs.tables.Table.is_bound.Goals as goal
 

@@ -3,17 +3,17 @@ use Rattle.std.specs.Prelude.{option_and_then}
 use Rattle.std.specs.List.{slice_index_or}
 use Rattle.sva_pasid.specs.Places.{place_of, without, IsOwn}
 use Rattle.sva_pasid.specs.Indexes.{IsIndexOf}
-use Rattle.sva_pasid.specs.declared.places.Place.{Place}
-use Rattle.sva_pasid.specs.declared.bearers.TheConstants.{PASIDS}
+use Rattle.sva_pasid.specs.declared.places.TableEntry.{TableEntry}
+use Rattle.sva_step.specs.declared.limits.TheConstants.{PASIDS}
 use Rattle.sva_pasid.proofs.PlaceLemmas.{without-table, found-own}
 use Rattle.sva_pasid.proofs.BearerLemmas.{bearers-without, bearer-counts}
 use Rattle.sva_pasid.proofs.tables.Table.remove.Goals as goal
 
-index-at : (b i : ℕ) (ps qs : List Place) → qs ≡ ps → IsIndexOf b qs i → IsIndexOf b ps i
-index-at b i ps qs same at = subst (λ (xs : List Place). IsIndexOf b xs i) same at
+index-at : (b i : ℕ) (ps qs : List TableEntry) → qs ≡ ps → IsIndexOf b qs i → IsIndexOf b ps i
+index-at b i ps qs same at = subst (λ (xs : List TableEntry). IsIndexOf b xs i) same at
 
-found-at : (b i : ℕ) (ps qs : List Place) (p : Place) → qs ≡ ps → IsIndexOf b qs i → p ≡ slice_index_or ps i p → place_of b ps ≡ Some p
-found-at b i ps qs p same at value = (index-at b i ps qs same at).found p ∙ ap (λ (x : Place). Some x) (sym value)
+found-at : (b i : ℕ) (ps qs : List TableEntry) (p : TableEntry) → qs ≡ ps → IsIndexOf b qs i → p ≡ slice_index_or ps i p → place_of b ps ≡ Some p
+found-at b i ps qs p same at value = (index-at b i ps qs same at).found p ∙ ap (λ (x : TableEntry). Some x) (sym value)
 
 pub bounds-self-inside-pasid : goal.bounds-self-inside-pasid
 bounds-self-inside-pasid c =
@@ -59,11 +59,11 @@ returns-clause-stage c =
     let ps = c.self.inside.places.items in
     let found = found-at c.args.binding c.in-Some.index ps c.as_slice.result.now c.remove-pasid.result c.as_slice.ensures.value c.in-Some.ensures.some
     c.remove-pasid.ensures.value in
-    ap (λ (o : Option Place). option_and_then (λ (p : Place). p.stage) o)
-    (sym found ∙ ap (λ (qs : List Place). place_of c.args.binding qs) c.self.view_is)
+    ap (λ (o : Option TableEntry). option_and_then (λ (p : TableEntry). p.stage) o)
+    (sym found ∙ ap (λ (qs : List TableEntry). place_of c.args.binding qs) c.self.view_is)
 
 pub returns-clause-places : goal.returns-clause-places
 returns-clause-places c =
     let ps = c.self.inside.places.items in
     let at = index-at c.args.binding c.in-Some.index ps c.as_slice.result.now c.as_slice.ensures.value c.in-Some.ensures.some in
-    c.remove-pasid.ensures.items ∙ at.removed ∙ ap (λ (qs : List Place). without c.args.binding qs) c.self.view_is
+    c.remove-pasid.ensures.items ∙ at.removed ∙ ap (λ (qs : List TableEntry). without c.args.binding qs) c.self.view_is

@@ -1,5 +1,0 @@
-use Rattle.std.proofs.Common.{rules}
-use Rattle.sva_fabric.proofs.opening.ports_of.Goals as goal
-
-pub returns : goal.returns
-returns c = search rules

@@ -1,0 +1,100 @@
+use Rattle.std.proofs.Common.{◌≡◌, ℕ, refl, ap, ◌∙◌, arith}
+use Rattle.std.specs.Prelude.{true, [], ◌∷◌, List, length, slice_index_or}
+use Rattle.sva_model.specs.Wire.{Wire, UnitWire}
+use Rattle.sva_model.specs.Wire.StageWire.{DrainingWire}
+use Rattle.sva_model.specs.Wire.Descriptor.{WaitDescriptor}
+use Rattle.sva_labels.specs.Finding.{has_room}
+use Rattle.sva_labels.specs.Moves.{with_descriptors}
+use Rattle.sva_iommu.specs.Seen.{UnitSeen, with_unit}
+use Rattle.sva_host_state.specs.declared.host_state.Port.{Port}
+use Rattle.sva_host_state.proofs.Advances.{drains, home_is, port_for, seen_there, submitted}
+use Rattle.sva_host_state.proofs.Ports.{port_found}
+use Rattle.sva_host_state.proofs.TakenOut.{parts_seen, unit_there}
+use Rattle.sva_host_state.proofs.Units.{unit_rewritten, with_unit_host}
+use Rattle.sva_host_bindings.proofs.advancing.drain.Goals as goal
+
+pub bounds-deref_mut-endpoint : goal.bounds-deref_mut-endpoint
+bounds-deref_mut-endpoint c =
+    let is = drains c.args.host.now c.args.binding c.args.endpoint c.requires.may in
+    let there = home_is c.args.host.now c.args.binding c.args.endpoint _ _ _ _ c.requires.sound is in
+    let long = parts_seen c.host.inside c.args.host.now c.host.view_is in
+    let same = ap (λ (ports : List Port). length ports) c.deref_mut.ensures.value in
+    omega (arith, there, long, same)
+
+pub offset_bounds-deref_mut-endpoint : goal.offset_bounds-deref_mut-endpoint
+offset_bounds-deref_mut-endpoint c =
+    let is = drains c.args.host.now c.args.binding c.args.endpoint c.requires.may in
+    let there = home_is c.args.host.now c.args.binding c.args.endpoint _ _ _ _ c.requires.sound is in
+    let long = parts_seen c.host.inside c.args.host.now c.host.view_is in
+    omega (arith, there, c.requires.sound.few_parts)
+
+pub submit_drain-requires-clause-opened : goal.submit_drain-requires-clause-opened
+submit_drain-requires-clause-opened c =
+    let is = drains c.args.host.now c.args.binding c.args.endpoint c.requires.may in
+    let there = home_is c.args.host.now c.args.binding c.args.endpoint _ _ _ _ c.requires.sound is in
+    let long = parts_seen c.host.inside c.args.host.now c.host.view_is in
+    let unit = unit_there c.host.inside c.args.host.now c.args.endpoint c.deref_mut.result.now c.index-deref_mut-endpoint.result c.host.view_is
+    (omega (arith, there, long)) c.deref_mut.ensures.value in
+    ap (λ (u : UnitWire). u.is_open) unit ∙ is.is_open
+
+pub submit_drain-requires-clause-room : goal.submit_drain-requires-clause-room
+submit_drain-requires-clause-room c =
+    let is = drains c.args.host.now c.args.binding c.args.endpoint c.requires.may in
+    let there = home_is c.args.host.now c.args.binding c.args.endpoint _ _ _ _ c.requires.sound is in
+    let long = parts_seen c.host.inside c.args.host.now c.host.view_is in
+    let unit = unit_there c.host.inside c.args.host.now c.args.endpoint c.deref_mut.result.now c.index-deref_mut-endpoint.result c.host.view_is
+    (omega (arith, there, long)) c.deref_mut.ensures.value in
+    ap (λ (u : UnitWire). has_room u 1) unit ∙ is.room
+
+pub submit_drain-requires-clause-later : goal.submit_drain-requires-clause-later
+submit_drain-requires-clause-later c =
+    let is = drains c.args.host.now c.args.binding c.args.endpoint c.requires.may in
+    let there = home_is c.args.host.now c.args.binding c.args.endpoint _ _ _ _ c.requires.sound is in
+    let long = parts_seen c.host.inside c.args.host.now c.host.view_is in
+    let unit = unit_there c.host.inside c.args.host.now c.args.endpoint c.deref_mut.result.now c.index-deref_mut-endpoint.result c.host.view_is
+    (omega (arith, there, long)) c.deref_mut.ensures.value in
+    let next : c.host.inside.next_cookie ≡ c.args.host.now.next_cookie = ap (λ (w : Wire). w.next_cookie) c.host.view_is in
+    let low = c.requires.sound.waits_given c.args.endpoint there in
+    let same = ap (λ (u : UnitWire). u.waits_end) unit in
+    omega (arith, low, same, next)
+
+pub submit_drain-requires-clause-number : goal.submit_drain-requires-clause-number
+submit_drain-requires-clause-number c =
+    let is = drains c.args.host.now c.args.binding c.args.endpoint c.requires.may in
+    let next : c.host.inside.next_cookie ≡ c.args.host.now.next_cookie = ap (λ (w : Wire). w.next_cookie) c.host.view_is in
+    omega (arith, is.cookies, next)
+
+pub drain-requires : goal.drain-requires
+drain-requires c =
+    let is = drains c.args.host.now c.args.binding c.args.endpoint c.requires.may in
+    seen_there c.host.inside c.args.host.now c.args.binding c.args.endpoint _ _ _ _ c.host.invariant c.host.view_is is
+
+pub invariant_of-host : goal.invariant_of-host
+invariant_of-host c =
+    let is = drains c.args.host.now c.args.binding c.args.endpoint c.requires.may in
+    let for = port_for c.args.host.now c.args.binding c.args.endpoint _ _ _ _ c.requires.sound is in
+    let port = port_found c.host.inside c.args.host.now c.args.endpoint c.args.endpoint c.deref_mut.result.now c.index-deref_mut-endpoint.result
+    c.host.invariant c.host.view_is for c.deref_mut.ensures.value in
+    let change = λ (u : UnitSeen). with_unit u (with_descriptors u.unit (WaitDescriptor c.host.inside.next_cookie true ∷ [])
+    c.host.inside.next_cookie) in
+    let written = unit_rewritten c.host.inside c.args.host.now c.args.endpoint c.args.endpoint c.deref_mut.result.now c.deref_mut.result.now
+    c.index-deref_mut-endpoint.result c.index-deref_mut-endpoint.result c.submit_drain.new.self change c.host.view_is for
+    c.deref_mut.ensures.value c.deref_mut.ensures.value c.submit_drain.ensures in
+    with_unit_host c.host.inside _ c.args.endpoint (slice_index_or c.deref_mut.result.now c.args.endpoint c.index-deref_mut-endpoint.result) _
+    c.host.invariant port.sound written
+    (c.drain.ensures.staged c.host.invariant.staged)
+
+pub returns : goal.returns
+returns c =
+    let is = drains c.args.host.now c.args.binding c.args.endpoint c.requires.may in
+    let for = port_for c.args.host.now c.args.binding c.args.endpoint _ _ _ _ c.requires.sound is in
+    let port = port_found c.host.inside c.args.host.now c.args.endpoint c.args.endpoint c.deref_mut.result.now c.index-deref_mut-endpoint.result
+    c.host.invariant c.host.view_is for c.deref_mut.ensures.value in
+    let change = λ (u : UnitSeen). with_unit u (with_descriptors u.unit (WaitDescriptor c.host.inside.next_cookie true ∷ [])
+    c.host.inside.next_cookie) in
+    let written = unit_rewritten c.host.inside c.args.host.now c.args.endpoint c.args.endpoint c.deref_mut.result.now c.deref_mut.result.now
+    c.index-deref_mut-endpoint.result c.index-deref_mut-endpoint.result c.submit_drain.new.self change c.host.view_is for
+    c.deref_mut.ensures.value c.deref_mut.ensures.value c.submit_drain.ensures in
+    submitted c.host.inside c.args.host.now c.args.binding c.args.endpoint _ _ _ _ (λ (k : ℕ). WaitDescriptor k true ∷ []) DrainingWire
+    (slice_index_or c.deref_mut.result.now c.args.endpoint c.index-deref_mut-endpoint.result) _ c.drain.new.bindings c.host.view_is is port written
+    c.drain.ensures (λ w. refl)

@@ -1,0 +1,103 @@
+use Rattle.std.proofs.Common.{◌≡◌, ℕ, refl, ap, ◌∙◌, arith}
+use Rattle.std.specs.Prelude.{false, [], ◌∷◌, List, length, slice_index_or}
+use Rattle.sva_model.specs.Wire.{Wire, UnitWire}
+use Rattle.sva_model.specs.Wire.StageWire.{DrainingWire, InvalidatingWire}
+use Rattle.sva_model.specs.Wire.Descriptor.{PasidDescriptor, WaitDescriptor}
+use Rattle.sva_labels.specs.Finding.{has_room}
+use Rattle.sva_labels.specs.Moves.{with_descriptors}
+use Rattle.sva_iommu.specs.Seen.{UnitSeen, with_unit}
+use Rattle.sva_host_state.specs.declared.host_state.Port.{Port}
+use Rattle.sva_host_state.proofs.Advances.{invalidates, home_is, port_for, seen_there, submitted}
+use Rattle.sva_host_state.proofs.Bound.{kind_in}
+use Rattle.sva_host_state.proofs.Ports.{port_found}
+use Rattle.sva_host_state.proofs.TakenOut.{parts_seen, unit_there}
+use Rattle.sva_host_state.proofs.Units.{unit_rewritten, with_unit_host}
+use Rattle.sva_host_bindings.proofs.advancing.invalidate.Goals as goal
+
+pub bounds-deref_mut-endpoint : goal.bounds-deref_mut-endpoint
+bounds-deref_mut-endpoint c =
+    let (cookie, is) = invalidates c.args.host.now c.args.binding c.args.endpoint c.args.pasid c.requires.may in
+    let there = home_is c.args.host.now c.args.binding c.args.endpoint _ _ _ _ c.requires.sound is in
+    let long = parts_seen c.host.inside c.args.host.now c.host.view_is in
+    let same = ap (λ (ports : List Port). length ports) c.deref_mut.ensures.value in
+    omega (arith, there, long, same)
+
+pub offset_bounds-deref_mut-endpoint : goal.offset_bounds-deref_mut-endpoint
+offset_bounds-deref_mut-endpoint c =
+    let (cookie, is) = invalidates c.args.host.now c.args.binding c.args.endpoint c.args.pasid c.requires.may in
+    let there = home_is c.args.host.now c.args.binding c.args.endpoint _ _ _ _ c.requires.sound is in
+    let long = parts_seen c.host.inside c.args.host.now c.host.view_is in
+    omega (arith, there, c.requires.sound.few_parts)
+
+pub submit_pasid-requires-clause-opened : goal.submit_pasid-requires-clause-opened
+submit_pasid-requires-clause-opened c =
+    let (cookie, is) = invalidates c.args.host.now c.args.binding c.args.endpoint c.args.pasid c.requires.may in
+    let there = home_is c.args.host.now c.args.binding c.args.endpoint _ _ _ _ c.requires.sound is in
+    let long = parts_seen c.host.inside c.args.host.now c.host.view_is in
+    let unit = unit_there c.host.inside c.args.host.now c.args.endpoint c.deref_mut.result.now c.index-deref_mut-endpoint.result c.host.view_is
+    (omega (arith, there, long)) c.deref_mut.ensures.value in
+    ap (λ (u : UnitWire). u.is_open) unit ∙ is.is_open
+
+pub submit_pasid-requires-clause-room : goal.submit_pasid-requires-clause-room
+submit_pasid-requires-clause-room c =
+    let (cookie, is) = invalidates c.args.host.now c.args.binding c.args.endpoint c.args.pasid c.requires.may in
+    let there = home_is c.args.host.now c.args.binding c.args.endpoint _ _ _ _ c.requires.sound is in
+    let long = parts_seen c.host.inside c.args.host.now c.host.view_is in
+    let unit = unit_there c.host.inside c.args.host.now c.args.endpoint c.deref_mut.result.now c.index-deref_mut-endpoint.result c.host.view_is
+    (omega (arith, there, long)) c.deref_mut.ensures.value in
+    ap (λ (u : UnitWire). has_room u 2) unit ∙ is.room
+
+pub submit_pasid-requires-clause-later : goal.submit_pasid-requires-clause-later
+submit_pasid-requires-clause-later c =
+    let (cookie, is) = invalidates c.args.host.now c.args.binding c.args.endpoint c.args.pasid c.requires.may in
+    let there = home_is c.args.host.now c.args.binding c.args.endpoint _ _ _ _ c.requires.sound is in
+    let long = parts_seen c.host.inside c.args.host.now c.host.view_is in
+    let unit = unit_there c.host.inside c.args.host.now c.args.endpoint c.deref_mut.result.now c.index-deref_mut-endpoint.result c.host.view_is
+    (omega (arith, there, long)) c.deref_mut.ensures.value in
+    let next : c.host.inside.next_cookie ≡ c.args.host.now.next_cookie = ap (λ (w : Wire). w.next_cookie) c.host.view_is in
+    let low = c.requires.sound.waits_given c.args.endpoint there in
+    let same = ap (λ (u : UnitWire). u.waits_end) unit in
+    omega (arith, low, same, next)
+
+pub submit_pasid-requires-clause-number : goal.submit_pasid-requires-clause-number
+submit_pasid-requires-clause-number c =
+    let (cookie, is) = invalidates c.args.host.now c.args.binding c.args.endpoint c.args.pasid c.requires.may in
+    let next : c.host.inside.next_cookie ≡ c.args.host.now.next_cookie = ap (λ (w : Wire). w.next_cookie) c.host.view_is in
+    omega (arith, is.cookies, next)
+
+pub invalidate-requires : goal.invalidate-requires
+invalidate-requires c =
+    let (cookie, is) = invalidates c.args.host.now c.args.binding c.args.endpoint c.args.pasid c.requires.may in
+    kind_in (DrainingWire cookie) c.args.binding c.host.inside.bindings
+    (seen_there c.host.inside c.args.host.now c.args.binding c.args.endpoint _ _ _ _ c.host.invariant c.host.view_is is)
+
+pub invariant_of-host : goal.invariant_of-host
+invariant_of-host c =
+    let (cookie, is) = invalidates c.args.host.now c.args.binding c.args.endpoint c.args.pasid c.requires.may in
+    let for = port_for c.args.host.now c.args.binding c.args.endpoint _ _ _ _ c.requires.sound is in
+    let port = port_found c.host.inside c.args.host.now c.args.endpoint c.args.endpoint c.deref_mut.result.now c.index-deref_mut-endpoint.result
+    c.host.invariant c.host.view_is for c.deref_mut.ensures.value in
+    let change = λ (u : UnitSeen). with_unit u
+    (with_descriptors u.unit (PasidDescriptor c.args.pasid ∷ WaitDescriptor c.host.inside.next_cookie false ∷ []) c.host.inside.next_cookie) in
+    let written = unit_rewritten c.host.inside c.args.host.now c.args.endpoint c.args.endpoint c.deref_mut.result.now c.deref_mut.result.now
+    c.index-deref_mut-endpoint.result c.index-deref_mut-endpoint.result c.submit_pasid.new.self change c.host.view_is for
+    c.deref_mut.ensures.value c.deref_mut.ensures.value c.submit_pasid.ensures in
+    with_unit_host c.host.inside _ c.args.endpoint (slice_index_or c.deref_mut.result.now c.args.endpoint c.index-deref_mut-endpoint.result) _
+    c.host.invariant port.sound written
+    (c.invalidate.ensures.staged c.host.invariant.staged)
+
+pub returns : goal.returns
+returns c =
+    let (cookie, is) = invalidates c.args.host.now c.args.binding c.args.endpoint c.args.pasid c.requires.may in
+    let for = port_for c.args.host.now c.args.binding c.args.endpoint _ _ _ _ c.requires.sound is in
+    let port = port_found c.host.inside c.args.host.now c.args.endpoint c.args.endpoint c.deref_mut.result.now c.index-deref_mut-endpoint.result
+    c.host.invariant c.host.view_is for c.deref_mut.ensures.value in
+    let change = λ (u : UnitSeen). with_unit u
+    (with_descriptors u.unit (PasidDescriptor c.args.pasid ∷ WaitDescriptor c.host.inside.next_cookie false ∷ []) c.host.inside.next_cookie) in
+    let written = unit_rewritten c.host.inside c.args.host.now c.args.endpoint c.args.endpoint c.deref_mut.result.now c.deref_mut.result.now
+    c.index-deref_mut-endpoint.result c.index-deref_mut-endpoint.result c.submit_pasid.new.self change c.host.view_is for
+    c.deref_mut.ensures.value c.deref_mut.ensures.value c.submit_pasid.ensures in
+    submitted c.host.inside c.args.host.now c.args.binding c.args.endpoint _ _ _ _ (λ (k : ℕ). PasidDescriptor c.args.pasid ∷ WaitDescriptor k false
+    ∷ []) InvalidatingWire
+    (slice_index_or c.deref_mut.result.now c.args.endpoint c.index-deref_mut-endpoint.result) _ c.invalidate.new.bindings c.host.view_is is port
+    written c.invalidate.ensures (λ w. refl)

@@ -1,0 +1,123 @@
+use Rattle.std.proofs.Common.{sym, ap, ◌∙◌, arith, refl}
+use Rattle.std.specs.Prelude.{is_ok, slice_index_or}
+use Rattle.sva_step.specs.declared.answers.Answer.TheVariants as answer
+use Rattle.sva_step.specs.declared.steps.Step.TheVariants as step
+use Rattle.sva_endpoint.specs.Calls as call
+use Rattle.sva_endpoint.specs.Tables.{Tables}
+use Rattle.sva_endpoint.specs.Steps.{lowest_tag, after_ask, asking}
+use Rattle.sva_endpoint.proofs.SoundLaws.{sound_after}
+use Rattle.sva_host_state.specs.declared.host_state.Port.{Port}
+use Rattle.sva_host_state.specs.Inner.{wire_of}
+use Rattle.sva_host_state.proofs.Ports.{port_found, same_port, rewritten, with_tables_host}
+use Rattle.sva_host_state.proofs.Devices.{kept, went, ended}
+use Rattle.sva_host_state.proofs.Asks.{ask_refused, ask_unsent, ask_done}
+use Rattle.sva_host_endpoints.proofs.Reached.{within, ask_nowhere, none_in}
+use Rattle.sva_host_endpoints.proofs.endpoints.ask.Goals as goal
+
+pub returns-in_err-asking : goal.returns-in_err-asking
+returns-in_err-asking c =
+    let is = port_found c.host.inside _ c.args.endpoint c.in_ok-at.at _ c.index-deref-at.result c.host.invariant c.host.view_is c.in_ok-at.ensures
+    c.deref.ensures.0 in
+    kept _ _ (step.Ask c.args.endpoint c.args.pasid c.args.page) _ _ c.host.view_is c.from_residual-in_err-asking.ensures
+    (ask_refused c.host.inside c.args.endpoint c.args.pasid c.args.page _ _ is c.in_err-asking.ensures)
+
+pub returns-in_err-send : goal.returns-in_err-send
+returns-in_err-send c =
+    let is = port_found c.host.inside _ c.args.endpoint c.in_ok-at.at _ c.index-deref-at.result c.host.invariant c.host.view_is c.in_ok-at.ensures
+    c.deref.ensures.0 in
+    went _ _ (wire_of (record c.host.inside { in_flight = c.send.new.bag })) (step.Ask c.args.endpoint c.args.pasid c.args.page) _ _ c.host.view_is
+    c.from_residual-in_err-send.ensures
+    (ask_unsent c.host.inside c.args.endpoint c.args.pasid c.args.page _ c.in_ok-asking.asking _ _ is c.in_ok-asking.ensures c.in_err-send.ensures.sends)
+
+pub invariant_of-host-2 : goal.invariant_of-host-2
+invariant_of-host-2 c =
+    let is = port_found c.host.inside _ c.args.endpoint c.in_ok-at.at _ c.index-deref-at.result c.host.invariant c.host.view_is c.in_ok-at.ensures
+    c.deref.ensures.0 in
+    let tables = λ (s : Tables). after_ask s c.args.pasid c.args.page in
+    with_tables_host c.host.inside c.args.endpoint (slice_index_or c.deref.result.now c.in_ok-at.at c.index-deref-at.result) _ c.send.new.bag _
+    c.host.invariant
+    (sound_after _ (call.Ask c.args.pasid c.args.page) (ap is_ok (sym c.in_ok-asking.ensures)) is.sound)
+    (rewritten c.host.inside _ c.args.endpoint c.in_ok-at.at _ _ c.index-deref-at.result c.index-deref_mut-at.result c.ask-tag.new.self tables
+    c.host.view_is c.in_ok-at.ensures c.deref.ensures.0 c.deref_mut.ensures.value c.ask-tag.ensures.after)
+
+pub returns : goal.returns
+returns c =
+    let is = port_found c.host.inside _ c.args.endpoint c.in_ok-at.at _ c.index-deref-at.result c.host.invariant c.host.view_is c.in_ok-at.ensures
+    c.deref.ensures.0 in
+    let tables = λ (s : Tables). after_ask s c.args.pasid c.args.page in
+    ended c.host.inside _ (step.Ask c.args.endpoint c.args.pasid c.args.page) (answer.Tag c.ask-tag.result) _ _ _ c.send.new.bag c.host.view_is
+    (rewritten c.host.inside _ c.args.endpoint c.in_ok-at.at _ _ c.index-deref-at.result c.index-deref_mut-at.result c.ask-tag.new.self tables
+    c.host.view_is c.in_ok-at.ensures c.deref.ensures.0 c.deref_mut.ensures.value c.ask-tag.ensures.after)
+    (ap answer.Tag (c.ask-tag.ensures.tag
+    ∙ ap (λ (p : Port). lowest_tag p.device)
+    (same_port c.host.inside _ c.args.endpoint c.in_ok-at.at _ _ c.index-deref-at.result c.index-deref_mut-at.result c.host.view_is
+    c.in_ok-at.ensures c.deref.ensures.0 c.deref_mut.ensures.value)))
+    (ask_done c.host.inside c.args.endpoint c.args.pasid c.args.page _ c.in_ok-asking.asking c.send.new.bag is c.in_ok-asking.ensures
+    c.in_ok-send.ensures.sends)
+
+pub port-requires : goal.port-requires
+port-requires c = tt
+
+pub branch-at-requires : goal.branch-at-requires
+branch-at-requires c κs = (none_in _, none_in _)
+
+pub from_residual-requires : goal.from_residual-requires
+from_residual-requires c κs = (none_in _, (none_in _, none_in _))
+
+pub returns-in_err-at : goal.returns-in_err-at
+returns-in_err-at c =
+    kept _ _ (step.Ask c.args.endpoint c.args.pasid c.args.page) _ _ refl c.from_residual.ensures
+    (ask_nowhere c.args.host.now c.args.endpoint c.args.pasid c.args.page _ c.in_err-at.ensures)
+
+pub deref-requires : goal.deref-requires
+deref-requires c = omega arith
+
+pub offset_bounds-deref-at : goal.offset_bounds-deref-at
+offset_bounds-deref-at c =
+    let there = within c.host.inside _ c.args.endpoint c.in_ok-at.at _ c.host.invariant c.host.view_is c.in_ok-at.ensures c.deref.ensures.0 in
+    omega (arith, there, c.deref.type_inv)
+
+pub bounds-deref-at : goal.bounds-deref-at
+bounds-deref-at c = within c.host.inside _ c.args.endpoint c.in_ok-at.at _ c.host.invariant c.host.view_is c.in_ok-at.ensures c.deref.ensures.0
+
+pub may_ask-requires : goal.may_ask-requires
+may_ask-requires c = tt
+
+pub branch-asking-requires : goal.branch-asking-requires
+branch-asking-requires c κs = (none_in _, none_in _)
+
+pub from_residual-requires-in_err-asking : goal.from_residual-requires-in_err-asking
+from_residual-requires-in_err-asking c κs = (none_in _, (none_in _, none_in _))
+
+pub send-requires-clause-at_least_one : goal.send-requires-clause-at_least_one
+send-requires-clause-at_least_one c = omega arith
+
+pub send-requires-clause-at_most_eight : goal.send-requires-clause-at_most_eight
+send-requires-clause-at_most_eight c = omega arith
+
+pub branch-send-requires : goal.branch-send-requires
+branch-send-requires c κs = (none_in _, none_in _)
+
+pub from_residual-requires-in_err-send : goal.from_residual-requires-in_err-send
+from_residual-requires-in_err-send c κs = (none_in _, (none_in _, none_in _))
+
+pub invariant_of-host : goal.invariant_of-host
+invariant_of-host c = record { sound = c.host.invariant.sound; staged = c.host.invariant.staged }
+
+pub deref_mut-requires : goal.deref_mut-requires
+deref_mut-requires c = omega arith
+
+pub offset_bounds-deref_mut-at : goal.offset_bounds-deref_mut-at
+offset_bounds-deref_mut-at c =
+    let there = within c.host.inside _ c.args.endpoint c.in_ok-at.at _ c.host.invariant c.host.view_is c.in_ok-at.ensures c.deref_mut.ensures.value in
+    omega (arith, there, c.deref_mut.ensures.fits)
+
+pub bounds-deref_mut-at : goal.bounds-deref_mut-at
+bounds-deref_mut-at c = within c.host.inside _ c.args.endpoint c.in_ok-at.at _ c.host.invariant c.host.view_is c.in_ok-at.ensures c.deref_mut.ensures.value
+
+pub ask-tag-requires : goal.ask-tag-requires
+ask-tag-requires c =
+    ap (λ (p : Port). is_ok (asking p.device c.args.pasid c.args.page))
+    (same_port c.host.inside _ c.args.endpoint c.in_ok-at.at _ _ c.index-deref-at.result c.index-deref_mut-at.result c.host.view_is
+    c.in_ok-at.ensures c.deref.ensures.0 c.deref_mut.ensures.value)
+    ∙ ap is_ok (sym c.in_ok-asking.ensures)

@@ -1,0 +1,127 @@
+use Rattle.std.proofs.Common.{sym, ap, ◌∙◌, arith, refl}
+use Rattle.std.specs.Prelude.{is_ok, slice_index_or}
+use Rattle.sva_step.specs.declared.answers.Answer.TheVariants as answer
+use Rattle.sva_step.specs.declared.steps.Step.TheVariants as step
+use Rattle.sva_endpoint.specs.Calls as call
+use Rattle.sva_endpoint.specs.Tables.{Tables}
+use Rattle.sva_endpoint.specs.Steps.{index_for, after_fault, faulting}
+use Rattle.sva_endpoint.proofs.SoundLaws.{sound_after}
+use Rattle.sva_host_state.specs.declared.host_state.Port.{Port}
+use Rattle.sva_host_state.specs.Inner.{wire_of}
+use Rattle.sva_host_state.proofs.Ports.{port_found, same_port, rewritten, with_tables_host}
+use Rattle.sva_host_state.proofs.Devices.{kept, went, ended}
+use Rattle.sva_host_state.proofs.Faults.{fault_refused, fault_unsent, fault_done}
+use Rattle.sva_host_endpoints.proofs.Reached.{within, fault_nowhere, none_in}
+use Rattle.sva_host_endpoints.proofs.endpoints.fault.Goals as goal
+
+pub returns-in_err-faulting : goal.returns-in_err-faulting
+returns-in_err-faulting c =
+    let is = port_found c.host.inside _ c.args.endpoint c.in_ok-at.at _ c.index-deref-at.result c.host.invariant c.host.view_is c.in_ok-at.ensures
+    c.deref.ensures.0 in
+    kept _ _ (step.Fault c.args.endpoint c.args.fault.now.pasid c.args.fault.now.page c.args.fault.now.read c.args.fault.now.write
+    c.args.fault.now.group c.args.fault.now.last) _ _ c.host.view_is c.from_residual-in_err-faulting.ensures
+    (fault_refused c.host.inside c.args.endpoint c.args.fault.now _ _ is c.in_err-faulting.ensures)
+
+pub returns-in_err-send : goal.returns-in_err-send
+returns-in_err-send c =
+    let is = port_found c.host.inside _ c.args.endpoint c.in_ok-at.at _ c.index-deref-at.result c.host.invariant c.host.view_is c.in_ok-at.ensures
+    c.deref.ensures.0 in
+    went _ _ (wire_of (record c.host.inside { in_flight = c.send.new.bag }))
+    (step.Fault c.args.endpoint c.args.fault.now.pasid c.args.fault.now.page c.args.fault.now.read c.args.fault.now.write c.args.fault.now.group
+    c.args.fault.now.last) _ _ c.host.view_is c.from_residual-in_err-send.ensures
+    (fault_unsent c.host.inside c.args.endpoint c.args.fault.now _ c.in_ok-faulting.faulting _ _ is c.in_ok-faulting.ensures c.in_err-send.ensures.sends)
+
+pub invariant_of-host-2 : goal.invariant_of-host-2
+invariant_of-host-2 c =
+    let is = port_found c.host.inside _ c.args.endpoint c.in_ok-at.at _ c.index-deref-at.result c.host.invariant c.host.view_is c.in_ok-at.ensures
+    c.deref.ensures.0 in
+    let tables = λ (s : Tables). after_fault s c.args.fault.now in
+    with_tables_host c.host.inside c.args.endpoint (slice_index_or c.deref.result.now c.in_ok-at.at c.index-deref-at.result) _ c.send.new.bag _
+    c.host.invariant
+    (sound_after _ (call.SendFault c.args.fault.now) (ap is_ok (sym c.in_ok-faulting.ensures)) is.sound)
+    (rewritten c.host.inside _ c.args.endpoint c.in_ok-at.at _ _ c.index-deref-at.result c.index-deref_mut-at.result c.fault-group.new.self tables
+    c.host.view_is c.in_ok-at.ensures c.deref.ensures.0 c.deref_mut.ensures.value c.fault-group.ensures.after)
+
+pub returns : goal.returns
+returns c =
+    let is = port_found c.host.inside _ c.args.endpoint c.in_ok-at.at _ c.index-deref-at.result c.host.invariant c.host.view_is c.in_ok-at.ensures
+    c.deref.ensures.0 in
+    let tables = λ (s : Tables). after_fault s c.args.fault.now in
+    ended c.host.inside _ (step.Fault c.args.endpoint c.args.fault.now.pasid c.args.fault.now.page c.args.fault.now.read c.args.fault.now.write
+    c.args.fault.now.group c.args.fault.now.last) (answer.Group c.fault-group.result) _ _ _ c.send.new.bag c.host.view_is
+    (rewritten c.host.inside _ c.args.endpoint c.in_ok-at.at _ _ c.index-deref-at.result c.index-deref_mut-at.result c.fault-group.new.self tables
+    c.host.view_is c.in_ok-at.ensures c.deref.ensures.0 c.deref_mut.ensures.value c.fault-group.ensures.after)
+    (ap answer.Group (c.fault-group.ensures.index
+    ∙ ap (λ (p : Port). index_for p.device c.args.fault.now.group)
+    (same_port c.host.inside _ c.args.endpoint c.in_ok-at.at _ _ c.index-deref-at.result c.index-deref_mut-at.result c.host.view_is
+    c.in_ok-at.ensures c.deref.ensures.0 c.deref_mut.ensures.value)))
+    (fault_done c.host.inside c.args.endpoint c.args.fault.now _ c.in_ok-faulting.faulting c.send.new.bag is c.in_ok-faulting.ensures
+    c.in_ok-send.ensures.sends)
+
+pub port-requires : goal.port-requires
+port-requires c = tt
+
+pub branch-at-requires : goal.branch-at-requires
+branch-at-requires c κs = (none_in _, none_in _)
+
+pub from_residual-requires : goal.from_residual-requires
+from_residual-requires c κs = (none_in _, (none_in _, none_in _))
+
+pub returns-in_err-at : goal.returns-in_err-at
+returns-in_err-at c =
+    let fault = c.args.fault.now in
+    kept _ _ (step.Fault c.args.endpoint fault.pasid fault.page fault.read fault.write fault.group fault.last) _ _ refl c.from_residual.ensures
+    (fault_nowhere c.args.host.now c.args.endpoint fault.pasid fault.page fault.read fault.write fault.group fault.last _ c.in_err-at.ensures)
+
+pub deref-requires : goal.deref-requires
+deref-requires c = omega arith
+
+pub offset_bounds-deref-at : goal.offset_bounds-deref-at
+offset_bounds-deref-at c =
+    let there = within c.host.inside _ c.args.endpoint c.in_ok-at.at _ c.host.invariant c.host.view_is c.in_ok-at.ensures c.deref.ensures.0 in
+    omega (arith, there, c.deref.type_inv)
+
+pub bounds-deref-at : goal.bounds-deref-at
+bounds-deref-at c = within c.host.inside _ c.args.endpoint c.in_ok-at.at _ c.host.invariant c.host.view_is c.in_ok-at.ensures c.deref.ensures.0
+
+pub may_fault-requires : goal.may_fault-requires
+may_fault-requires c = tt
+
+pub branch-faulting-requires : goal.branch-faulting-requires
+branch-faulting-requires c κs = (none_in _, none_in _)
+
+pub from_residual-requires-in_err-faulting : goal.from_residual-requires-in_err-faulting
+from_residual-requires-in_err-faulting c κs = (none_in _, (none_in _, none_in _))
+
+pub send-requires-clause-at_least_one : goal.send-requires-clause-at_least_one
+send-requires-clause-at_least_one c = omega arith
+
+pub send-requires-clause-at_most_eight : goal.send-requires-clause-at_most_eight
+send-requires-clause-at_most_eight c = omega arith
+
+pub branch-send-requires : goal.branch-send-requires
+branch-send-requires c κs = (none_in _, none_in _)
+
+pub from_residual-requires-in_err-send : goal.from_residual-requires-in_err-send
+from_residual-requires-in_err-send c κs = (none_in _, (none_in _, none_in _))
+
+pub invariant_of-host : goal.invariant_of-host
+invariant_of-host c = record { sound = c.host.invariant.sound; staged = c.host.invariant.staged }
+
+pub deref_mut-requires : goal.deref_mut-requires
+deref_mut-requires c = omega arith
+
+pub offset_bounds-deref_mut-at : goal.offset_bounds-deref_mut-at
+offset_bounds-deref_mut-at c =
+    let there = within c.host.inside _ c.args.endpoint c.in_ok-at.at _ c.host.invariant c.host.view_is c.in_ok-at.ensures c.deref_mut.ensures.value in
+    omega (arith, there, c.deref_mut.ensures.fits)
+
+pub bounds-deref_mut-at : goal.bounds-deref_mut-at
+bounds-deref_mut-at c = within c.host.inside _ c.args.endpoint c.in_ok-at.at _ c.host.invariant c.host.view_is c.in_ok-at.ensures c.deref_mut.ensures.value
+
+pub fault-group-requires : goal.fault-group-requires
+fault-group-requires c =
+    ap (λ (p : Port). is_ok (faulting p.device c.args.fault.now))
+    (same_port c.host.inside _ c.args.endpoint c.in_ok-at.at _ _ c.index-deref-at.result c.index-deref_mut-at.result c.host.view_is
+    c.in_ok-at.ensures c.deref.ensures.0 c.deref_mut.ensures.value)
+    ∙ ap is_ok (sym c.in_ok-faulting.ensures)

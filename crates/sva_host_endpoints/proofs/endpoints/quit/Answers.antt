@@ -1,0 +1,118 @@
+use Rattle.std.proofs.Common.{sym, ap, refl, ◌∙◌, arith}
+use Rattle.std.specs.Prelude.{is_ok, slice_index_or}
+use Rattle.sva_step.specs.declared.answers.Answer.TheVariants as answer
+use Rattle.sva_step.specs.declared.steps.Step.TheVariants as step
+use Rattle.sva_endpoint.specs.Calls as call
+use Rattle.sva_endpoint.specs.Tables.{Tables}
+use Rattle.sva_endpoint.specs.Steps.{quitting, after_quit}
+use Rattle.sva_endpoint.proofs.SoundLaws.{sound_after}
+use Rattle.sva_host_state.specs.declared.host_state.Port.{Port}
+use Rattle.sva_host_state.specs.Inner.{wire_of}
+use Rattle.sva_host_state.proofs.Ports.{port_found, same_port, rewritten, with_tables_host}
+use Rattle.sva_host_state.proofs.Devices.{kept, went, ended}
+use Rattle.sva_host_state.proofs.Quits.{quit_refused, quit_unsent, quit_done}
+use Rattle.sva_host_endpoints.proofs.Reached.{within, quit_nowhere, none_in}
+use Rattle.sva_host_endpoints.proofs.endpoints.quit.Goals as goal
+
+pub returns-in_err-marker : goal.returns-in_err-marker
+returns-in_err-marker c =
+    let is = port_found c.host.inside _ c.args.endpoint c.in_ok-at.at _ c.index-deref-at.result c.host.invariant c.host.view_is c.in_ok-at.ensures
+    c.deref.ensures.0 in
+    kept _ _ (step.Quit c.args.endpoint c.args.pasid) _ _ c.host.view_is c.from_residual-in_err-marker.ensures
+    (quit_refused c.host.inside c.args.endpoint c.args.pasid _ _ is c.in_err-marker.ensures)
+
+pub returns-in_err-send : goal.returns-in_err-send
+returns-in_err-send c =
+    let is = port_found c.host.inside _ c.args.endpoint c.in_ok-at.at _ c.index-deref-at.result c.host.invariant c.host.view_is c.in_ok-at.ensures
+    c.deref.ensures.0 in
+    went _ _ (wire_of (record c.host.inside { in_flight = c.send.new.bag })) (step.Quit c.args.endpoint c.args.pasid) _ _ c.host.view_is
+    c.from_residual-in_err-send.ensures
+    (quit_unsent c.host.inside c.args.endpoint c.args.pasid _ c.in_ok-marker.marker _ _ is c.in_ok-marker.ensures c.in_err-send.ensures.sends)
+
+pub invariant_of-host-2 : goal.invariant_of-host-2
+invariant_of-host-2 c =
+    let is = port_found c.host.inside _ c.args.endpoint c.in_ok-at.at _ c.index-deref-at.result c.host.invariant c.host.view_is c.in_ok-at.ensures
+    c.deref.ensures.0 in
+    let tables = λ (s : Tables). after_quit s c.args.pasid in
+    with_tables_host c.host.inside c.args.endpoint (slice_index_or c.deref.result.now c.in_ok-at.at c.index-deref-at.result) _ c.send.new.bag _
+    c.host.invariant
+    (sound_after _ (call.Quit c.args.pasid) (ap is_ok (sym c.in_ok-marker.ensures)) is.sound)
+    (rewritten c.host.inside _ c.args.endpoint c.in_ok-at.at _ _ c.index-deref-at.result c.index-deref_mut-at.result c.quit.new.self tables
+    c.host.view_is c.in_ok-at.ensures c.deref.ensures.0 c.deref_mut.ensures.value c.quit.ensures)
+
+pub returns : goal.returns
+returns c =
+    let is = port_found c.host.inside _ c.args.endpoint c.in_ok-at.at _ c.index-deref-at.result c.host.invariant c.host.view_is c.in_ok-at.ensures
+    c.deref.ensures.0 in
+    let tables = λ (s : Tables). after_quit s c.args.pasid in
+    ended c.host.inside _ (step.Quit c.args.endpoint c.args.pasid) (answer.Marker) _ _ _ c.send.new.bag c.host.view_is
+    (rewritten c.host.inside _ c.args.endpoint c.in_ok-at.at _ _ c.index-deref-at.result c.index-deref_mut-at.result c.quit.new.self tables
+    c.host.view_is c.in_ok-at.ensures c.deref.ensures.0 c.deref_mut.ensures.value c.quit.ensures)
+    (refl)
+    (quit_done c.host.inside c.args.endpoint c.args.pasid _ c.in_ok-marker.marker c.send.new.bag is c.in_ok-marker.ensures c.in_ok-send.ensures.sends)
+
+pub port-requires : goal.port-requires
+port-requires c = tt
+
+pub branch-at-requires : goal.branch-at-requires
+branch-at-requires c κs = (none_in _, none_in _)
+
+pub from_residual-requires : goal.from_residual-requires
+from_residual-requires c κs = (none_in _, (none_in _, none_in _))
+
+pub returns-in_err-at : goal.returns-in_err-at
+returns-in_err-at c =
+    kept _ _ (step.Quit c.args.endpoint c.args.pasid) _ _ refl c.from_residual.ensures
+    (quit_nowhere c.args.host.now c.args.endpoint c.args.pasid _ c.in_err-at.ensures)
+
+pub deref-requires : goal.deref-requires
+deref-requires c = omega arith
+
+pub offset_bounds-deref-at : goal.offset_bounds-deref-at
+offset_bounds-deref-at c =
+    let there = within c.host.inside _ c.args.endpoint c.in_ok-at.at _ c.host.invariant c.host.view_is c.in_ok-at.ensures c.deref.ensures.0 in
+    omega (arith, there, c.deref.type_inv)
+
+pub bounds-deref-at : goal.bounds-deref-at
+bounds-deref-at c = within c.host.inside _ c.args.endpoint c.in_ok-at.at _ c.host.invariant c.host.view_is c.in_ok-at.ensures c.deref.ensures.0
+
+pub may_quit-requires : goal.may_quit-requires
+may_quit-requires c = tt
+
+pub branch-marker-requires : goal.branch-marker-requires
+branch-marker-requires c κs = (none_in _, none_in _)
+
+pub from_residual-requires-in_err-marker : goal.from_residual-requires-in_err-marker
+from_residual-requires-in_err-marker c κs = (none_in _, (none_in _, none_in _))
+
+pub send-requires-clause-at_least_one : goal.send-requires-clause-at_least_one
+send-requires-clause-at_least_one c = omega arith
+
+pub send-requires-clause-at_most_eight : goal.send-requires-clause-at_most_eight
+send-requires-clause-at_most_eight c = omega arith
+
+pub branch-send-requires : goal.branch-send-requires
+branch-send-requires c κs = (none_in _, none_in _)
+
+pub from_residual-requires-in_err-send : goal.from_residual-requires-in_err-send
+from_residual-requires-in_err-send c κs = (none_in _, (none_in _, none_in _))
+
+pub invariant_of-host : goal.invariant_of-host
+invariant_of-host c = record { sound = c.host.invariant.sound; staged = c.host.invariant.staged }
+
+pub deref_mut-requires : goal.deref_mut-requires
+deref_mut-requires c = omega arith
+
+pub offset_bounds-deref_mut-at : goal.offset_bounds-deref_mut-at
+offset_bounds-deref_mut-at c =
+    let there = within c.host.inside _ c.args.endpoint c.in_ok-at.at _ c.host.invariant c.host.view_is c.in_ok-at.ensures c.deref_mut.ensures.value in
+    omega (arith, there, c.deref_mut.ensures.fits)
+
+pub bounds-deref_mut-at : goal.bounds-deref_mut-at
+bounds-deref_mut-at c = within c.host.inside _ c.args.endpoint c.in_ok-at.at _ c.host.invariant c.host.view_is c.in_ok-at.ensures c.deref_mut.ensures.value
+
+pub quit-requires : goal.quit-requires
+quit-requires c =
+    ap (λ (p : Port). is_ok (quitting p.device c.args.pasid))
+    (same_port c.host.inside _ c.args.endpoint c.in_ok-at.at _ _ c.index-deref-at.result c.index-deref_mut-at.result c.host.view_is
+    c.in_ok-at.ensures c.deref.ensures.0 c.deref_mut.ensures.value) ∙ ap is_ok (sym c.in_ok-marker.ensures)

@@ -1,0 +1,31 @@
+use Rattle.std.proofs.Common.{ap, ◌∙◌}
+use Rattle.std.specs.Prelude.{List, slice_index_or}
+use Rattle.sva_host_state.specs.declared.host_state.Port.{Port}
+use Rattle.sva_host_state.specs.Inner.{wire_of}
+use Rattle.sva_host_state.proofs.Ports.{port_found}
+use Rattle.sva_host_state.proofs.Units.{with_unit_host, unit_rewritten}
+use Rattle.sva_host_state.proofs.Waiting.{without_first, port_for, first_taken}
+use Rattle.sva_host_spaces.proofs.page_requests.take_request.Goals as goal
+
+pub invariant_of-host : goal.invariant_of-host
+invariant_of-host c =
+    let is = port_found c.host.inside _ c.args.endpoint c.args.endpoint c.deref_mut.result.now c.index-deref_mut-endpoint.result c.host.invariant
+    c.host.view_is (port_for c.args.host.now c.args.endpoint c.requires) c.deref_mut.ensures.value in
+    with_unit_host c.host.inside _ c.args.endpoint (slice_index_or c.deref_mut.result.now c.args.endpoint c.index-deref_mut-endpoint.result) _
+    c.host.invariant is.sound
+    (unit_rewritten c.host.inside _ c.args.endpoint c.args.endpoint c.deref_mut.result.now c.deref_mut.result.now c.index-deref_mut-endpoint.result
+    c.index-deref_mut-endpoint.result c.take_request-request.new.self without_first
+    c.host.view_is (port_for c.args.host.now c.args.endpoint c.requires) c.deref_mut.ensures.value c.deref_mut.ensures.value
+    c.take_request-request.ensures.rest) c.host.invariant.staged
+
+pub returns : goal.returns
+returns c =
+    let is = port_found c.host.inside _ c.args.endpoint c.args.endpoint c.deref_mut.result.now c.index-deref_mut-endpoint.result c.host.invariant
+    c.host.view_is (port_for c.args.host.now c.args.endpoint c.requires) c.deref_mut.ensures.value in
+    ap (λ (ports : List Port). wire_of (record c.host.inside { ports = record { items = ports } }))
+    (unit_rewritten c.host.inside _ c.args.endpoint c.args.endpoint c.deref_mut.result.now c.deref_mut.result.now c.index-deref_mut-endpoint.result
+    c.index-deref_mut-endpoint.result c.take_request-request.new.self without_first
+    c.host.view_is (port_for c.args.host.now c.args.endpoint c.requires) c.deref_mut.ensures.value c.deref_mut.ensures.value
+    c.take_request-request.ensures.rest)
+    ∙ first_taken c.host.inside _ c.args.endpoint (slice_index_or c.deref_mut.result.now c.args.endpoint c.index-deref_mut-endpoint.result)
+    c.host.view_is is

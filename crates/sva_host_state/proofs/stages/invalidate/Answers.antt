@@ -1,0 +1,12 @@
+use Rattle.std.proofs.Common.{ap, subst, ℕ}
+use Rattle.sva_model.specs.Wire.StageWire.{InvalidatingWire}
+use Rattle.sva_pasid.specs.States.{Wait}
+use Rattle.sva_pasid.specs.declared.stages.Stage.TheVariants.{Invalidating}
+use Rattle.sva_host_state.specs.Stages.{MovesTo}
+use Rattle.sva_host_state.proofs.Moving.{moves_to}
+use Rattle.sva_host_state.proofs.stages.invalidate.Goals as goal
+
+pub returns : goal.returns
+returns c =
+    subst (λ (k : ℕ). MovesTo (InvalidatingWire k) c.args.binding c.args.bindings.now c.put.new.self) (ap (λ (w : Wait). w.cookie) c.in-Ok.ensures.ok.2)
+    (moves_to c.args.binding c.args.bindings.now c.take.new.self c.put.new.self (Invalidating c.in-Ok.invalidating) c.take.ensures.places c.put.ensures)

@@ -1,0 +1,14 @@
+pub use Rattle.sva_parts_by_labels.specs.Bindings
+pub use Rattle.sva_parts_by_labels.specs.Flights
+pub use Rattle.sva_parts_by_labels.specs.JobTable
+pub use Rattle.sva_address_spaces.specs.Seen
+pub mod Steps
+pub mod Inner
+pub mod Unmapping
+pub mod Arriving
+pub mod Heads
+pub mod Stages
+pub mod Unbinding
+pub mod Replying
+pub mod Advancing
+pub mod StageReading

@@ -1,0 +1,28 @@
+-- The stages of bindings in their places: which one stands there, and what a move of it leaves.
+use Rattle.std.specs.Prelude.{◌≡◌, ℕ, IsSomeAnd, List}
+use Rattle.sva_model.specs.Wire.{StageWire}
+use Rattle.sva_labels.specs.Moves.{with_stage, without_binding}
+use Rattle.sva_pasid.specs.Moves.{Kind, kind_of_stage}
+use Rattle.sva_pasid.specs.Places.{stage_of}
+use Rattle.sva_pasid.specs.declared.places.TableEntry.{TableEntry}
+use Rattle.sva_pasid.specs.declared.stages.Stage.{Stage}
+use Rattle.sva_parts_by_labels.specs.Bindings.{stage_seen, bindings_seen}
+use Rattle.sva_host_state.specs.Inner.{AreStaged}
+
+-- a stage of this kind stands in the place of a binding
+abbrev pub IsIn : Kind → (binding : ℕ) → List TableEntry → Type 0
+IsIn kind binding places = IsSomeAnd (stage_of binding places) (λ (stage : Stage). kind_of_stage stage ≡ kind)
+
+-- one that is seen so stands there
+abbrev pub IsSeenIn : StageWire → (binding : ℕ) → List TableEntry → Type 0
+IsSeenIn seen binding places = IsSomeAnd (stage_of binding places) (λ (stage : Stage). stage_seen stage ≡ seen)
+
+-- a binding is at another stage, and nothing else has changed
+pub record MovesTo (stage : StageWire) (binding : ℕ) (before after : List TableEntry) : Type 0 where
+  pub seen : bindings_seen after ≡ with_stage binding stage (bindings_seen before)
+  pub staged : AreStaged before → AreStaged after
+
+-- a binding is gone, and nothing else has changed
+pub record Goes (binding : ℕ) (before after : List TableEntry) : Type 0 where
+  pub seen : bindings_seen after ≡ without_binding binding (bindings_seen before)
+  pub staged : AreStaged before → AreStaged after

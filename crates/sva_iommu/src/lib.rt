@@ -1,0 +1,11 @@
+//! One remapping unit of the host: its invalidation queue with the ITags, and its page request queue, as the definitions by
+//! labels see them.
+#![tactic(auto)]
+
+mod orders;
+mod pumping;
+mod units;
+
+pub use pumping::{Next, Sending};
+pub use sva_msg::Extent;
+pub use units::RemappingUnit;

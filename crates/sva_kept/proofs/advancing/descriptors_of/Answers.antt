@@ -1,5 +1,0 @@
-use Rattle.std.proofs.Common.{rules}
-use Rattle.sva_kept.proofs.advancing.descriptors_of.Goals as goal
-
-pub returns-in-Some-Draining : goal.returns-in-Some-Draining
-returns-in-Some-Draining c = search rules

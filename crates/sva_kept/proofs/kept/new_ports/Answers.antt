@@ -1,5 +1,0 @@
-use Rattle.std.proofs.Common.{rules}
-use Rattle.sva_kept.proofs.kept.new_ports.Goals as goal
-
-pub loop-number-init : goal.loop-number-init
-loop-number-init c = search rules

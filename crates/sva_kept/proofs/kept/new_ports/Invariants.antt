@@ -1,6 +1,0 @@
-use Rattle.std.proofs.Common.{◌≡◌, replicate}
-use Rattle.sva_kept.specs.Inner.{new_port}
-use Rattle.sva_kept.proofs.kept.new_ports.Given as goal
-
-abbrev pub invariant-loop-number : goal.invariant-loop-number
-invariant-loop-number l = l.ports.items ≡ replicate l._number new_port

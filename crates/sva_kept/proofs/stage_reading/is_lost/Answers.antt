@@ -1,5 +1,0 @@
-use Rattle.std.proofs.Common.{rules}
-use Rattle.sva_kept.proofs.stage_reading.is_lost.Goals as goal
-
-pub returns-in-Some-Lost : goal.returns-in-Some-Lost
-returns-in-Some-Lost c = search rules

@@ -1,5 +1,0 @@
-use Rattle.sva_labels.proofs.Sounds.{always_sound}
-use Rattle.sva_labels.proofs.always_sound.Goals as goal
-
-pub returns : goal.returns
-returns c = always_sound

@@ -1,0 +1,5 @@
+pub mod Tests
+pub mod Words
+pub mod Counting
+pub mod Lists
+pub mod Steps

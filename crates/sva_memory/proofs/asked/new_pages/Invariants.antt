@@ -1,8 +1,0 @@
-use Rattle.std.proofs.Common.{◌≡◌, take}
-use Rattle.sva_memory.specs.Seen.{pages_seen}
-use Rattle.sva_memory.specs.Asked.{asks_seen, new_among}
-use Rattle.sva_memory.proofs.asked.new_pages.Given as goal
-
--- those that the requests so far ask for
-abbrev pub invariant-loop-ask : goal.invariant-loop-ask
-invariant-loop-ask l = l.pages.items ≡ new_among (pages_seen l.space) (asks_seen (take l.ask-index l.asks))

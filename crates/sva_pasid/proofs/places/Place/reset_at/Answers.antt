@@ -1,5 +1,0 @@
-use Rattle.std.proofs.Common.{rules}
-use Rattle.sva_pasid.proofs.places.Place.reset_at.Goals as goal
-
-pub returns-in-None : goal.returns-in-None
-returns-in-None c = search rules

@@ -1,0 +1,3 @@
+pub mod Refinement
+pub mod Found
+pub mod Tallies

@@ -1,0 +1,39 @@
+//! The law that labels are names: each step by numbers and labels is the step of the definitions, and what a host keeps is as the
+//! calls of its parts need it, after every list of steps.
+#![tactic(auto)]
+
+ghost use Rattle.sva_refinement.specs.Refinement.{LabelsAreNames, RunsByLabels, AlwaysSound, AlwaysHaveSpaces};
+ghost use Rattle.sva_refinement.specs.Found.{SpacesFound, PagesFound, FramesFound};
+ghost use Rattle.sva_refinement.specs.Tallies.{AlwaysTallied};
+
+/// By the rule of one PASID for each space: at each world that a list of steps leads to, each step by labels answers what the
+/// step by names answers, and leaves what the next world is seen as. So a list of steps by labels, from what a host keeps
+/// before the first step, gives the answers of the definitions, and ends with what the last world is seen as.
+pub fn steps_by_labels()
+    ensures by_labels { LabelsAreNames }
+    ensures runs { RunsByLabels }
+{}
+
+/// What a host keeps, looked up by number, is what the definitions find, at each world that a list of steps leads to: the
+/// pages of a live space, what stands at one of its pages, and the lowest frame that is free.
+pub fn found_by_number()
+    ensures spaces { SpacesFound }
+    ensures pages { PagesFound }
+    ensures frames { FramesFound }
+{}
+
+/// What a host keeps, at each world that a list of steps leads to, is as the calls of the parts need it.
+pub fn always_sound()
+    ensures { AlwaysSound }
+{}
+
+/// The space of each binding is there, at each world that a list of steps leads to: a space that is bound isn't dropped.
+pub fn bindings_have_spaces()
+    ensures { AlwaysHaveSpaces }
+{}
+
+/// How many bindings are unreleased, and how many use slots are taken: a step changes these by what its answer says, and by
+/// no more.
+pub fn always_tallied()
+    ensures { AlwaysTallied }
+{}

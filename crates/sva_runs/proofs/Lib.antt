@@ -1,0 +1,2 @@
+pub mod FullSpace
+pub mod Computed

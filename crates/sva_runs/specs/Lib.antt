@@ -1,0 +1,9 @@
+pub mod RunsOfRefusals
+pub mod RunsOfDeliveries
+pub mod RunsOfReadings
+pub mod RunsOfNames
+pub mod RunsOfBoundaries
+pub mod RunsOfWrongRules
+pub mod RunsOfWhatStays
+pub mod RunsOfAnswers
+pub mod ByLabels

@@ -1,7 +1,0 @@
-use Rattle.std.proofs.Common.{ap, ◌∙◌}
-use Rattle.sva_prq.specs.Groups.{is_open}
-use Rattle.sva_service.specs.Service.{Service}
-use Rattle.sva_service.proofs.service.Service.open_of.Goals as goal
-
-pub returns : goal.returns
-returns c = c.open_of.ensures ∙ ap (λ (s : Service). is_open c.args.binding s.groups) c.self.view_is

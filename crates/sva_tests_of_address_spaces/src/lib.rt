@@ -1,0 +1,10 @@
+//! The tests of the memory of a host and of its remapping units, by public functions alone. `sva_tests_of_words` says why they stand in a
+//! crate of their own.
+#![tactic(auto)]
+
+#[cfg(test)]
+mod asserted;
+#[cfg(test)]
+mod memories;
+#[cfg(test)]
+mod units;

@@ -1,0 +1,535 @@
+//! Runs of calls of a whole endpoint.
+
+use crate::asserted::holds;
+use std::process::Abort;
+use sva_endpoint::{Asking, Endpoint, Fault, Faulting, Finishing, Using};
+use sva_itags::Count;
+use sva_msg::{Code, CountField, Kind, Message, PageRequest, Scope};
+use sva_step::{Answer, Refusal};
+
+/// A message to the endpoint.
+#[derive(Clone, Copy)]
+enum Down {
+    Start,
+    Stop,
+    Reset,
+    /// The tag, the frame, and whether the page may be read and written.
+    Completion(u8, u32, bool, bool),
+    /// The ITag, the PASID and the pages.
+    Invalidate(u8, u32, Scope),
+    /// The index and the code.
+    Response(u8, Code),
+}
+
+/// What the endpoint answers to a message.
+#[derive(Clone, Copy)]
+enum Told {
+    Started,
+    Stopping,
+    Reset,
+    NoTranslation,
+    Full,
+    Held,
+    Dropped,
+    Taken,
+    Answered,
+    Stale,
+}
+
+/// What an endpoint is asked for.
+#[derive(Clone, Copy)]
+enum Try {
+    /// A PASID and a page.
+    Ask(u64, u64),
+    /// A page, and whether it is to be written.
+    Use(u64, bool),
+    End(u64),
+    Evict(u64),
+    /// The group that goes on; none where a new one begins.
+    Send(Option<u64>),
+    /// The vector, and how many completions.
+    Finish(u32, u64),
+    Quit,
+}
+
+/// A step of an endpoint, and what it has to answer. Where none is named, the PASID is 1.
+#[derive(Clone, Copy)]
+enum Call {
+    Tell(Down, Told),
+    Refused(Try, Refusal),
+    Permitted(Try),
+    /// A page, and the tag of the request.
+    Ask(u64, u8),
+    /// So many requests for page 16, with the tags from 0 on.
+    AskEach(u8),
+    /// A page is asked for, and held with this frame.
+    Hold(u64, u32),
+    /// The pages from 0 on, so many, are held with frame 9.
+    HoldEach(u64),
+    /// A page, whether it is to be written, and the slot and the frame of the use.
+    Use(u64, bool, Using),
+    /// So many reads of page 16, which has frame 3, in the slots from 0 on.
+    UseEach(u8),
+    /// A slot, and whether its use was dead.
+    End(u64, bool),
+    Evict(u64),
+    /// A page, the group, whether this is its last request, and its index.
+    Send(u64, Option<u64>, bool, u8),
+    /// So many requests of the group of index 0, which the first begins and none ends.
+    SendEach(u8),
+    /// So many groups of one request, with the indices from 0 on.
+    GroupEach(u8),
+    /// The vector, so many completions, and the Completion Count field of each.
+    Finish(u32, u8, u8),
+    Quit,
+}
+
+fn kind_of(down: Down) -> Kind {
+    match down {
+        Down::Start => Kind::Start { pasid: 1 },
+        Down::Stop => Kind::Stop { pasid: 1 },
+        Down::Reset => Kind::Reset,
+        Down::Completion(tag, frame, read, write) => Kind::Completion {
+            tag,
+            frame,
+            read,
+            write,
+        },
+        Down::Invalidate(itag, pasid, scope) => Kind::Invalidate { itag, pasid, scope },
+        Down::Response(index, code) => Kind::Response {
+            pasid: 1,
+            index,
+            code,
+        },
+    }
+}
+
+fn answer_of(told: Told) -> Answer {
+    match told {
+        Told::Started => Answer::Started,
+        Told::Stopping => Answer::Stopping,
+        Told::Reset => Answer::Reset,
+        Told::NoTranslation => Answer::NoTranslation,
+        Told::Full => Answer::Full,
+        Told::Held => Answer::Held,
+        Told::Dropped => Answer::Dropped,
+        Told::Taken => Answer::Taken,
+        Told::Answered => Answer::Answered,
+        Told::Stale => Answer::Stale,
+    }
+}
+
+/// Whether the endpoint answers so to a message.
+fn tells(endpoint: &mut Endpoint, down: Down, told: Told) -> bool {
+    let kind = kind_of(down);
+    endpoint.receive(Message { endpoint: 0, kind }).answer == answer_of(told)
+}
+
+/// A request of group `group` for page 32.
+fn fault_of(group: Option<u64>) -> Fault {
+    Fault {
+        pasid: 1,
+        page: 32,
+        read: true,
+        write: true,
+        group,
+        last: true,
+    }
+}
+
+/// Why the endpoint doesn't do what it is asked for; none where it may.
+fn refusal(endpoint: &Endpoint, asked: Try) -> Option<Refusal> {
+    match asked {
+        Try::Ask(pasid, page) => endpoint.may_ask(pasid, page).err(),
+        Try::Use(page, write) => endpoint.may_begin_use(1, page, write).err(),
+        Try::End(slot) => endpoint.may_end_use(slot).err(),
+        Try::Evict(page) => endpoint.may_evict(1, page).err(),
+        Try::Send(group) => endpoint.may_fault(&fault_of(group)).err(),
+        Try::Finish(vector, count) => endpoint.may_finish(vector, count).err(),
+        Try::Quit => endpoint.may_quit(1).err(),
+    }
+}
+
+/// The tag of a request for a page, if it may be sent, and as the test of the step said it.
+fn ask(endpoint: &mut Endpoint, page: u64) -> Option<u8> {
+    let asking = endpoint.may_ask(1, page);
+    if asking.is_err() {
+        return None;
+    }
+    let tag = endpoint.ask(1, page);
+    let kind = Kind::Request {
+        tag,
+        pasid: 1,
+        page,
+    };
+    if asking == Ok(Asking { tag, kind }) {
+        Some(tag)
+    } else {
+        None
+    }
+}
+
+fn ask_each(endpoint: &mut Endpoint, requests: u8) -> bool {
+    for tag in 0..requests {
+        if ask(endpoint, 16) != Some(tag) {
+            return false;
+        }
+    }
+    true
+}
+
+fn hold(endpoint: &mut Endpoint, page: u64, frame: u32) -> bool {
+    match ask(endpoint, page) {
+        Some(tag) => tells(
+            endpoint,
+            Down::Completion(tag, frame, true, true),
+            Told::Held,
+        ),
+        None => false,
+    }
+}
+
+fn hold_each(endpoint: &mut Endpoint, pages: u64) -> bool {
+    for page in 0..pages {
+        if !hold(endpoint, page, 9) {
+            return false;
+        }
+    }
+    true
+}
+
+/// Whether a use may begin, and does, in this slot and with this frame.
+fn begins(endpoint: &mut Endpoint, page: u64, write: bool, begun: Using) -> bool {
+    let using = endpoint.may_begin_use(1, page, write);
+    using.is_ok() && endpoint.begin_use(1, page, write) == begun && using == Ok(begun)
+}
+
+fn begin_each(endpoint: &mut Endpoint, uses: u8) -> bool {
+    for slot in 0..uses {
+        if !begins(endpoint, 16, false, Using { slot, frame: 3 }) {
+            return false;
+        }
+    }
+    true
+}
+
+/// Ends a use, if there is one, and tells whether it was dead or not, as wanted.
+fn ends(endpoint: &mut Endpoint, slot: u64, is_dead: bool) -> bool {
+    let ending = endpoint.may_end_use(slot);
+    if ending.is_err() {
+        return false;
+    }
+    endpoint.end_use(slot);
+    matches!(ending, Ok(Answer::Dead)) == is_dead
+}
+
+fn evicts(endpoint: &mut Endpoint, page: u64) -> bool {
+    if endpoint.may_evict(1, page).is_err() {
+        return false;
+    }
+    endpoint.evict(1, page);
+    true
+}
+
+/// The index of a page request, if it may be sent, and as the test of the step said it.
+fn send(endpoint: &mut Endpoint, page: u64, group: Option<u64>, last: bool) -> Option<u8> {
+    let fault = Fault {
+        pasid: 1,
+        page,
+        read: true,
+        write: false,
+        group,
+        last,
+    };
+    let faulting = endpoint.may_fault(&fault);
+    if faulting.is_err() {
+        return None;
+    }
+    let index = endpoint.fault(&fault);
+    let request = PageRequest {
+        pasid: 1,
+        index,
+        page,
+        read: true,
+        write: false,
+        last,
+    };
+    let kind = Kind::PageRequest(request);
+    if faulting == Ok(Faulting { index, kind }) {
+        Some(index)
+    } else {
+        None
+    }
+}
+
+fn send_each(endpoint: &mut Endpoint, requests: u8) -> bool {
+    let mut group = None;
+    for _request in 0..requests {
+        if send(endpoint, 32, group, false) != Some(0) {
+            return false;
+        }
+        group = Some(0);
+    }
+    true
+}
+
+fn group_each(endpoint: &mut Endpoint, groups: u8) -> bool {
+    for index in 0..groups {
+        if send(endpoint, 32, None, true) != Some(index) {
+            return false;
+        }
+    }
+    true
+}
+
+/// Completes what the vector names by so many completions, if it may, and as the test of the step said it.
+fn finishes(endpoint: &mut Endpoint, vector: u32, count: u8, field: u8) -> bool {
+    let finishing = endpoint.may_finish(vector, u64::from(count));
+    if finishing.is_err() || count == 0 || count > 8 || field > 7 {
+        return false;
+    }
+    endpoint.finish(vector, u64::from(count));
+    let kind = Kind::Invalidated {
+        vector,
+        count: CountField::new(field),
+    };
+    let count = Count::new(count);
+    finishing == Ok(Finishing { count, kind })
+}
+
+fn quits(endpoint: &mut Endpoint) -> bool {
+    let quitting = endpoint.may_quit(1);
+    if quitting.is_err() {
+        return false;
+    }
+    endpoint.quit(1);
+    quitting == Ok(Kind::Marker { pasid: 1 })
+}
+
+/// Makes a call of requests, or another one, and tells whether it answers as it has to.
+fn answers(endpoint: &mut Endpoint, call: Call) -> bool {
+    match call {
+        Call::Tell(down, told) => tells(endpoint, down, told),
+        Call::Refused(asked, why) => refusal(endpoint, asked) == Some(why),
+        Call::Permitted(asked) => refusal(endpoint, asked).is_none(),
+        Call::Ask(page, tag) => ask(endpoint, page) == Some(tag),
+        Call::AskEach(requests) => ask_each(endpoint, requests),
+        Call::Hold(page, frame) => hold(endpoint, page, frame),
+        Call::HoldEach(pages) => hold_each(endpoint, pages),
+        _other => answers_other(endpoint, call),
+    }
+}
+
+fn answers_other(endpoint: &mut Endpoint, call: Call) -> bool {
+    match call {
+        Call::Use(page, write, begun) => begins(endpoint, page, write, begun),
+        Call::UseEach(uses) => begin_each(endpoint, uses),
+        Call::End(slot, is_dead) => ends(endpoint, slot, is_dead),
+        Call::Evict(page) => evicts(endpoint, page),
+        Call::Send(page, group, last, index) => send(endpoint, page, group, last) == Some(index),
+        Call::SendEach(requests) => send_each(endpoint, requests),
+        Call::GroupEach(groups) => group_each(endpoint, groups),
+        Call::Finish(vector, count, field) => finishes(endpoint, vector, count, field),
+        Call::Quit => quits(endpoint),
+        _request => false,
+    }
+}
+
+/// Makes the calls one after another.
+fn make(rt: &impl Abort, endpoint: &mut Endpoint, what: &str, calls: &[Call]) {
+    for place in 0..calls.len() {
+        holds(rt, answers(endpoint, calls[place]), what, place);
+    }
+}
+
+/// Makes the calls at an endpoint at which PASID 1 has started.
+fn run(rt: &impl Abort, what: &str, calls: &[Call]) {
+    let mut endpoint = Endpoint::new();
+    assert!(rt; tells(&mut endpoint, Down::Start, Told::Started));
+    make(rt, &mut endpoint, what, calls);
+}
+
+const PAGE_16: Down = Down::Invalidate(0, 1, Scope::Code { page: 16, s: false });
+
+const THIRTY_TWO_TAGS: [Call; 9] = [
+    Call::Refused(Try::Ask(1, 1 << 36), Refusal::PageRange),
+    Call::Refused(Try::Ask(0, 16), Refusal::NotStarted),
+    Call::Refused(Try::Ask(33, 16), Refusal::NotStarted),
+    Call::Refused(Try::Ask(u64::MAX, 16), Refusal::NotStarted),
+    Call::AskEach(32),
+    Call::Refused(Try::Ask(1, 16), Refusal::NoTag),
+    Call::Tell(Down::Completion(7, 0, false, false), Told::NoTranslation),
+    Call::Tell(Down::Completion(7, 0, false, false), Told::Dropped),
+    Call::Ask(16, 7),
+];
+
+const SIXTY_FOUR_PAGES: [Call; 10] = [
+    Call::HoldEach(64),
+    Call::Ask(64, 0),
+    Call::Tell(Down::Completion(0, 5, true, true), Told::Full),
+    Call::Refused(Try::Use(64, false), Refusal::NotHeld),
+    Call::Ask(5, 0),
+    Call::Tell(Down::Completion(0, 77, true, true), Told::Held),
+    Call::Use(5, true, Using { slot: 0, frame: 77 }),
+    Call::Evict(63),
+    Call::Refused(Try::Evict(63), Refusal::NotHeld),
+    Call::Hold(64, 6),
+];
+
+const SIXTEEN_SLOTS: [Call; 9] = [
+    Call::Ask(16, 0),
+    Call::Tell(Down::Completion(0, 3, true, false), Told::Held),
+    Call::Refused(Try::Use(16, true), Refusal::ReadOnly),
+    Call::UseEach(16),
+    Call::Refused(Try::Use(16, false), Refusal::NoUseSlot),
+    Call::End(4, false),
+    Call::Refused(Try::End(4), Refusal::NoSuchUse),
+    Call::Refused(Try::End(16), Refusal::NoSuchUse),
+    Call::Use(16, false, Using { slot: 4, frame: 3 }),
+];
+
+const THIRTY_TWO_REQUESTS: [Call; 6] = [
+    Call::SendEach(31),
+    Call::Send(32, Some(0), true, 0),
+    Call::Refused(Try::Send(None), Refusal::NoCredit),
+    Call::Refused(Try::Send(Some(0)), Refusal::NoCredit),
+    Call::Tell(Down::Response(0, Code::Success), Told::Answered),
+    Call::Refused(Try::Send(Some(0)), Refusal::NoSuchGroup),
+];
+
+const THIRTY_TWO_GROUPS: [Call; 9] = [
+    Call::GroupEach(32),
+    Call::Refused(Try::Send(None), Refusal::NoCredit),
+    Call::Tell(Down::Response(9, Code::InvalidRequest), Told::Answered),
+    Call::Send(32, None, true, 9),
+    Call::Tell(Down::Response(2, Code::ResponseFailure), Told::Answered),
+    Call::Refused(Try::Send(None), Refusal::PriDisabled),
+    Call::Tell(Down::Reset, Told::Reset),
+    Call::Tell(Down::Start, Told::Started),
+    Call::Permitted(Try::Send(None)),
+];
+
+const LATE_ANSWER: [Call; 7] = [
+    Call::Ask(16, 0),
+    Call::Tell(PAGE_16, Told::Taken),
+    Call::Finish(1, 1, 1),
+    Call::Ask(17, 1),
+    Call::Tell(Down::Completion(0, 0, true, true), Told::Dropped),
+    Call::Refused(Try::Use(16, false), Refusal::NotHeld),
+    Call::Ask(16, 0),
+];
+
+const TWO_ANSWERS: [Call; 5] = [
+    Call::Ask(16, 0),
+    Call::Ask(16, 1),
+    Call::Tell(Down::Completion(1, 1, true, true), Told::Held),
+    Call::Tell(Down::Completion(0, 0, true, true), Told::Held),
+    Call::Use(16, true, Using { slot: 0, frame: 0 }),
+];
+
+/// A use that begins in the same slot afterwards isn't waited for.
+const USE_AND_INVALIDATION: [Call; 11] = [
+    Call::Hold(16, 3),
+    Call::Use(16, true, Using { slot: 0, frame: 3 }),
+    Call::Tell(PAGE_16, Told::Taken),
+    Call::Refused(Try::Use(16, false), Refusal::NotHeld),
+    Call::Refused(Try::Finish(1, 0), Refusal::InUse),
+    Call::End(0, false),
+    Call::Hold(16, 4),
+    Call::Use(16, true, Using { slot: 0, frame: 4 }),
+    Call::Refused(Try::Finish(1, 0), Refusal::BadCount),
+    Call::Refused(Try::Finish(1, 9), Refusal::BadCount),
+    Call::Finish(1, 8, 0),
+];
+
+const PAGE_18: Scope = Scope::Code { page: 18, s: false };
+
+const SEVERAL_ITAGS: [Call; 14] = [
+    Call::Hold(16, 3),
+    Call::Hold(17, 4),
+    Call::Tell(Down::Invalidate(0, 1, PAGE_18), Told::Taken),
+    Call::Tell(Down::Invalidate(1, 1, PAGE_18), Told::Taken),
+    Call::Tell(Down::Invalidate(3, 1, PAGE_18), Told::Taken),
+    Call::Refused(Try::Finish(0x0f, 2), Refusal::NotPending),
+    Call::Refused(Try::Finish(0, 2), Refusal::NotPending),
+    Call::Finish(0x0b, 2, 2),
+    Call::Refused(Try::Finish(8, 2), Refusal::NotPending),
+    Call::Tell(Down::Invalidate(31, 2, Scope::All), Told::Taken),
+    Call::Permitted(Try::Evict(16)),
+    Call::Tell(Down::Invalidate(30, 1, Scope::All), Told::Taken),
+    Call::Refused(Try::Evict(17), Refusal::NotHeld),
+    Call::Finish(0xc000_0000, 7, 7),
+];
+
+/// The code is that of the eight pages from 64 on.
+const RANGE_OF_PAGES: [Call; 6] = [
+    Call::Hold(70, 1),
+    Call::Hold(72, 2),
+    Call::Tell(
+        Down::Invalidate(0, 1, Scope::Code { page: 67, s: true }),
+        Told::Taken,
+    ),
+    Call::Refused(Try::Use(70, false), Refusal::NotHeld),
+    Call::Use(72, false, Using { slot: 0, frame: 2 }),
+    Call::Finish(1, 1, 1),
+];
+
+/// Neither the request nor the group of before the reset has its tag or index any more.
+const RESET: [Call; 16] = [
+    Call::Hold(16, 3),
+    Call::Use(16, true, Using { slot: 0, frame: 3 }),
+    Call::Ask(17, 0),
+    Call::Send(32, None, true, 0),
+    Call::Tell(Down::Invalidate(0, 1, PAGE_18), Told::Taken),
+    Call::Tell(Down::Reset, Told::Reset),
+    Call::Refused(Try::Ask(1, 17), Refusal::NotStarted),
+    Call::Refused(Try::Evict(16), Refusal::NotHeld),
+    Call::Refused(Try::Finish(1, 1), Refusal::NotPending),
+    Call::Tell(Down::Start, Told::Started),
+    Call::Ask(17, 0),
+    Call::Send(32, None, true, 0),
+    Call::Hold(16, 5),
+    Call::Use(16, true, Using { slot: 1, frame: 5 }),
+    Call::End(0, true),
+    Call::Use(16, true, Using { slot: 0, frame: 5 }),
+];
+
+const QUIT: [Call; 13] = [
+    Call::Refused(Try::Quit, Refusal::NotStopping),
+    Call::Send(32, None, false, 0),
+    Call::Tell(Down::Stop, Told::Stopping),
+    Call::Refused(Try::Quit, Refusal::Busy),
+    Call::Refused(Try::Send(None), Refusal::NotStarted),
+    Call::Send(33, Some(0), true, 0),
+    Call::Permitted(Try::Quit),
+    Call::Quit,
+    Call::Refused(Try::Quit, Refusal::NotStopping),
+    Call::Tell(Down::Start, Told::Started),
+    Call::Send(32, None, true, 1),
+    Call::Tell(Down::Response(0, Code::Success), Told::Stale),
+    Call::Send(32, None, true, 0),
+];
+
+/// What each run shows, and its calls.
+static RUNS: [(&str, &[Call]); 12] = [
+    ("request tags are 32", &THIRTY_TWO_TAGS),
+    ("the cache keeps 64", &SIXTY_FOUR_PAGES),
+    ("use slots are 16", &SIXTEEN_SLOTS),
+    ("page requests are 32", &THIRTY_TWO_REQUESTS),
+    ("groups are 32", &THIRTY_TWO_GROUPS),
+    ("a late answer is dropped", &LATE_ANSWER),
+    ("the answer that comes last is held", &TWO_ANSWERS),
+    ("a use holds an invalidation up", &USE_AND_INVALIDATION),
+    ("one vector names several", &SEVERAL_ITAGS),
+    ("an invalidation covers a range", &RANGE_OF_PAGES),
+    ("a reset leaves dead uses", &RESET),
+    ("a quit leaves stale groups", &QUIT),
+];
+
+#[test]
+fn answers_each_run_of_calls(rt: HostRuntime) {
+    for place in 0..RUNS.len() {
+        let (what, calls) = RUNS[place];
+        run(&rt, what, calls);
+    }
+}

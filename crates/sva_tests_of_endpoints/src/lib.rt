@@ -1,0 +1,14 @@
+//! The tests of what an endpoint keeps, by public functions alone: its cache, beside a plain one, its tables, and all of it together.
+//! `sva_tests_of_words` says why they stand in a crate of their own.
+#![tactic(auto)]
+
+#[cfg(test)]
+mod asserted;
+#[cfg(test)]
+mod caches;
+#[cfg(test)]
+mod endpoints;
+#[cfg(test)]
+mod plain;
+#[cfg(test)]
+mod tables;

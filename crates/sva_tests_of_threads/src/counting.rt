@@ -1,0 +1,33 @@
+//! Counts are told behind two steps, and are no call.
+
+use crate::worlds::{Tried, ends_so, map, takes};
+use std::process::Abort;
+use std::sync::Wait;
+use sva_fabric::{Audit, Fabric, Ledgers, Ports};
+use sva_step::{Answer, Step};
+
+pub(crate) fn counted<C: Ledgers, R: Wait + Abort>(
+    rt: &R,
+    fabric: &Fabric<C>,
+    ports: &mut Ports<C>,
+) {
+    let host = &mut ports.host;
+    takes(rt, fabric, host, Step::Space, Answer::Space { space: 0 });
+    takes(rt, fabric, host, map(16), Answer::Frame { frame: 0 });
+    let Ok(counts) = fabric.counts(rt, host) else {
+        panic!(rt; "they are told");
+    };
+    assert!(rt; (counts.free, counts.mapped, counts.withheld) == (3, 1, 0));
+    assert!(rt; host.calls() == 2);
+}
+
+#[test]
+fn counts_behind_two_steps(rt: HostRuntime) {
+    let audit = Audit {
+        calls: 2,
+        free: 3,
+        mapped: 1,
+        withheld: 0,
+    };
+    assert!(rt; ends_so(&rt, rt.alloc(), Tried::Counts, audit));
+}

@@ -1,5 +1,0 @@
-use Rattle.std.proofs.Common.{rules}
-use Rattle.sva_unit.proofs.units.Unit.is_wait_done.Goals as goal
-
-pub returns : goal.returns
-returns c = search rules

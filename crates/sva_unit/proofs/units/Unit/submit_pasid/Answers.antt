@@ -1,5 +1,0 @@
-use Rattle.std.proofs.Common.{rules}
-use Rattle.sva_unit.proofs.units.Unit.submit_pasid.Goals as goal
-
-pub returns : goal.returns
-returns c = search rules

@@ -1,8 +1,0 @@
-use Rattle.std.proofs.Common.{rules}
-use Rattle.sva_unit.proofs.units.Unit.take_request.Goals as goal
-
-pub returns-clause-first : goal.returns-clause-first
-returns-clause-first c = search rules
-
-pub returns-clause-rest : goal.returns-clause-rest
-returns-clause-rest c = search rules

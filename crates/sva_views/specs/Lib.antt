@@ -1,6 +1,0 @@
-pub mod Device
-pub mod DeviceLaws
-pub mod Bindings
-pub mod Flights
-pub mod Service
-pub mod ServiceLaws

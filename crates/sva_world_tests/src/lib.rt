@@ -1,9 +1,0 @@
-//! The tests of the world and of the text of scenarios, by public calls alone. `sva_word_tests` says why tests stand in a crate of their own.
-#![tactic(auto)]
-
-#[cfg(test)]
-mod lines;
-#[cfg(test)]
-mod texts;
-#[cfg(test)]
-mod worlds;

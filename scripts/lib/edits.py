@@ -1,0 +1,221 @@
+"""The edits that the prover has to refuse, as they stand in the repository, for scripts/more-edits and scripts/edits.
+
+An edit of crates/NAME/must-fail/ is a file EDIT.edit, as `rt ci` reads it: a line `file: PATH`, then pairs of lines `old: TEXT` and `new: TEXT`. Each
+old text stands once in its file. A line `# WORDS` says which rule it turns.
+
+Those of crates/NAME/more-edits/ stand together, all that turn src/X.rt in src/X.edits, and so those of specs/ and proofs/. Such a file begins with
+    file: src/X.rt
+    by: CRATE CRATE ..    if need be: the crates above that are to refuse its edits where the crate's own check doesn't, in the order in which they are tried
+and has a block for each edit:
+    # the rule that it turns, in a line of words
+    edit: NAME
+    old: TEXT
+    new: TEXT             one pair or more
+    file: PATH            if need be: the pairs behind it, up to the end of the block, are of this file; ../CRATE/PATH is one of another crate"""
+
+import functools
+import os
+import re
+
+ROOT = os.path.dirname(os.path.dirname(os.path.dirname(os.path.abspath(__file__))))
+PARTS = ("src", "specs", "proofs")
+# The crates and edits that the gate tries by scripts/more-edits.
+GATE = f"{ROOT}/.ci/more-edits"
+
+
+@functools.lru_cache(maxsize=None)
+def text_of(path):
+    with open(path, encoding="utf-8") as it:
+        return it.read()
+
+
+def lines_of(path):
+    """The lines of a file, without comments and empty ones."""
+    lines = (line.partition("#")[0].strip() for line in text_of(path).splitlines())
+    return [line for line in lines if line]
+
+
+@functools.lru_cache(maxsize=None)
+def uses():
+    """What each crate of the repository names, by crates.txt."""
+    found = {}
+    for line in lines_of(f"{ROOT}/crates.txt"):
+        head, _, names = line.partition(":")
+        found[head.split()[0]] = names.split()
+    return found
+
+
+def below(crate, named, found=None):
+    """The crates of the repository on which one stands, each once."""
+    found = [] if found is None else found
+    for name in named[crate]:
+        if name in named and name not in found:
+            found.append(name)
+            below(name, named, found)
+    return found
+
+
+class Edit:
+    """An edit: its rule, pairs of texts, each of a file, and the crates that judge it; and the function in which the last of them stands, if all are of
+    one file of code."""
+
+    def __init__(self, crate, name, rule, pairs, by=()):
+        self.crate, self.name, self.rule, self.pairs, self.by = crate, name, rule, pairs, list(by)
+        self.folder, self.file, self.function = f"{ROOT}/crates/{crate}", pairs[0][0] if pairs else "", None
+        if pairs and {file for file, _, _ in pairs} == {self.file} and self.file.startswith("src/"):
+            self.function = self.place(len(pairs) - 1, function_at)
+
+    def place(self, number, at):
+        """What `at` finds where the old text of a pair stands, or None where that doesn't stand in its file once."""
+        file, old, _ = self.pairs[number]
+        before = self.applied({}, self.pairs[:number])
+        whole = None if before is None or not old else before.get(file) or self.text(file)
+        return at(whole, whole.index(old) + len(old)) if whole and whole.count(old) == 1 else None
+
+    def text(self, file):
+        path = os.path.normpath(f"{self.folder}/{file}")
+        return text_of(path) if os.path.exists(path) else ""
+
+    def applied(self, texts, pairs=None):
+        """These texts of files with the edit's, or None where one of its old texts doesn't stand in its file once."""
+        texts = dict(texts)
+        for file, old, new in self.pairs if pairs is None else pairs:
+            text = texts.get(file, None) or self.text(file)
+            if not old or text.count(old) != 1:
+                return None
+            texts[file] = text.replace(old, new)
+        return texts
+
+    def turns(self):
+        """The names of what its pairs turn, each once: functions, or constants and types beside them, or definitions."""
+        found = {}
+        for number, (file, _, new) in enumerate(self.pairs):
+            is_code, made = file.endswith(".rt"), re.search(r"\bconst (\w+)", new)
+            kind, name = (is_code and self.place(number, function_at)) or (None, self.place(number, item_at if is_code else definition_at))
+            name = name or is_code and made and made.group(1)
+            if name:
+                found["::".join([kind, name] if kind else [*module_of(file), name])] = None
+        return list(found)
+
+    def is_of(self, told):
+        """Whether a name that the checker tells is that of the edit's function. A method stands there by its type, in whatever file its `impl` is."""
+        kind, name = self.function
+        parts = told.split("::")[1:]
+        return parts[-2:] == [kind, name] if kind is not None else parts == [*module_of(self.file), name]
+
+
+def module_of(file):
+    """The names of the module whose file this is."""
+    path = re.sub(r"^(\.\./\w+/)?(src|specs|proofs)/|\.\w+$", "", file)
+    return [it for it in path.split("/") if it not in ("lib", "main", "mod", "Lib")]
+
+
+def function_at(text, end):
+    """The function in whose text a place stands, or None: the type of its impl, if it has one (with the trait's name behind, as the checker writes it), and
+    its name. A function ends with a brace below its first letter, as `rt fmt` has it."""
+    kind, found, last = None, None, ""
+    for line in text[:end].splitlines():
+        if found and last == ("}" if found[0] is None else "    }"):
+            found = None
+        last = line
+        impl = re.match(r"impl\b(?:<.*?>)?\s+(?:([A-Z]\w*)(?:<.*?>)?\s+for\s+)?([A-Za-z]\w*)", line)
+        if impl:
+            kind = impl.group(2) + (impl.group(1) or "")
+        elif line.startswith("}"):
+            kind = None
+        name = re.match(r"\s*(?:pub(?:\([a-z]+\))?\s+)?(?:const\s+)?fn\s+(\w+)", line)
+        if name:
+            found = (kind if line[0] == " " else None), name.group(1)
+    return found
+
+
+def item_at(text, end):
+    """The constant or type in whose text a place stands, or None: the last whose first line is above."""
+    found = re.findall(r"^(?:pub(?:\([a-z]+\))?\s+)?(?:const|static|struct|enum)\s+(\w+)", text[: end], re.M)
+    return found[-1] if found else None
+
+
+def definition_at(text, end):
+    """The definition in whose text a place stands, or None: the last whose first line is above, each of which begins at the left edge."""
+    found = None
+    for line in text[:end].splitlines():
+        name = re.match(r"(?:(?:abbrev|pub|record|data|unfolding|unfoldable)\s+)*([^\s(){}:=]+)", line)
+        if name and not re.match(r"--|use\b|infix", line):
+            found = name.group(1)
+    return found
+
+
+def pairs_of(lines, file):
+    """The pairs of these lines, each with its file: that of the last `file:` above it."""
+    pairs = []
+    for line in lines:
+        word, _, text = line.partition(": ")
+        if word == "file":
+            file = text.strip()
+        elif word in ("old", "old:"):
+            pairs.append((file, text, ""))
+        elif word in ("new", "new:") and pairs:
+            pairs[-1] = (*pairs[-1][:2], text)
+    return pairs
+
+
+def word_of(lines, word):
+    """What stands behind a word in the first line that begins with it."""
+    return next((line[len(word) :].strip() for line in lines if line.startswith(word)), "")
+
+
+def files_below(folder, end):
+    return sorted(f"{at}/{it}" for at, _, files in os.walk(folder) for it in files if it.endswith(end))
+
+
+def must_fail(crate):
+    """The edits that `rt ci` tries."""
+    found = []
+    for path in files_below(f"{ROOT}/crates/{crate}/must-fail", ".edit"):
+        lines = text_of(path).splitlines()
+        found.append(Edit(crate, os.path.basename(path)[: -len(".edit")], word_of(lines, "#"), pairs_of(lines, "")))
+    return found
+
+
+def blocks_of(path):
+    """The lines of a file of more-edits/: of its head, and of each block, which begins with its line of words, or with its name where it has none."""
+    blocks, is_rule = [[]], False
+    for line in text_of(path).splitlines():
+        if line.startswith("# ") or line.startswith("edit:") and not is_rule:
+            blocks.append([])
+        is_rule = line.startswith("# ") or is_rule and not line.startswith("edit:")
+        blocks[-1].append(line)
+    return blocks
+
+
+def more_edits(crate):
+    """The edits of more-edits/."""
+    found = []
+    for path in files_below(f"{ROOT}/crates/{crate}/more-edits", ".edits"):
+        head, *blocks = blocks_of(path)
+        file, by = word_of(head, "file:"), word_of(head, "by:").split()
+        for lines in blocks:
+            found.append(Edit(crate, word_of(lines, "edit:"), word_of(lines, "#"), pairs_of(lines, file), by))
+    return found
+
+
+def once(crate):
+    """One edit of more-edits/ for each function of code that has none in must-fail/."""
+    found = {(it.file, it.function): None for it in must_fail(crate) if it.function}
+    for it in more_edits(crate):
+        if it.function:
+            found.setdefault((it.file, it.function), it)
+    return [it for it in found.values() if it]
+
+
+def named(names, is_once):
+    """The edits of more-edits/ that these names mean, by crates: CRATE means all of its edits (or those of `once`), CRATE/EDIT that one."""
+    found = {}
+    for name in names:
+        crate, _, edit = name.partition("/")
+        some = [it for it in more_edits(crate) if edit in ("", it.name)]
+        if not some:
+            raise LookupError(f"there is no edit {name}" if edit else f"{crate} has none")
+        some = once(crate) if is_once and not edit else some
+        found.setdefault(crate, []).extend(it for it in some if it.name not in [other.name for other in found[crate]])
+    return found

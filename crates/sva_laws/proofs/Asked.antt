@@ -35,7 +35,7 @@ use Rattle.sva_lemmas.proofs.Tests.{first_holds, second_holds, other_fails}
 
 -- What a list has.
 
-abbrev Has : List ℕ → ℕ → Type 0
+abbrev pub Has : List ℕ → ℕ → Type 0
 Has [] q = ⊥
 Has (x ∷ xs) q = (x ≡ q) ⊎ Has xs q
 
@@ -53,7 +53,7 @@ has_either [] ys q h = inr h
 has_either (x ∷ xs) ys q (inl e) = inl (inl e)
 has_either (x ∷ xs) ys q (inr h) = elim (has_either xs ys q h) [ inl a ↦ inl (inr a) | inr b ↦ inr b ]
 
-map_has : (f : ℕ → ℕ) (xs : List ℕ) (q : ℕ) → Has (map f xs) q → (x : ℕ) × Has xs x × (f x ≡ q)
+pub map_has : (f : ℕ → ℕ) (xs : List ℕ) (q : ℕ) → Has (map f xs) q → (x : ℕ) × Has xs x × (f x ≡ q)
 map_has f [] q h = absurd h
 map_has f (x ∷ xs) q (inl e) = (x, inl refl, e)
 map_has f (x ∷ xs) q (inr h) = let y = map_has f xs q h in (y.0, inr y.1, y.2)
@@ -63,7 +63,7 @@ has_map f [] x h = absurd h
 has_map f (y ∷ xs) x (inl e) = inl (ap f e)
 has_map f (y ∷ xs) x (inr h) = inr (has_map f xs x h)
 
-select_has : (n : ℕ) (p : ℕ → Bool) (k : ℕ) → Has (select n p) k → (k < n) × (p k ≡ true)
+pub select_has : (n : ℕ) (p : ℕ → Bool) (k : ℕ) → Has (select n p) k → (k < n) × (p k ≡ true)
 unfolding select
 select_has zero p k h = absurd h
 select_has (suc n) p k h = go (p n) refl (has_either (select n p) (if p n then n ∷ [] else []) k h) (λ z. select_has n p k z)
@@ -98,7 +98,7 @@ has_select (suc n) p k l t = go (ℕ_cases k n) (λ z. has_select n p k z t)
         has_second (select n p) (if p n then n ∷ [] else []) k (subst (λ b. Has (if b then n ∷ [] else []) k) (sym (sym (ap p e) ∙ t)) (inl (sym e)))
     go (inr ne) rest = has_first (select n p) (if p n then n ∷ [] else []) k (rest (omega (arith, l, ne)))
 
-any_has : (f : ℕ → Bool) (xs : List ℕ) → list_any f xs ≡ true → (x : ℕ) × Has xs x × (f x ≡ true)
+pub any_has : (f : ℕ → Bool) (xs : List ℕ) → list_any f xs ≡ true → (x : ℕ) × Has xs x × (f x ≡ true)
 any_has f [] h = absurd (cc)
 any_has f (x ∷ xs) h = go (f x) refl h (λ k. any_has f xs k)
   where
@@ -148,7 +148,7 @@ has_unseen seen (x ∷ qs) q h = go (seen x) refl h (λ k. has_unseen seen qs q 
 
 -- The page requests of a job.
 
-asked_is : (w : World) (j q : ℕ) → Has (map (job_part w j).asked_page (asks (job_part w j) (w.job j).group)) q → IsAskedFor w j q
+pub asked_is : (w : World) (j q : ℕ) → Has (map (job_part w j).asked_page (asks (job_part w j) (w.job j).group)) q → IsAskedFor w j q
 asked_is w j q h =
     let p = job_part w j in
     let is_of : ℕ → Bool = λ k. p.group_of (p.filing k) == (w.job j).group in
@@ -316,12 +316,12 @@ always_maps_asked rule config steps x j v count h hand =
 
 -- What a reply is answered.
 
-live_code : (b : Bool) (s : Stage) (v : Verdict) (code : Code) → response b s v ≡ Some code → (code ≡ SuccessCode) ⊎ (code ≡ FailureCode)
+pub live_code : (b : Bool) (s : Stage) (v : Verdict) (code : Code) → response b s v ≡ Some code → (code ≡ SuccessCode) ⊎ (code ≡ FailureCode)
     → (b ≡ true) × (s ≡ Live) × (code_of_verdict v ≡ code)
 live_code true Live v code h e = (refl, refl, cc)
 live_code b s v code h e = absurd (grind arith)
 
-success_of : (v : Verdict) → code_of_verdict v ≡ SuccessCode → v ≡ verdict_is.Success
+pub success_of : (v : Verdict) → code_of_verdict v ≡ SuccessCode → v ≡ verdict_is.Success
 success_of v h = grind arith
 
 failure_of : (v : Verdict) → code_of_verdict v ≡ FailureCode → v ≡ verdict_is.Failure

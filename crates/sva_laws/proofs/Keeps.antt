@@ -116,6 +116,7 @@ resets_more n m p a re =
       dead = re.dead;
       finished = re.finished;
       untaken = re.untaken;
+      enabled = re.enabled;
       lapsed = re.lapsed;
       unqueued = re.unqueued;
       unarrived = re.unarrived;

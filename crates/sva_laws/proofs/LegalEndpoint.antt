@@ -103,7 +103,7 @@ evict w e t q i h =
     ((is_less e w.config.endpoints h.0, ((the (p.held (Labels.cached p (Labels.bearer p t) q)), c.held), tt), tt), tt)
 
 -- where fewer than 32 page requests are outstanding, a group index is free: each group has a page request of its own
-index_free : (g : ℕ) (p : Endpoint) → Groups p → Bounds g p → nat_le 32 (Labels.outstanding p) ≡ false → (Labels.lowest_label 32 p.at_index == 32) ≡ false
+pub index_free : (g : ℕ) (p : Endpoint) → Groups p → Bounds g p → nat_le 32 (Labels.outstanding p) ≡ false → (Labels.lowest_label 32 p.at_index == 32) ≡ false
 index_free g p gr bo h = go (lowest_cases 32 (λ t. not (is_some (p.at_index t))))
   where
     full : ((j : ℕ) → j < 32 → not (is_some (p.at_index j)) ≡ false) → 32 ≤ Labels.outstanding p

@@ -25,11 +25,11 @@ use Rattle.sva_laws.proofs.Orders.{queued_not}
 use Rattle.sva_lemmas.proofs.Tests.{first_holds, is_less, second_holds}
 
 -- Pump: the head is the lowest order that is queued.
-record Head (p : Endpoint) : Type 0 where
-  queued : p.order_state (Labels.head p) ≡ Queued
-  lowest : (j : ℕ) → j < Labels.head p → p.order_state j ≢ Queued
+pub record Head (p : Endpoint) : Type 0 where
+  pub queued : p.order_state (Labels.head p) ≡ Queued
+  pub lowest : (j : ℕ) → j < Labels.head p → p.order_state j ≢ Queued
 
-head_is : (p : Endpoint) → not (any_below p.orders (λ k. is_queued (p.order_state k))) ≡ false → Head p
+pub head_is : (p : Endpoint) → not (any_below p.orders (λ k. is_queued (p.order_state k))) ≡ false → Head p
 head_is p h =
     let some = any_below-true p.orders (λ k. is_queued (p.order_state k)) (not-false (any_below p.orders (λ k. is_queued (p.order_state k))) h) in
     let low = lowest_below p.orders (λ k. is_queued (p.order_state k)) some.0 some.1 some.2 in
@@ -52,7 +52,7 @@ none_arrived p qu h r a =
     let back : is_arrived (p.page_request (p.arrival (p.arrived_as r))) ≡ is_arrived (p.page_request r) = ap (λ z. is_arrived (p.page_request z)) place.1 in
     absurd (cc (sym f ∙ back ∙ ap is_arrived a))
 
-wait_legal : (w : World) (e cookie : ℕ) (drain t : Bool) → Invariant w → e < w.config.endpoints → (w.part e).phase ≡ Open → Head (w.part e)
+pub wait_legal : (w : World) (e cookie : ℕ) (drain t : Bool) → Invariant w → e < w.config.endpoints → (w.part e).phase ≡ Open → Head (w.part e)
     → (w.part e).order (Labels.head (w.part e)) ≡ Wait cookie drain → may_pass (w.part e) drain ≡ t
     → LegalAll w (wait_outcome e (Labels.head (w.part e)) t).acts
 wait_legal w e cookie drain false i l ph hd o m = tt

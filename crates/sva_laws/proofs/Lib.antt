@@ -65,3 +65,10 @@ pub mod TargetsByUnit
 pub mod Untouched
 pub mod Places
 pub mod Asked
+pub mod Refused
+pub mod RefusedEndpoints
+pub mod RefusedWorkers
+pub mod InReset
+pub mod Bearers
+pub mod Given
+pub mod InOrder

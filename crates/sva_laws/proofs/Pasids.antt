@@ -26,7 +26,7 @@ pub record IsPasidRule (rule : PasidRule) : Type 0 where
 
 -- The lowest PASID that passes, and where none does.
 
-lowest_is : (p : ℕ → Bool) (t : ℕ) → Labels.lowest_pasid p ≡ Some t → (0 < t) × (t ≤ 32) × (p t ≡ true)
+pub lowest_is : (p : ℕ → Bool) (t : ℕ) → Labels.lowest_pasid p ≡ Some t → (0 < t) × (t ≤ 32) × (p t ≡ true)
 lowest_is p t h = go (find 32 (λ k. p (suc k))) refl h
   where
     go : (o : Option ℕ) → find 32 (λ k. p (suc k)) ≡ o → option_map suc o ≡ Some t → (0 < t) × (t ≤ 32) × (p t ≡ true)
@@ -36,7 +36,7 @@ lowest_is p t h = go (find 32 (λ k. p (suc k))) refl h
         let same : suc k ≡ t = cc in
         (omega arith, omega (arith, f.0), sym (ap p same) ∙ f.1)
 
-none_lowest : (p : ℕ → Bool) (t : ℕ) → Labels.lowest_pasid p ≡ None → 0 < t → t ≤ 32 → p t ≢ true
+pub none_lowest : (p : ℕ → Bool) (t : ℕ) → Labels.lowest_pasid p ≡ None → 0 < t → t ≤ 32 → p t ≢ true
 none_lowest p (suc k) h pos low passes = absurd (cc (sym (ap (option_map suc) (find_some 32 (λ j. p (suc j)) k (omega arith) passes)) ∙ h))
 none_lowest p zero h pos low passes = absurd (omega arith)
 
@@ -55,7 +55,7 @@ per_endpoint =
 
 -- For each space over all endpoints.
 
-own_or_new : (a b : Option ℕ) (t : ℕ) → Labels.or_else a b ≡ Some t → (a ≡ Some t) ⊎ ((a ≡ None) × (b ≡ Some t))
+pub own_or_new : (a b : Option ℕ) (t : ℕ) → Labels.or_else a b ≡ Some t → (a ≡ Some t) ⊎ ((a ≡ None) × (b ≡ Some t))
 own_or_new None b t h = inr (refl, h)
 own_or_new (Some k) b t h = inl h
 
@@ -73,7 +73,7 @@ borne_is_its w s t r i h =
     }
 
 -- one that no space bears becomes the own one of a space that bears none
-new_is_its : (w : World) (s t : ℕ) → Invariant w → Labels.lowest_pasid (Labels.is_borne_by w s) ≡ None → not (Labels.is_borne w t) ≡ true → IsOf w.part s t
+pub new_is_its : (w : World) (s t : ℕ) → Invariant w → Labels.lowest_pasid (Labels.is_borne_by w s) ≡ None → not (Labels.is_borne w t) ≡ true → IsOf w.part s t
 new_is_its w s t i none new =
     record {
       its_space = λ e b u k. absurd

@@ -46,6 +46,7 @@ pub record Resets (n : ℕ) (p : Endpoint) : Type 0 where
   pub dead : (c u : ℕ) → p.phase ≡ Cleared c → p.use_state u ≢ Running
   pub finished : (c g : ℕ) → p.phase ≡ Cleared c → p.group g ≡ Closed
   pub untaken : (c k : ℕ) → p.phase ≡ Cleared c → is_taken (p.order_state k) ≡ false
+  pub enabled : (c : ℕ) → p.phase ≡ Cleared c → p.is_disabled ≡ false
   pub lapsed : (k : ℕ) → p.order_state k ≡ Lapsed → is_open p.phase ≡ false
   -- what a unit in reset keeps
   pub unqueued : (k : ℕ) → is_open p.phase ≡ false → p.order_state k ≢ Queued
@@ -75,6 +76,7 @@ every ms g n p o l re =
       dead = λ c u h. grind (arith, nat_tests, re.dead c u);
       finished = λ c x h. grind (arith, nat_tests, re.finished c x);
       untaken = λ c k h. grind (arith, nat_tests, re.untaken c k, re.no_invalidate c);
+      enabled = λ c h. grind (arith, nat_tests, re.enabled c, re.no_response c);
       lapsed = λ k h. grind (arith, nat_tests, re.lapsed k);
       unqueued = λ k h. grind (arith, nat_tests, re.unqueued k);
       unarrived = λ r h. grind (arith, nat_tests, re.unarrived r);

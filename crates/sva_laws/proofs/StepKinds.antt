@@ -64,6 +64,7 @@ IsBy w s e (LocalAct.Drain b cookie) a = cookie ≡ w.cookies
 IsBy w s e (LocalAct.Invalidate b cookie) a = cookie ≡ w.cookies
 IsBy w s e (LocalAct.Pass k) a = (s ≡ step.Pump e) × (a ≡ answer.WaitDone) × (Labels.head (w.part e) ≡ k)
 IsBy w s e LocalAct.Reset a = s ≡ step.Reset e
+IsBy w s e (LocalAct.Reset_arrives c) a = IsDelivery w s e c
 IsBy w s e (LocalAct.Keep c r m) a = is_full (w.part e) r ≡ false
 IsBy w s e (LocalAct.Answered c g code) a = IsDelivery w s e c
 IsBy w s e (LocalAct.Count c names) a = IsDelivery w s e c
@@ -178,7 +179,7 @@ marker_kind w s e c b false d = calm refl
 subject_kind : (w : World) (s : Step) (e c : ℕ) (x : Subject) → IsDelivery w s e c → Kind w s (plain (subject_outcome w (w.part e) e c x))
 subject_kind w s e c (StartOf b) d = calm refl
 subject_kind w s e c (StopOf b) d = calm refl
-subject_kind w s e c FunctionReset d = single e (LocalAct.Reset_arrives c) answer.Reset refl refl tt
+subject_kind w s e c FunctionReset d = single e (LocalAct.Reset_arrives c) answer.Reset refl refl d
 subject_kind w s e c (CompletionOf r found) d = completion_kind w s e c r found ((w.part e).request r)
 subject_kind w s e c (InvalidateOf k) d = single e (LocalAct.Take c k) answer.Taken refl refl tt
 subject_kind w s e c (ResponseOf g code) d = single e (LocalAct.Answered c g code) (response_answer ((w.part e).group g)) refl refl d

@@ -45,6 +45,7 @@ resets_submitted n b q count order cookie p ph re =
       dead = re.dead;
       finished = re.finished;
       untaken = λ c k h. grind (arith, nat_tests, re.untaken c k);
+      enabled = re.enabled;
       lapsed = λ k h. grind (arith, nat_tests, re.lapsed k);
       unqueued = λ k h. grind (arith, nat_tests, re.unqueued k);
       unarrived = re.unarrived;

@@ -59,7 +59,7 @@ accepted_part : (w : World) (s : Step) (e : ℕ) (o : LocalAct) (said : Answer) 
 accepted_part w s e o said h acts = part_after w s e o ((accepted (refusals w s) (outcome w s) said h).2 ∙ acts)
 
 -- at the world after the step
-later_part : (rule : PasidRule) (config : Config) (steps : List Step) (s : Step) (e : ℕ) (P : Endpoint → Type 0)
+pub later_part : (rule : PasidRule) (config : Config) (steps : List Step) (s : Step) (e : ℕ) (P : Endpoint → Type 0)
     → P ((next (world_after rule config steps) s).part e) → P ((world_after rule config (steps ++ s ∷ [])).part e)
 later_part rule config steps s e P h = subst (λ v. P (v.part e)) (sym (after_one rule config steps s)) h
 
@@ -295,7 +295,7 @@ calm_act w (LetGo x) h e = refl
 calm_act w (AtEndpoint d o) h e =
     put_keeps (λ x q. q.is_disabled ≡ (w.part x).is_disabled) w.part d (act_alone (w.part d) w.messages o) (calm_own (w.part d) w.messages o h) (λ x. refl) e
 
-calm_acts : (acts : List Act) (w : World) → are_calm acts ≡ true → (e : ℕ) → ((after_acts w acts).part e).is_disabled ≡ (w.part e).is_disabled
+pub calm_acts : (acts : List Act) (w : World) → are_calm acts ≡ true → (e : ℕ) → ((after_acts w acts).part e).is_disabled ≡ (w.part e).is_disabled
 calm_acts [] w h e = refl
 calm_acts (a ∷ acts) w h e = go (is_calm a) refl h (λ k. calm_acts acts (act w a) k e)
   where
@@ -305,7 +305,7 @@ calm_acts (a ∷ acts) w h e = go (is_calm a) refl h (λ k. calm_acts acts (act 
     go true c h rest = rest h ∙ calm_act w a c e
     go false c h rest = absurd (cc)
 
-same_submitted : (t : Bool) (p : Endpoint) (o : Option ℕ) (q count order cookie : ℕ) → (submitted_if t p o q count order cookie).is_disabled ≡ p.is_disabled
+pub same_submitted : (t : Bool) (p : Endpoint) (o : Option ℕ) (q count order cookie : ℕ) → (submitted_if t p o q count order cookie).is_disabled ≡ p.is_disabled
 same_submitted true p (Some b) q count order cookie = refl
 same_submitted true p None q count order cookie = refl
 same_submitted false p o q count order cookie = refl

@@ -11,7 +11,8 @@ use Rattle.sva_step.specs.declared.steps.Verdict.TheVariants as verdict_is
 use Rattle.sva_model.specs.State.{PasidRule, Stage, World}
 use Rattle.sva_model.specs.State.Stage.{Live, Stopping, Draining}
 use Rattle.sva_model.specs.State.Phase.{Open}
-use Rattle.sva_model.specs.States.{is_before_invalidating}
+use Rattle.sva_model.specs.States.{is_before_invalidating, place}
+use Rattle.sva_model.specs.States.Place.{Free}
 use Rattle.sva_model.specs.Labels.{is_mapped}
 use Rattle.sva_model.specs.Replies.{job_part, job_binding, job_space}
 use Rattle.sva_model.specs.Steps.{reply, world_after}
@@ -51,6 +52,60 @@ AlwaysMapsWhatIsAsked =
     → reply (world_after rule config steps) (step.Reply worker verdict) ≡ Ok (answer.Success count)
     → (world_after rule config steps).hand worker ≡ Some job
     → MapsWhatIsAsked (world_after rule config steps) (world_after rule config (steps ++ step.Reply worker verdict ∷ [])) job
+
+-- the first of the page requests that are filed of the job's group, in order of filing, that asks for the page
+pub record IsFirstAsk (world : World) (job page filing : ℕ) : Type 0 where
+  pub filed : filing < (job_part world job).filings
+  pub of_group : (job_part world job).group_of ((job_part world job).filing filing) ≡ (world.job job).group
+  pub of_page : (job_part world job).asked_page ((job_part world job).filing filing) ≡ page
+  pub none_earlier :
+      (earlier : ℕ)
+      → earlier < filing
+      → (job_part world job).group_of ((job_part world job).filing earlier) ≡ (world.job job).group
+      → (job_part world job).asked_page ((job_part world job).filing earlier) ≢ page
+
+-- A success maps its pages in the order in which they were first asked for, each to the lowest frame that is free then.
+pub record MapsInOrder (before after : World) (job : ℕ) : Type 0 where
+  pub asked :
+      (mapping : ℕ)
+      → before.mappings.made ≤ mapping
+      → mapping < after.mappings.made
+      → (filing : ℕ) × IsFirstAsk before job (after.mappings.page mapping) filing
+  pub pages :
+      (mapping later filing other : ℕ)
+      → before.mappings.made ≤ mapping
+      → mapping < later
+      → later < after.mappings.made
+      → IsFirstAsk before job (after.mappings.page mapping) filing
+      → IsFirstAsk before job (after.mappings.page later) other
+      → filing < other
+  pub free :
+      (mapping : ℕ)
+      → before.mappings.made ≤ mapping
+      → mapping < after.mappings.made
+      → place before (after.mappings.frame mapping) ≡ Free
+  pub frames :
+      (mapping later : ℕ)
+      → before.mappings.made ≤ mapping
+      → mapping < later
+      → later < after.mappings.made
+      → after.mappings.frame mapping < after.mappings.frame later
+  pub lowest :
+      (mapping frame : ℕ)
+      → before.mappings.made ≤ mapping
+      → mapping < after.mappings.made
+      → place before frame ≡ Free
+      → frame < after.mappings.frame mapping
+      → (earlier : ℕ) × (before.mappings.made ≤ earlier) × (earlier < mapping) × (after.mappings.frame earlier ≡ frame)
+
+-- each reply that is answered by a success, after every list of steps, maps in this order for the job in the worker's hand
+abbrev pub AlwaysMapsInOrder : Type 0
+AlwaysMapsInOrder =
+    (rule : PasidRule) (config : Config) (steps : List Step) (worker job : ℕ) (verdict : Verdict) (count : ℕ)
+    → Fits config
+    → reply (world_after rule config steps) (step.Reply worker verdict) ≡ Ok (answer.Success count)
+    → (world_after rule config steps).hand worker ≡ Some job
+    → MapsInOrder (world_after rule config steps) (world_after rule config (steps ++ step.Reply worker verdict ∷ [])) job
 
 -- the stage of the binding that a job names
 abbrev pub stage_of : World → (job : ℕ) → Stage

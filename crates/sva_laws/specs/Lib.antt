@@ -7,3 +7,8 @@ pub mod Steps
 pub mod Fronts
 pub mod Untouched
 pub mod Asked
+pub mod InReset
+pub mod Bearers
+pub mod Given
+pub mod Causes
+pub mod EndpointCauses

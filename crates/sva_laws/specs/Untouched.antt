@@ -10,7 +10,7 @@ use Rattle.sva_step.specs.declared.steps.Step.{Step}
 use Rattle.sva_step.specs.declared.steps.Step.TheVariants as step
 use Rattle.sva_model.specs.Message.Code.{FailureCode}
 use Rattle.sva_model.specs.State.{PasidRule, Endpoint, World}
-use Rattle.sva_model.specs.State.Subject.{StopOf, CompletionOf, InvalidateOf, ResponseOf, ResetDone}
+use Rattle.sva_model.specs.State.Subject.{StopOf, FunctionReset, CompletionOf, InvalidateOf, ResponseOf, ResetDone}
 use Rattle.sva_model.specs.State.PasidState.{Off, Ending}
 use Rattle.sva_model.specs.State.RequestState.{Out, Doomed}
 use Rattle.sva_model.specs.State.GroupState.{Awaiting, Stale}
@@ -178,6 +178,18 @@ AlwaysDisables =
     (rule : PasidRule) (config : Config) (steps : List Step) (next : Step) (endpoint : ℕ)
     → Fits config
     → Disables (world_after rule config steps) next endpoint ((world_after rule config (steps ++ next ∷ [])).part endpoint)
+
+-- An interface that is disabled stays so until the endpoint takes its Reset, which enables it.
+pub record StaysDisabled (world : World) (next : Step) (endpoint : ℕ) (after : Endpoint) : Type 0 where
+  pub stays : (world.part endpoint).is_disabled ≡ true → (Delivers world next endpoint FunctionReset → ⊥) → after.is_disabled ≡ true
+  pub enabled : Delivers world next endpoint FunctionReset → after.is_disabled ≡ false
+
+-- so it does after every list of steps, whatever step comes next
+abbrev pub AlwaysStaysDisabled : Type 0
+AlwaysStaysDisabled =
+    (rule : PasidRule) (config : Config) (steps : List Step) (next : Step) (endpoint : ℕ)
+    → Fits config
+    → StaysDisabled (world_after rule config steps) next endpoint ((world_after rule config (steps ++ next ∷ [])).part endpoint)
 
 -- A reset-done leaves a Live binding Lost, one that was told to stop, drained or was being invalidated Quiet, and others as they were.
 pub record CutsOff (before after : Endpoint) : Type 0 where

@@ -7,20 +7,25 @@ ghost use Rattle.sva_laws.specs.Laws.{AlwaysWithheldExactly, FreeByTheLastAnswer
 ghost use Rattle.sva_laws.specs.Laws.{AlwaysFound, AlwaysCarried, AlwaysUnderWay, NeverOccurring, AlwaysLimited, AlwaysKeepsLimits};
 ghost use Rattle.sva_laws.specs.Laws.{AlwaysFindsMappings};
 ghost use Rattle.sva_laws.specs.Answers.{AlwaysFinishes, AlwaysUses, AlwaysLooks, AlwaysFrees, AlwaysSucceeds};
-ghost use Rattle.sva_laws.specs.Asked.{AlwaysMapsWhatIsAsked, AlwaysRepliesBy};
+ghost use Rattle.sva_laws.specs.Asked.{AlwaysMapsWhatIsAsked, AlwaysMapsInOrder, AlwaysRepliesBy};
 ghost use Rattle.sva_laws.specs.Steps.{AlwaysChangesOnePart, AlwaysDropsApart, AlwaysAnswersBy, AlwaysKeepsLatest, AlwaysKeepsBooks};
 ghost use Rattle.sva_laws.specs.Runs.{AlwaysLegalInFront, AlwaysLegalByAnswer, SameForOneEndpoint};
 ghost use Rattle.sva_laws.specs.Waits.{AlwaysHasFront, AlwaysFitsDebts, AlwaysAwaitsTargets, AlwaysAnswersByUnit};
 ghost use Rattle.sva_laws.specs.Fronts.{AlwaysFrontOf, AlwaysKeepsTargets};
 ghost use Rattle.sva_laws.specs.Untouched.{AlwaysEvicts, AlwaysTakes, AlwaysStops, AlwaysQuits, AlwaysAsks, AlwaysDisables, AlwaysCutsOff};
-ghost use Rattle.sva_laws.specs.Untouched.{AlwaysDrainsOnce, AlwaysBrings, AlwaysGoesOnInReset};
+ghost use Rattle.sva_laws.specs.Untouched.{AlwaysDrainsOnce, AlwaysBrings, AlwaysGoesOnInReset, AlwaysStaysDisabled};
+ghost use Rattle.sva_laws.specs.InReset.{AlwaysInReset};
+ghost use Rattle.sva_laws.specs.Bearers.{AlwaysTellsBearer};
+ghost use Rattle.sva_laws.specs.Given.{AlwaysGivesLowest, AlwaysPumps};
+ghost use Rattle.sva_laws.specs.EndpointCauses.{AlwaysHasCause, AlwaysStays};
 ghost use Rattle.sva_laws.specs.UnitSteps.{AlwaysCountsResetDones, AlwaysChangesOrders, AlwaysVoidByReset, AlwaysNotesMarkers, AlwaysGivesCookies};
 
 /// The headline. After every list of steps, however late messages come in a permitted order: each translation that an
 /// endpoint may still use has an unreleased owner, and is the present one of its page or leads to a withheld frame; page
 /// requests and responses are matched to the binding that asked; each frame is at exactly one page of one live space, or
-/// withheld, or free; it is withheld exactly while an endpoint that was bound at its unmapping hasn't answered; and two
-/// unreleased bindings of an endpoint have two PASIDs.
+/// withheld, or free; it is withheld exactly while an endpoint that was bound at its unmapping hasn't answered; two
+/// unreleased bindings of an endpoint have two PASIDs; and, by the rule of one PASID for each space, any two have one
+/// PASID exactly where they have one space.
 pub fn headline()
     ensures always { AlwaysAgrees }
 {}
@@ -91,6 +96,28 @@ pub fn waits_and_fronts()
     ensures awaited { AlwaysKeepsTargets }
 {}
 
+/// What isn't done: a step that is refused leaves the world as it was, and has the cause of its refusal, which is about
+/// the endpoint, the space, the binding or the message that the step itself names.
+pub fn refusals()
+    ensures stays { AlwaysStays }
+    ensures causes { AlwaysHasCause }
+{}
+
+/// Resets: a unit is in reset exactly while its Reset, and then the endpoint's reset-done, is in flight; and what each of
+/// them clears is clear until it ends.
+pub fn what_a_reset_clears()
+    ensures clear { AlwaysInReset }
+{}
+
+/// What is given out and told: a label that a step gives out is the lowest free one; a bearer is told of each PASID, with
+/// its space and how many bindings bear it; and a pump's answer tells what it found at the head of the unit's queue: a
+/// wait is done only where no order bears an ITag and, if it drains, the page request queue is empty.
+pub fn labels_and_turns()
+    ensures lowest { AlwaysGivesLowest }
+    ensures bearers { AlwaysTellsBearer }
+    ensures pumps { AlwaysPumps }
+{}
+
 /// Journals and rules: what a legal journal begins with is legal, and one entry more is legal exactly where it says what its
 /// step answers. For one endpoint both rules of PASIDs give the same answers over every list of steps.
 pub fn journals_and_rules()
@@ -102,7 +129,8 @@ pub fn journals_and_rules()
 /// Answers: a finish of so many completions leaves each order that it names owed that many, and sends that many; a use
 /// answers the frame of the translation that is cached; a look answers the frame's place; a completion that is counted
 /// answers how many orders the step makes done; and a worker's success answers how many pages it maps, which are those that its
-/// job's page requests ask for and that weren't mapped. A reply is answered by the verdict where the job's binding is Live.
+/// job's page requests ask for and that weren't mapped, in the order in which they were first asked for, each to the lowest
+/// free frame. A reply is answered by the verdict where the job's binding is Live.
 pub fn what_answers_tell()
     ensures finishes { AlwaysFinishes }
     ensures uses { AlwaysUses }
@@ -110,6 +138,7 @@ pub fn what_answers_tell()
     ensures frees { AlwaysFrees }
     ensures succeeds { AlwaysSucceeds }
     ensures asked { AlwaysMapsWhatIsAsked }
+    ensures order { AlwaysMapsInOrder }
     ensures replies { AlwaysRepliesBy }
 {}
 
@@ -127,7 +156,7 @@ pub fn what_steps_change()
 /// What steps at an endpoint leave as it was: an evict takes one translation out of the cache, an invalidation that is taken drops
 /// what it covers and dooms the requests that it covers, a translation that is kept replaces the older ones of its page, a Stop, a
 /// quit and a translation request touch no translation, and each changes nothing else of the endpoint and its unit. A Response
-/// Failure alone disables page requests; a reset-done leaves a Live binding Lost, and Quiet one that was told to stop; and of the
+/// Failure alone disables page requests, and they stay so until the endpoint takes its Reset; a reset-done leaves a Live binding Lost, and Quiet one that was told to stop; and of the
 /// two waits of a binding that ends the first alone drains. What an endpoint does itself isn't refused because its unit is in reset.
 pub fn what_steps_leave()
     ensures evicts { AlwaysEvicts }
@@ -137,6 +166,7 @@ pub fn what_steps_leave()
     ensures quits { AlwaysQuits }
     ensures asks { AlwaysAsks }
     ensures disables { AlwaysDisables }
+    ensures stays_disabled { AlwaysStaysDisabled }
     ensures cuts_off { AlwaysCutsOff }
     ensures drains { AlwaysDrainsOnce }
     ensures goes_on { AlwaysGoesOnInReset }

@@ -1,6 +1,7 @@
 use Rattle.sva_laws.proofs.Said.{always_finishes, always_uses, always_looks, always_frees}
 use Rattle.sva_laws.proofs.Successes.{always_succeeds}
 use Rattle.sva_laws.proofs.Asked.{always_maps_asked, always_replies_by}
+use Rattle.sva_laws.proofs.InOrder.{always_maps_in_order}
 use Rattle.sva_laws.proofs.what_answers_tell.Goals as goal
 
 pub returns-clause-finishes : goal.returns-clause-finishes
@@ -25,3 +26,6 @@ returns-clause-asked c = λ rule config steps worker job verdict count fits acce
 pub returns-clause-replies : goal.returns-clause-replies
 returns-clause-replies c = λ rule config steps worker job verdict said fits accepted hand.
     always_replies_by rule config steps worker job verdict said accepted hand
+
+pub returns-clause-order : goal.returns-clause-order
+returns-clause-order c = λ rule config steps x j verdict count fits success hand. always_maps_in_order rule config steps x j verdict count success hand

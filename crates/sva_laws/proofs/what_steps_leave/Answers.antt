@@ -1,5 +1,6 @@
 use Rattle.sva_laws.proofs.Untouched.{always_evicts, always_takes, always_stops, always_quits, always_asks, always_disables, always_cuts_off}
 use Rattle.sva_laws.proofs.Untouched.{always_brings, always_drains_once, always_goes_on}
+use Rattle.sva_laws.proofs.InReset.{always_stays_disabled}
 use Rattle.sva_laws.proofs.what_steps_leave.Goals as goal
 
 pub returns-clause-evicts : goal.returns-clause-evicts
@@ -32,3 +33,6 @@ returns-clause-brings c = λ rule config steps s e request found said fits deliv
 
 pub returns-clause-goes_on : goal.returns-clause-goes_on
 returns-clause-goes_on c = λ rule config steps s fits own. always_goes_on rule config steps s own
+
+pub returns-clause-stays_disabled : goal.returns-clause-stays_disabled
+returns-clause-stays_disabled c = λ rule config steps s e fits. always_stays_disabled rule config steps s e

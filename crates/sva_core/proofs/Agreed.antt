@@ -1,5 +1,5 @@
 -- The agreement after the very list of steps that leads to what is kept, and what a run leaves.
-use Rattle.std.proofs.Common.{◌≡◌, ℕ, List, [], ◌∷◌, refl, sym}
+use Rattle.std.proofs.Common.{◌≡◌, ◌≤◌, ℕ, zero, suc, List, [], ◌∷◌, length, take, refl, ap, sym, subst, arith}
 use Rattle.std.specs.Prelude.{Err}
 use Rattle.sva_step.specs.declared.limits.Config.{Config}
 use Rattle.sva_step.specs.declared.refusals.Refusal.TheVariants as refusal
@@ -7,7 +7,7 @@ use Rattle.sva_step.specs.declared.steps.Step.{Step}
 use Rattle.sva_model.specs.State.PasidRule.{PerSpace}
 use Rattle.sva_model.specs.State.{World, opened}
 use Rattle.sva_model.specs.Claims.{Fits}
-use Rattle.sva_model.specs.Steps.{Reply, reply, replies, next, run, world_after}
+use Rattle.sva_model.specs.Steps.{Reply, replies, next, run, world_after}
 use Rattle.sva_model.specs.Wire.{Wire, wire}
 use Rattle.sva_laws.proofs.Runs.{always}
 use Rattle.sva_laws.proofs.Claimed.{always_agrees}
@@ -43,3 +43,15 @@ run_agrees config steps results last fits ran =
     let taken = ran_taken (opened PerSpace config) steps results last ran in
     let at : IsReached last = record { config = config; steps = taken_of steps results; fits = fits; is_wire = taken.0 } in
     record { reached = at; of_config = refl; by_steps = refl; answers = taken.1; agreed = agreed last at }
+
+-- a run that has taken all its steps
+take_all : (steps : List Step) (i : ℕ) → length steps ≤ i → take i steps ≡ steps
+take_all [] zero l = refl
+take_all [] (suc i) l = refl
+take_all (s ∷ ss) zero l = absurd (omega (arith, l))
+take_all (s ∷ ss) (suc i) l = ap (λ ts. s ∷ ts) (take_all ss i (omega (arith, l)))
+
+pub whole_run_agrees : (config : Config) (steps : List Step) (i : ℕ) (results : List Reply) (last : Wire) → Fits config → length steps ≤ i
+    → Ran (opened PerSpace config) (take i steps) results last → RunAgrees config steps results last
+whole_run_agrees config steps i results last fits l ran =
+    run_agrees config steps results last fits (subst (λ ss. Ran (opened PerSpace config) ss results last) (take_all steps i l) ran)

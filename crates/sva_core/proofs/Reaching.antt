@@ -1,6 +1,6 @@
 -- From the step by labels to the definitions' step.
 use Rattle.std.proofs.Common.{◌≡◌, ◌≢◌, ℕ, zero, suc, ◌+◌, ◌<◌, List, [], ◌∷◌, ◌++◌, length, take, get_or, arith, refl, sym, ap, subst, ◌∙◌, count_by}
-use Rattle.std.specs.Prelude.{Err, is_ok}
+use Rattle.std.specs.Prelude.{Ok, Err, OnErr, is_ok}
 use Rattle.sva_frames.specs.declared.pool.Counts.{Counts as FrameCounts}
 use Rattle.sva_step.specs.declared.limits.Config.{Config}
 use Rattle.sva_step.specs.declared.refusals.Refusal.TheVariants as refusal
@@ -10,7 +10,10 @@ use Rattle.sva_model.specs.State.{World, opened}
 use Rattle.sva_model.specs.Claims.{Fits}
 use Rattle.sva_model.specs.Steps.{Reply, reply, next, world_after}
 use Rattle.sva_model.specs.Wire.{Wire, wire}
+use Rattle.sva_laws.proofs.Limits.{adds_up}
 use Rattle.sva_laws.proofs.Lookback.{after_one}
+use Rattle.sva_laws.proofs.Refused.{stays}
+use Rattle.sva_laws.proofs.Withheld.{config_kept}
 use Rattle.sva_labels.specs.Finding.{is_free}
 use Rattle.sva_refinement.specs.Refinement.{LabelsAreNames}
 use Rattle.sva_labels.specs.Host.{first_wire, reply_of, next_of}
@@ -22,7 +25,7 @@ use Rattle.sva_refinement.proofs.WholeLists.{opened_is}
 use Rattle.sva_address_spaces.specs.Steps.{Counted, is_mapped_place, is_withheld_place}
 use Rattle.sva_host.specs.Steps.{ByLabels}
 use Rattle.sva_host.specs.Applied.{TakesNoMemory}
-use Rattle.sva_core.specs.Reached.{FollowsAt, Follows, IsReached, CountsOf, Ran}
+use Rattle.sva_core.specs.Reached.{FollowsAt, Follows, IsReached, CountsOf, AddsUp, Ran}
 use Rattle.sva_core.proofs.FrameCounts.{free-counted, mapped-counted, withheld-counted}
 
 at_world : (w : World) (s : Step) (result : Reply) (after : Wire) → reply w s ≡ reply_of (wire w) s → wire (next w s) ≡ next_of (wire w) s
@@ -45,6 +48,16 @@ reached_at config steps s result after fits at =
 pub reached : (before : Wire) (s : Step) (result : Reply) (after : Wire) → IsReached before → Follows before s result after → IsReached after
 reached before s result after was step = reached_at was.config was.steps s result after was.fits (step was.config was.steps was.fits was.is_wire)
 
+-- a step that is refused, for want of memory too, leaves what is kept
+refused_at : (w : World) (s : Step) (result : Reply) (before after : Wire) → before ≡ wire w → FollowsAt w s result after → OnErr result (after ≡ before)
+refused_at w s (Err refusal.OutOfMemory) before after is at = at.1 ∙ sym is
+refused_at w s (Err r) before after is at = at.1 ∙ ap wire (stays w s r (sym at.0)) ∙ sym is
+refused_at w s (Ok a) before after is at = tt
+
+pub refused : (before : Wire) (s : Step) (result : Reply) (after : Wire) → IsReached before → Follows before s result after → OnErr result (after ≡ before)
+refused before s result after was step =
+    refused_at (world_after PerSpace was.config was.steps) s result before after was.is_wire (step was.config was.steps was.fits was.is_wire)
+
 -- the first world, and that what is kept is sound
 pub opened_seen : (config : Config) (seen : Wire) → seen ≡ first_wire config → seen ≡ wire (opened PerSpace config)
 opened_seen config seen is = is ∙ sym (opened_is config)
@@ -64,6 +77,12 @@ counts_of seen found counted config steps fits is = (
   counted.mapped ∙ ap (λ (w : Wire). count_by is_mapped_place w.places) is ∙ mapped-counted (world_after PerSpace config steps),
   counted.withheld ∙ ap (λ (w : Wire). count_by is_withheld_place w.places) is ∙ withheld-counted (world_after PerSpace config steps),
 )
+
+pub adding_up : (seen : Wire) (found : FrameCounts) → CountsOf seen found → AddsUp seen found
+adding_up seen found counted at =
+    let same = counted at.config at.steps at.fits at.is_wire in
+    let all = adds_up (world_after PerSpace at.config at.steps) in
+    omega (arith, same.0, same.1, same.2, all, ap (λ (k : Config). k.frames) (config_kept PerSpace at.config at.steps))
 
 -- Runs: one step more at the end.
 

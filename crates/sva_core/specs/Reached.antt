@@ -1,5 +1,5 @@
 -- What the world does, by the definitions.
-use Rattle.std.specs.Prelude.{◌≡◌, List, [], ◌∷◌, Err, IsOk}
+use Rattle.std.specs.Prelude.{◌≡◌, ◌+◌, List, [], ◌∷◌, Err, IsOk}
 use Rattle.sva_frames.specs.declared.pool.Counts.{Counts as FrameCounts}
 use Rattle.sva_step.specs.declared.limits.Config.{Config}
 use Rattle.sva_step.specs.declared.refusals.Refusal.{Refusal}
@@ -38,6 +38,10 @@ CountsOf seen found =
     → (found.free ≡ (counts (world_after PerSpace config steps)).free)
     × (found.mapped ≡ (counts (world_after PerSpace config steps)).mapped)
     × (found.withheld ≡ (counts (world_after PerSpace config steps)).withheld)
+
+-- free, mapped and withheld frames together are the frames of the config from which it is reached
+abbrev pub AddsUp : Wire → FrameCounts → Type 0
+AddsUp seen found = (reached : IsReached seen) → found.free + found.mapped + found.withheld ≡ reached.config.frames
 
 -- the answers to a list of steps, and what the last world is seen as; a step that had no memory is left out, and it is one
 -- that takes memory

@@ -1,13 +1,14 @@
 //! The world, and one step of it.
 
-ghost use Rattle.std.specs.Prelude.{◌≡◌, ◌≢◌, ◌↔◌, IfOk, IfErr, Err};
+ghost use Rattle.std.specs.Prelude.{◌≡◌, ◌≢◌, ◌↔◌, IfOk, IfErr, OnErr, Err};
 ghost use Rattle.sva_step.specs.declared.limits.Config.{Config};
 ghost use Rattle.sva_step.specs.declared.refusals.Refusal.TheVariants as refusal;
 ghost use Rattle.sva_model.specs.State.PasidRule.{PerSpace};
 ghost use Rattle.sva_model.specs.Claims.{Fits};
 ghost use Rattle.sva_model.specs.State.{opened};
 ghost use Rattle.sva_model.specs.Wire.{wire};
-ghost use Rattle.sva_core.specs.Reached.{Follows, IsReached, IsOpenRefusal, CountsOf};
+ghost use Rattle.sva_core.specs.Reached.{Follows, IsReached, IsOpenRefusal, CountsOf, AddsUp};
+ghost use Rattle.sva_core.specs.Headline.{IsAgreed};
 ghost use Rattle.sva_host.specs.Applied.{TakesNoMemory};
 
 use std::alloc::Global;
@@ -35,10 +36,11 @@ impl Model for World {
 }
 
 impl World {
-    /// The world of a config in which nothing has happened. A config out of its limits is `BadConfig`; the only other
-    /// refusal is `OutOfMemory`.
+    /// The world of a config in which nothing has happened; the agreement holds there. A config out of its limits is
+    /// `BadConfig`; the only other refusal is `OutOfMemory`.
     pub fn open(alloc: Global, config: Config) -> Result<World, Refusal>
         ensures ok { IfOk result (λ world. (Fits config) × (world ≡ wire (opened PerSpace config))) }
+        ensures agreed { IfOk result (λ world. (reached : IsReached world) → IsAgreed world reached) }
         ensures bad { (result ≡ Err refusal.BadConfig) ↔ (Fits config → ⊥) }
         ensures memory { IfErr result IsOpenRefusal }
     {
@@ -51,21 +53,25 @@ impl World {
         }
     }
 
-    /// Takes one step. A refused step changes nothing. `OutOfMemory` is answered where
-    /// a growth is refused; the contract says that the definitions accept the step then and that nothing changes, and
-    /// that a step whose room was made before never answers so.
+    /// Takes one step, and the agreement holds after it, whichever list of steps leads there. A refused step changes
+    /// nothing. `OutOfMemory` is answered where a growth is refused; the contract says that the definitions accept the
+    /// step then, and that a step whose room was made before never answers so.
     pub fn apply(&mut self, step: &Step) -> Result<Answer, Refusal>
         ensures step { Follows self.old step.now result self.new }
+        ensures refused { OnErr result (self.new ≡ self.old) }
         ensures reached { IsReached self.new }
+        ensures agreed { (reached : IsReached self.new) → IsAgreed self.new reached }
         ensures memory { TakesNoMemory self.old step.now → result ≢ Err refusal.OutOfMemory }
     {
         self.host.apply(step)
     }
 
-    /// How many frames are free, mapped and withheld.
+    /// How many frames are free, mapped and withheld. Together they are all frames of the config.
     pub fn counts(&self) -> Counts
         ensures counts { CountsOf self.now result }
+        ensures adds_up { AddsUp self.now result }
         ensures reached { IsReached self.now }
+        ensures agreed { (reached : IsReached self.now) → IsAgreed self.now reached }
     {
         self.host.counts()
     }

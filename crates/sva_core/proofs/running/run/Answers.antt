@@ -1,6 +1,7 @@
 use Rattle.std.proofs.Common.{◌≡◌, ◌≤◌, ◌+◌, length, vec_len, arith}
 use Rattle.std.specs.Prelude.{vec_capacity}
 use Rattle.sva_step.specs.declared.steps.Step.TheVariants as step
+use Rattle.sva_core.proofs.Agreed.{whole_run_agrees}
 use Rattle.sva_core.proofs.Reaching.{ran_next}
 use Rattle.sva_core.proofs.running.run.Goals as goal
 
@@ -14,3 +15,8 @@ loop-step-preserved c =
       more,
       room,
     )
+
+pub returns-clause-agreed : goal.returns-clause-agreed
+returns-clause-agreed c =
+    whole_run_agrees c.args.config c.args.steps.now c.loop-step.step-index c.loop-step.answers.items c.loop-step.world c.in_ok-world.ensures.ok.0
+    (omega (arith, c.loop-step-test.false)) c.loop-step.invariant.0

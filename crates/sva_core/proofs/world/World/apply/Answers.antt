@@ -1,5 +1,8 @@
 use Rattle.sva_refinement.proofs.Said.{every_step}
-use Rattle.sva_core.proofs.Reaching.{follows, reached, follows_on, memory_on, sound_reached, spaces_reached}
+use Rattle.std.proofs.Common.{subst}
+use Rattle.sva_core.specs.Reached.{IsReached}
+use Rattle.sva_core.proofs.Agreed.{agreed}
+use Rattle.sva_core.proofs.Reaching.{follows, reached, refused, follows_on, memory_on, sound_reached, spaces_reached}
 use Rattle.sva_core.proofs.world.World.apply.Goals as goal
 
 pub apply-requires-clause-sound : goal.apply-requires-clause-sound
@@ -12,6 +15,15 @@ pub returns-clause-step : goal.returns-clause-step
 returns-clause-step c =
     follows_on c.self.inside.host c.args.self.now c.args.step.now c.apply.result c.apply.new.self c.self.view_is
     (follows every_step c.self.inside.host c.args.step.now c.apply.result c.apply.new.self c.apply.ensures.step)
+
+pub returns-clause-refused : goal.returns-clause-refused
+returns-clause-refused c =
+    refused c.args.self.now c.args.step.now c.apply.result c.apply.new.self (subst IsReached c.self.view_is c.self.invariant)
+    (follows_on c.self.inside.host c.args.self.now c.args.step.now c.apply.result c.apply.new.self c.self.view_is
+    (follows every_step c.self.inside.host c.args.step.now c.apply.result c.apply.new.self c.apply.ensures.step))
+
+pub returns-clause-agreed : goal.returns-clause-agreed
+returns-clause-agreed c = λ at. agreed c.apply.new.self at
 
 pub invariant_of-self : goal.invariant_of-self
 invariant_of-self c =

@@ -1,14 +1,13 @@
 -- The world of a full space is reached: by a Space, and a map of each page.
 use Rattle.std.proofs.Common.{◌≡◌, ℕ, zero, suc, ◌+◌, ◌<◌, ◌≤◌, ◌^◌, ◌⊎◌, inl, inr, refl, ap, ◌∙◌, arith, Bool, true, false}
-use Rattle.std.specs.Prelude.{Option, Some, None, List, [], ◌∷◌, ◌++◌, if◌then◌else◌, ◌&&◌, nat_lt, nat_le, not, ◌==◌}
+use Rattle.std.specs.Prelude.{Option, Some, None, [], ◌∷◌, if◌then◌else◌, ◌&&◌, nat_lt, nat_le, not, ◌==◌}
 use Rattle.std.proofs.lemmas.Bool.Decides.{nat_tests}
 use Rattle.sva_step.specs.declared.refusals.Refusal.{Refusal}
 use Rattle.sva_step.specs.declared.refusals.Refusal.TheVariants as refusal
-use Rattle.sva_step.specs.declared.steps.Step.{Step}
 use Rattle.sva_step.specs.declared.steps.Step.TheVariants as step
 use Rattle.sva_model.specs.State.PasidRule.{PerSpace}
-use Rattle.sva_model.specs.Words.{put, lowest, step_lowest, count_below}
-use Rattle.sva_model.specs.State.{MappingState, World, opened}
+use Rattle.sva_model.specs.Words.{put, lowest, count_below}
+use Rattle.sva_model.specs.State.{MappingState, opened}
 use Rattle.sva_model.specs.State.MappingState.{Unmade, Present}
 use Rattle.sva_model.specs.States.{is_free}
 use Rattle.sva_model.specs.Acts.{Act, act}
@@ -19,7 +18,7 @@ use Rattle.sva_lemmas.proofs.Words.{lowest_below}
 use Rattle.sva_lemmas.proofs.Counting.{count_most}
 use Rattle.sva_lemmas.proofs.Steps.{run_append}
 use Rattle.sva_model.specs.Runs.{config}
-use Rattle.sva_runs.specs.RunsOfRefusals.{mapped_space, maps_of, FullSpaceReached}
+use Rattle.sva_runs.specs.RunsOfFullSpaces.{mapped_space, maps_of, FullSpaceReached}
 
 lowest_is : (n k : ℕ) (p : ℕ → Bool) → k < n → ((j : ℕ) → j < k → p j ≡ false) → p k ≡ true → lowest n p ≡ k
 lowest_is n k p l f t = go (lowest n p) (lowest_below n p k l t)

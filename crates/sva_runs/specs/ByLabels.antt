@@ -15,11 +15,17 @@ use Rattle.sva_model.specs.RunsOfPageRequests as of_page_requests
 use Rattle.sva_model.specs.RunsOfFinalRules as of_final_rules
 use Rattle.sva_runs.specs.RunsOfDeliveries as of_deliveries
 use Rattle.sva_runs.specs.RunsOfRefusals as of_refusals
+use Rattle.sva_runs.specs.RunsOfSpentNumbers as of_spent_numbers
 use Rattle.sva_runs.specs.RunsOfReadings as of_readings
+use Rattle.sva_runs.specs.RunsOfLinkOrder as of_link_order
+use Rattle.sva_runs.specs.RunsOfGroups as of_groups
 use Rattle.sva_model.specs.RunsOfLimits as of_limits
 use Rattle.sva_runs.specs.RunsOfBoundaries as of_boundaries
+use Rattle.sva_runs.specs.RunsOfStages as of_stages
 use Rattle.sva_runs.specs.RunsOfNames as of_names
+use Rattle.sva_runs.specs.RunsOfNumbersApart as of_numbers_apart
 use Rattle.sva_runs.specs.RunsOfWrongRules as of_wrong_rules
+use Rattle.sva_runs.specs.RunsOfEarlyReuse as of_early_reuse
 use Rattle.sva_runs.specs.RunsOfWhatStays as of_what_stays
 use Rattle.sva_labels.specs.Finding.{is_free}
 use Rattle.sva_labels.specs.Host.{first_wire, next_of, replies_of}
@@ -118,7 +124,7 @@ pub record RefusalsByLabels : Type 0 where
   pub causes_of_bind : IsRunByLabels (config 2 1 1 9223372036854775775) of_refusals.causes_of_bind 1 0 0
   pub bind_in_reset : IsRunByLabels (config 1 1 1 0) of_refusals.bind_in_reset 1 0 0
   pub causes_of_unbind : IsRunByLabels (config 1 1 1 0) of_refusals.causes_of_unbind 1 0 0
-  pub unbind_without_numbers : IsRunByLabels (config 1 1 1 9223372036854775806) of_refusals.unbind_without_numbers 1 0 0
+  pub unbind_without_numbers : IsRunByLabels (config 1 1 1 9223372036854775806) of_spent_numbers.unbind_without_numbers 1 0 0
   pub causes_of_advance : IsRunByLabels (config 1 1 1 0) of_refusals.causes_of_advance 1 0 0
   pub causes_at_a_unit : IsRunByLabels (config 1 1 1 9223372036854775807) of_refusals.causes_at_a_unit 1 0 0
   pub causes_of_workers : IsRunByLabels (config 1 1 1 9223372036854775805) of_refusals.causes_of_workers 0 0 1
@@ -129,24 +135,24 @@ pub record RefusalsByLabels : Type 0 where
   pub fault_where_disabled : IsRunByLabels (config 1 1 1 9223372036854775805) of_refusals.fault_where_disabled 1 0 0
   pub causes_of_finish : IsRunByLabels (config 1 2 1 9223372036854775801) of_refusals.causes_of_finish 0 0 2
   pub causes_of_quit : IsRunByLabels (config 1 1 1 9223372036854775805) of_refusals.causes_of_quit 1 0 0
-  pub quit_without_numbers : IsRunByLabels (config 1 1 1 9223372036854775806) of_refusals.quit_without_numbers 1 0 0
+  pub quit_without_numbers : IsRunByLabels (config 1 1 1 9223372036854775806) of_spent_numbers.quit_without_numbers 1 0 0
   pub causes_of_deliver : IsRunByLabels (config 1 1 1 9223372036854775806) of_refusals.causes_of_deliver 1 0 0
   pub causes_of_look : IsRunByLabels (config 1 4 1 0) of_refusals.causes_of_look 4 0 0
-  pub no_number_at_all : IsRunByLabels (config 1 1 1 9223372036854775808) of_refusals.no_number_at_all 1 0 0
-  pub bindings_spent : IsRunByLabels (config 2 1 1 9223372036854775807) of_refusals.bindings_spent 1 0 0
-  pub cookies_of_two_units : IsRunByLabels (config 2 3 1 9223372036854775805) of_refusals.cookies_of_two_units 0 1 2
-  pub cookies_while_draining : IsRunByLabels (config 1 2 1 9223372036854775805) of_refusals.cookies_while_draining 0 0 2
-  pub pump_without_numbers : IsRunByLabels (config 1 1 1 9223372036854775805) of_refusals.pump_without_numbers 1 0 0
-  pub pump_without_tags_and_numbers : IsRunByLabels (config 1 33 1 9223372036854775775) of_refusals.pump_without_tags_and_numbers 0 0 33
-  pub verdicts_without_numbers : IsRunByLabels (config 1 1 1 9223372036854775806) of_refusals.verdicts_without_numbers 0 1 0
-  pub dropped_without_numbers : IsRunByLabels (config 1 1 1 9223372036854775804) of_refusals.dropped_without_numbers 1 0 0
-  pub lost_without_numbers : IsRunByLabels (config 1 1 1 9223372036854775804) of_refusals.lost_without_numbers 1 0 0
+  pub no_number_at_all : IsRunByLabels (config 1 1 1 9223372036854775808) of_spent_numbers.no_number_at_all 1 0 0
+  pub bindings_spent : IsRunByLabels (config 2 1 1 9223372036854775807) of_spent_numbers.bindings_spent 1 0 0
+  pub cookies_of_two_units : IsRunByLabels (config 2 3 1 9223372036854775805) of_spent_numbers.cookies_of_two_units 0 1 2
+  pub cookies_while_draining : IsRunByLabels (config 1 2 1 9223372036854775805) of_spent_numbers.cookies_while_draining 0 0 2
+  pub pump_without_numbers : IsRunByLabels (config 1 1 1 9223372036854775805) of_spent_numbers.pump_without_numbers 1 0 0
+  pub pump_without_tags_and_numbers : IsRunByLabels (config 1 33 1 9223372036854775775) of_spent_numbers.pump_without_tags_and_numbers 0 0 33
+  pub verdicts_without_numbers : IsRunByLabels (config 1 1 1 9223372036854775806) of_spent_numbers.verdicts_without_numbers 0 1 0
+  pub dropped_without_numbers : IsRunByLabels (config 1 1 1 9223372036854775804) of_spent_numbers.dropped_without_numbers 1 0 0
+  pub lost_without_numbers : IsRunByLabels (config 1 1 1 9223372036854775804) of_spent_numbers.lost_without_numbers 1 0 0
 
 -- What is easily read otherwise.
 pub record ReadingsByLabels : Type 0 where
-  pub last_request_past_a_marker : IsRunByLabels (config 1 4 1 0) of_readings.last_request_past_a_marker 4 0 0
-  pub marker_past_a_marker : IsRunByLabels (config 1 4 1 0) of_readings.marker_past_a_marker 4 0 0
-  pub request_without_l_is_not_ordered : IsRunByLabels (config 1 1 1 0) of_readings.request_without_l_is_not_ordered 1 0 0
+  pub last_request_past_a_marker : IsRunByLabels (config 1 4 1 0) of_link_order.last_request_past_a_marker 4 0 0
+  pub marker_past_a_marker : IsRunByLabels (config 1 4 1 0) of_link_order.marker_past_a_marker 4 0 0
+  pub request_without_l_is_not_ordered : IsRunByLabels (config 1 1 1 0) of_link_order.request_without_l_is_not_ordered 1 0 0
   pub advance_of_a_live_binding : IsRunByLabels (config 1 4 1 0) of_readings.advance_of_a_live_binding 4 0 0
   pub advance_of_a_lost_binding : IsRunByLabels (config 1 4 1 0) of_readings.advance_of_a_lost_binding 4 0 0
   pub one_number_of_each_kind : IsRunByLabels (config 1 4 1 9223372036854775807) of_readings.one_number_of_each_kind 2 1 1
@@ -154,24 +160,24 @@ pub record ReadingsByLabels : Type 0 where
   pub unmap_while_drained_in_reset : IsRunByLabels (config 1 4 1 0) of_readings.unmap_while_drained_in_reset 4 0 0
   pub unmap_while_invalidating_in_reset : IsRunByLabels (config 1 1 1 0) of_readings.unmap_while_invalidating_in_reset 1 0 0
   pub unmap_after_the_invalidation : IsRunByLabels (config 1 2 1 0) of_readings.unmap_after_the_invalidation 2 0 0
-  pub page_named_twice : IsRunByLabels (config 1 1 1 0) of_readings.page_named_twice 0 1 0
-  pub page_request_for_neither : IsRunByLabels (config 1 1 1 0) of_readings.page_request_for_neither 0 1 0
-  pub other_verdicts_need_no_frame : IsRunByLabels (config 1 1 1 0) of_readings.other_verdicts_need_no_frame 0 1 0
-  pub success_that_is_none : IsRunByLabels (config 1 1 2 0) of_readings.success_that_is_none 0 1 0
-  pub job_of_a_lost_binding : IsRunByLabels (config 1 1 2 0) of_readings.job_of_a_lost_binding 1 0 0
-  pub drain_waits_for_other_pasids : IsRunByLabels (config 1 1 1 0) of_readings.drain_waits_for_other_pasids 1 0 0
-  pub wait_of_an_unmap_does_not_drain : IsRunByLabels (config 1 1 1 0) of_readings.wait_of_an_unmap_does_not_drain 1 0 0
-  pub stale_groups_keep_their_requests : IsRunByLabels (config 1 1 1 0) of_readings.stale_groups_keep_their_requests 1 0 0
-  pub unfinished_where_disabled : IsRunByLabels (config 1 1 1 0) of_readings.unfinished_where_disabled 1 0 0
-  pub unfinished_without_credit : IsRunByLabels (config 1 1 1 0) of_readings.unfinished_without_credit 1 0 0
-  pub group_while_stopping : IsRunByLabels (config 1 1 1 0) of_readings.group_while_stopping 1 0 0
-  pub group_of_another_pasid : IsRunByLabels (config 1 1 1 0) of_readings.group_of_another_pasid 1 0 0
+  pub page_named_twice : IsRunByLabels (config 1 1 1 0) of_groups.page_named_twice 0 1 0
+  pub page_request_for_neither : IsRunByLabels (config 1 1 1 0) of_groups.page_request_for_neither 0 1 0
+  pub other_verdicts_need_no_frame : IsRunByLabels (config 1 1 1 0) of_groups.other_verdicts_need_no_frame 0 1 0
+  pub success_that_is_none : IsRunByLabels (config 1 1 2 0) of_groups.success_that_is_none 0 1 0
+  pub job_of_a_lost_binding : IsRunByLabels (config 1 1 2 0) of_groups.job_of_a_lost_binding 1 0 0
+  pub drain_waits_for_other_pasids : IsRunByLabels (config 1 1 1 0) of_groups.drain_waits_for_other_pasids 1 0 0
+  pub wait_of_an_unmap_does_not_drain : IsRunByLabels (config 1 1 1 0) of_groups.wait_of_an_unmap_does_not_drain 1 0 0
+  pub stale_groups_keep_their_requests : IsRunByLabels (config 1 1 1 0) of_groups.stale_groups_keep_their_requests 1 0 0
+  pub unfinished_where_disabled : IsRunByLabels (config 1 1 1 0) of_groups.unfinished_where_disabled 1 0 0
+  pub unfinished_without_credit : IsRunByLabels (config 1 1 1 0) of_groups.unfinished_without_credit 1 0 0
+  pub group_while_stopping : IsRunByLabels (config 1 1 1 0) of_groups.group_while_stopping 1 0 0
+  pub group_of_another_pasid : IsRunByLabels (config 1 1 1 0) of_groups.group_of_another_pasid 1 0 0
   pub second_reset : IsRunByLabels (config 1 2 1 0) of_readings.second_reset 2 0 0
   pub doomed_requests_are_out : IsRunByLabels (config 1 1 1 0) of_readings.doomed_requests_are_out 0 0 1
-  pub failure_before_the_stop : IsRunByLabels (config 1 1 1 0) of_readings.failure_before_the_stop 1 0 0
+  pub failure_before_the_stop : IsRunByLabels (config 1 1 1 0) of_link_order.failure_before_the_stop 1 0 0
   pub earlier_waits_in_reset : IsRunByLabels (config 1 1 1 0) of_readings.earlier_waits_in_reset 1 0 0
-  pub orders_down_stay_in_order : IsRunByLabels (config 1 1 1 0) of_readings.orders_down_stay_in_order 0 0 1
-  pub stop_behind_an_invalidate : IsRunByLabels (config 1 1 1 0) of_readings.stop_behind_an_invalidate 0 0 1
+  pub orders_down_stay_in_order : IsRunByLabels (config 1 1 1 0) of_link_order.orders_down_stay_in_order 0 0 1
+  pub stop_behind_an_invalidate : IsRunByLabels (config 1 1 1 0) of_link_order.stop_behind_an_invalidate 0 0 1
 
 -- The limits of the tables and of the numbers.
 pub record LimitsByLabels : Type 0 where
@@ -198,17 +204,17 @@ pub record BoundariesByLabels : Type 0 where
   pub greatest_page : IsRunByLabels (config 1 1 1 0) of_boundaries.greatest_page 0 0 1
   pub held_before_writable : IsRunByLabels (config 1 1 1 0) of_boundaries.held_before_writable 0 1 0
   pub last_slot_and_last_tag : IsRunByLabels (config 1 33 1 0) of_boundaries.last_slot_and_last_tag 0 1 32
-  pub stages_in_reset : IsRunByLabels (config 1 1 1 0) of_boundaries.stages_in_reset 1 0 0
-  pub unmap_in_each_stage : IsRunByLabels (config 1 6 1 0) of_boundaries.unmap_in_each_stage 3 3 0
-  pub unmap_while_stopping_in_reset : IsRunByLabels (config 1 2 1 0) of_boundaries.unmap_while_stopping_in_reset 2 0 0
-  pub waits_after_an_early_reset : IsRunByLabels (config 1 1 1 0) of_boundaries.waits_after_an_early_reset 1 0 0
-  pub credit_after_a_reset : IsRunByLabels (config 1 1 1 0) of_boundaries.credit_after_a_reset 1 0 0
-  pub orders_over_after_a_reset : IsRunByLabels (config 1 4 1 0) of_boundaries.orders_over_after_a_reset 4 0 0
-  pub labels_back_in_reset : IsRunByLabels (config 1 1 1 0) of_boundaries.labels_back_in_reset 0 1 0
+  pub stages_in_reset : IsRunByLabels (config 1 1 1 0) of_stages.stages_in_reset 1 0 0
+  pub unmap_in_each_stage : IsRunByLabels (config 1 6 1 0) of_stages.unmap_in_each_stage 3 3 0
+  pub unmap_while_stopping_in_reset : IsRunByLabels (config 1 2 1 0) of_stages.unmap_while_stopping_in_reset 2 0 0
+  pub waits_after_an_early_reset : IsRunByLabels (config 1 1 1 0) of_stages.waits_after_an_early_reset 1 0 0
+  pub credit_after_a_reset : IsRunByLabels (config 1 1 1 0) of_stages.credit_after_a_reset 1 0 0
+  pub orders_over_after_a_reset : IsRunByLabels (config 1 4 1 0) of_stages.orders_over_after_a_reset 4 0 0
+  pub labels_back_in_reset : IsRunByLabels (config 1 1 1 0) of_stages.labels_back_in_reset 0 1 0
 
 -- Numbers that differ from kind to kind.
 pub record NamesByLabels : Type 0 where
-  pub numbers_apart : IsRunByLabels (config 3 8 3 100) of_names.numbers_apart 7 1 0
+  pub numbers_apart : IsRunByLabels (config 3 8 3 100) of_numbers_apart.numbers_apart 7 1 0
   pub numbers_below_the_first : IsRunByLabels (config 1 2 1 5) of_names.numbers_below_the_first 1 1 0
   pub quit_of_one_of_two : IsRunByLabels (config 1 2 1 0) of_names.quit_of_one_of_two 1 1 0
   pub second_job_of_an_endpoint : IsRunByLabels (config 2 8 2 0) of_names.second_job_of_an_endpoint 1 7 0
@@ -220,30 +226,30 @@ pub record NamesByLabels : Type 0 where
 
 -- What wrong rules would answer otherwise.
 pub record WrongRulesByLabels : Type 0 where
-  pub not_free_when_sent : IsRunByLabels (config 1 2 1 0) of_wrong_rules.not_free_when_sent 0 1 1
-  pub not_free_when_taken : IsRunByLabels (config 1 2 1 0) of_wrong_rules.not_free_when_taken 0 1 1
-  pub not_free_at_the_reset : IsRunByLabels (config 1 2 1 0) of_wrong_rules.not_free_at_the_reset 1 1 0
-  pub not_free_when_unmapped_in_reset : IsRunByLabels (config 1 2 1 0) of_wrong_rules.not_free_when_unmapped_in_reset 1 1 0
-  pub not_freed_at_the_first_of_two : IsRunByLabels (config 1 2 1 0) of_wrong_rules.not_freed_at_the_first_of_two 2 0 0
-  pub not_none_of_eight : IsRunByLabels (config 1 2 1 0) of_wrong_rules.not_none_of_eight 2 0 0
-  pub doomed_answer_not_kept : IsRunByLabels (config 1 2 1 0) of_wrong_rules.doomed_answer_not_kept 2 0 0
-  pub doomed_answer_not_kept_later : IsRunByLabels (config 1 2 1 0) of_wrong_rules.doomed_answer_not_kept_later 1 1 0
-  pub doomed_tag_not_given_back : IsRunByLabels (config 1 2 1 0) of_wrong_rules.doomed_tag_not_given_back 1 0 1
+  pub not_free_when_sent : IsRunByLabels (config 1 2 1 0) of_early_reuse.not_free_when_sent 0 1 1
+  pub not_free_when_taken : IsRunByLabels (config 1 2 1 0) of_early_reuse.not_free_when_taken 0 1 1
+  pub not_free_at_the_reset : IsRunByLabels (config 1 2 1 0) of_early_reuse.not_free_at_the_reset 1 1 0
+  pub not_free_when_unmapped_in_reset : IsRunByLabels (config 1 2 1 0) of_early_reuse.not_free_when_unmapped_in_reset 1 1 0
+  pub not_freed_at_the_first_of_two : IsRunByLabels (config 1 2 1 0) of_early_reuse.not_freed_at_the_first_of_two 2 0 0
+  pub not_none_of_eight : IsRunByLabels (config 1 2 1 0) of_early_reuse.not_none_of_eight 2 0 0
+  pub doomed_answer_not_kept : IsRunByLabels (config 1 2 1 0) of_early_reuse.doomed_answer_not_kept 2 0 0
+  pub doomed_answer_not_kept_later : IsRunByLabels (config 1 2 1 0) of_early_reuse.doomed_answer_not_kept_later 1 1 0
+  pub doomed_tag_not_given_back : IsRunByLabels (config 1 2 1 0) of_early_reuse.doomed_tag_not_given_back 1 0 1
   pub not_finished_while_a_use_runs : IsRunByLabels (config 1 2 1 0) of_wrong_rules.not_finished_while_a_use_runs 2 0 0
   pub no_use_held_against_another : IsRunByLabels (config 1 4 1 0) of_wrong_rules.no_use_held_against_another 0 3 1
   pub no_drain_past_a_page_request : IsRunByLabels (config 1 2 1 0) of_wrong_rules.no_drain_past_a_page_request 2 0 0
   pub no_response_by_an_unbind : IsRunByLabels (config 1 2 1 0) of_wrong_rules.no_response_by_an_unbind 2 0 0
   pub no_response_in_reset : IsRunByLabels (config 1 2 1 0) of_wrong_rules.no_response_in_reset 2 0 0
-  pub not_withheld_past_the_last_wait : IsRunByLabels (config 1 2 1 0) of_wrong_rules.not_withheld_past_the_last_wait 1 1 0
+  pub not_withheld_past_the_last_wait : IsRunByLabels (config 1 2 1 0) of_early_reuse.not_withheld_past_the_last_wait 1 1 0
   pub no_page_invalidation_while_invalidating : IsRunByLabels (config 1 2 1 0) of_wrong_rules.no_page_invalidation_while_invalidating 2 0 0
-  pub not_free_while_invalidating : IsRunByLabels (config 1 2 1 0) of_wrong_rules.not_free_while_invalidating 0 1 1
+  pub not_free_while_invalidating : IsRunByLabels (config 1 2 1 0) of_early_reuse.not_free_while_invalidating 0 1 1
   pub no_reset_done_past_older_messages : IsRunByLabels (config 1 2 1 0) of_wrong_rules.no_reset_done_past_older_messages 2 0 0
-  pub not_released_while_invalidating : IsRunByLabels (config 1 2 1 0) of_wrong_rules.not_released_while_invalidating 1 1 0
-  pub not_released_while_quiet : IsRunByLabels (config 1 2 1 0) of_wrong_rules.not_released_while_quiet 2 0 0
+  pub not_released_while_invalidating : IsRunByLabels (config 1 2 1 0) of_early_reuse.not_released_while_invalidating 1 1 0
+  pub not_released_while_quiet : IsRunByLabels (config 1 2 1 0) of_early_reuse.not_released_while_quiet 2 0 0
   pub no_marker_past_page_requests : IsRunByLabels (config 1 2 1 0) of_wrong_rules.no_marker_past_page_requests 2 0 0
   pub no_wait_past_a_busy_tag : IsRunByLabels (config 1 2 1 0) of_wrong_rules.no_wait_past_a_busy_tag 1 0 1
-  pub no_use_left_by_a_reset : IsRunByLabels (config 1 2 1 0) of_wrong_rules.no_use_left_by_a_reset 2 0 0
-  pub no_index_given_back_by_a_quit : IsRunByLabels (config 1 2 1 0) of_wrong_rules.no_index_given_back_by_a_quit 2 0 0
+  pub no_use_left_by_a_reset : IsRunByLabels (config 1 2 1 0) of_early_reuse.no_use_left_by_a_reset 2 0 0
+  pub no_index_given_back_by_a_quit : IsRunByLabels (config 1 2 1 0) of_early_reuse.no_index_given_back_by_a_quit 2 0 0
   pub no_quit_while_a_use_runs : IsRunByLabels (config 1 2 1 0) of_wrong_rules.no_quit_while_a_use_runs 1 1 0
   pub no_quit_while_a_request_is_out : IsRunByLabels (config 1 2 1 0) of_wrong_rules.no_quit_while_a_request_is_out 2 0 0
   pub no_translation_while_stopping : IsRunByLabels (config 1 2 1 0) of_wrong_rules.no_translation_while_stopping 1 1 0

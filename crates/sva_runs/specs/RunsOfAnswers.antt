@@ -1,6 +1,6 @@
 -- Of runs that are read for what a host keeps, for what was sent or for what was ordered: their answers too, and their counts.
 use Rattle.std.specs.Prelude.{◌++◌}
-use Rattle.sva_model.specs.Runs.{says, IsRun, config}
+use Rattle.sva_model.specs.Runs.{IsRun, config}
 use Rattle.sva_runs.specs.RunsOfNames.{cookies_by_unit, no_translation}
 use Rattle.sva_runs.specs.RunsOfWhatStays.{unmapped_while_invalidating, one_of_two_answered, use_behind_an_invalidation, cached_by_pasid}
 use Rattle.sva_runs.specs.RunsOfWhatStays.{group_filed_in_part, second_group_of_an_index, its_response}

@@ -4,66 +4,72 @@ ghost use Rattle.sva_runs.specs.RunsOfAnswers.{AnswersOfUnmappedWhileInvalidatin
 ghost use Rattle.sva_runs.specs.RunsOfAnswers.{AnswersOfUseBehindAnInvalidation, AnswersOfCachedByPasid};
 ghost use Rattle.sva_runs.specs.RunsOfAnswers.{AnswersOfGroupFiledInPart, AnswersOfSecondGroupOfAnIndex};
 ghost use Rattle.sva_runs.specs.RunsOfAnswers.{AnswersOfCookiesByUnit, AnswersOfNoTranslation};
-ghost use Rattle.sva_runs.specs.RunsOfRefusals.{CausesOfSpace, CausesOfDropSpace, CausesOfMap, FullSpaceReached};
-ghost use Rattle.sva_runs.specs.RunsOfRefusals.{FullSpaceWithoutFrames, FullSpaceWithoutNumbers, CausesOfUnmap};
+ghost use Rattle.sva_runs.specs.RunsOfRefusals.{CausesOfSpace, CausesOfDropSpace, CausesOfMap, CausesOfUnmap};
 ghost use Rattle.sva_runs.specs.RunsOfRefusals.{FullQueueWhileStopping, FullQueueWhileDraining, CausesOfBind};
-ghost use Rattle.sva_runs.specs.RunsOfRefusals.{BindInReset, CausesOfUnbind, UnbindWithoutNumbers, CausesOfAdvance};
-ghost use Rattle.sva_runs.specs.RunsOfRefusals.{CausesAtAUnit, CausesOfWorkers, CausesOfAsk, CausesOfBeginUse};
+ghost use Rattle.sva_runs.specs.RunsOfRefusals.{BindInReset, CausesOfUnbind, CausesOfAdvance, CausesAtAUnit};
+ghost use Rattle.sva_runs.specs.RunsOfRefusals.{CausesOfWorkers, CausesOfAsk, CausesOfBeginUse};
 ghost use Rattle.sva_runs.specs.RunsOfRefusals.{CausesOfEndUseAndEvict, CausesOfFault, FaultWhereDisabled};
-ghost use Rattle.sva_runs.specs.RunsOfRefusals.{CausesOfFinish, CausesOfQuit, QuitWithoutNumbers, CausesOfDeliver};
-ghost use Rattle.sva_runs.specs.RunsOfRefusals.{CausesOfLook, NoNumberAtAll, BindingsSpent, CookiesOfTwoUnits};
-ghost use Rattle.sva_runs.specs.RunsOfRefusals.{CookiesWhileDraining, PumpWithoutNumbers, PumpWithoutTagsAndNumbers};
-ghost use Rattle.sva_runs.specs.RunsOfRefusals.{VerdictsWithoutNumbers, DroppedWithoutNumbers, LostWithoutNumbers};
-ghost use Rattle.sva_runs.specs.RunsOfDeliveries.{StartAndStopInReset, StartBeforeTheReset};
-ghost use Rattle.sva_runs.specs.RunsOfDeliveries.{InvalidateInReset, ResponseInReset, StaleResponseInReset};
-ghost use Rattle.sva_runs.specs.RunsOfDeliveries.{CompletionsInReset, CompletionsAtAnOpenUnit};
-ghost use Rattle.sva_runs.specs.RunsOfDeliveries.{DoomedWithoutTranslation, CacheFullInReset, ResponsesByCode};
-ghost use Rattle.sva_runs.specs.RunsOfDeliveries.{MessagesUpInReset, VectorsOfTwoCounts, OwnReset, EachKindAsSent};
-ghost use Rattle.sva_runs.specs.RunsOfDeliveries.{CountFieldsAsSent};
-ghost use Rattle.sva_runs.specs.RunsOfReadings.{LastRequestPastAMarker, MarkerPastAMarker};
-ghost use Rattle.sva_runs.specs.RunsOfReadings.{RequestWithoutLIsNotOrdered, AdvanceOfALiveBinding};
-ghost use Rattle.sva_runs.specs.RunsOfReadings.{AdvanceOfALostBinding, OneNumberOfEachKind, UnmapPastTheLastPage};
-ghost use Rattle.sva_runs.specs.RunsOfReadings.{RangePastTheLastPage, UnmapWhileDrainedInReset};
+ghost use Rattle.sva_runs.specs.RunsOfRefusals.{CausesOfFinish, CausesOfQuit, CausesOfDeliver, CausesOfLook};
+ghost use Rattle.sva_runs.specs.RunsOfFullSpaces.{FullSpaceReached, FullSpaceWithoutFrames, FullSpaceWithoutNumbers};
+ghost use Rattle.sva_runs.specs.RunsOfSpentNumbers.{UnbindWithoutNumbers, QuitWithoutNumbers, NoNumberAtAll};
+ghost use Rattle.sva_runs.specs.RunsOfSpentNumbers.{BindingsSpent, CookiesOfTwoUnits, CookiesWhileDraining};
+ghost use Rattle.sva_runs.specs.RunsOfSpentNumbers.{PumpWithoutNumbers, PumpWithoutTagsAndNumbers};
+ghost use Rattle.sva_runs.specs.RunsOfSpentNumbers.{VerdictsWithoutNumbers, DroppedWithoutNumbers};
+ghost use Rattle.sva_runs.specs.RunsOfSpentNumbers.{LostWithoutNumbers};
+ghost use Rattle.sva_runs.specs.RunsOfDeliveries.{StartAndStopInReset, StartBeforeTheReset, InvalidateInReset};
+ghost use Rattle.sva_runs.specs.RunsOfDeliveries.{ResponseInReset, StaleResponseInReset, CompletionsInReset};
+ghost use Rattle.sva_runs.specs.RunsOfDeliveries.{CompletionsAtAnOpenUnit, DoomedWithoutTranslation};
+ghost use Rattle.sva_runs.specs.RunsOfDeliveries.{CacheFullInReset, ResponsesByCode, MessagesUpInReset};
+ghost use Rattle.sva_runs.specs.RunsOfDeliveries.{VectorsOfTwoCounts, OwnReset, EachKindAsSent, CountFieldsAsSent};
+ghost use Rattle.sva_runs.specs.RunsOfLinkOrder.{LastRequestPastAMarker, MarkerPastAMarker};
+ghost use Rattle.sva_runs.specs.RunsOfLinkOrder.{RequestWithoutLIsNotOrdered, FailureBeforeTheStop};
+ghost use Rattle.sva_runs.specs.RunsOfLinkOrder.{OrdersDownStayInOrder, StopBehindAnInvalidate};
+ghost use Rattle.sva_runs.specs.RunsOfReadings.{AdvanceOfALiveBinding, AdvanceOfALostBinding, OneNumberOfEachKind};
+ghost use Rattle.sva_runs.specs.RunsOfReadings.{UnmapPastTheLastPage, RangePastTheLastPage, UnmapWhileDrainedInReset};
 ghost use Rattle.sva_runs.specs.RunsOfReadings.{UnmapWhileInvalidatingInReset, UnmapWhileInvalidatingOneThatStarted};
-ghost use Rattle.sva_runs.specs.RunsOfReadings.{UnmapAfterTheInvalidation, PageNamedTwice, PageRequestForNeither};
-ghost use Rattle.sva_runs.specs.RunsOfReadings.{OtherVerdictsNeedNoFrame, SuccessThatIsNone, JobOfALostBinding};
-ghost use Rattle.sva_runs.specs.RunsOfReadings.{DrainWaitsForOtherPasids, WaitOfAnUnmapDoesNotDrain};
-ghost use Rattle.sva_runs.specs.RunsOfReadings.{StaleGroupsKeepTheirRequests, UnfinishedWhereDisabled};
-ghost use Rattle.sva_runs.specs.RunsOfReadings.{UnfinishedWithoutCredit, GroupWhileStopping, GroupOfAnotherPasid};
-ghost use Rattle.sva_runs.specs.RunsOfReadings.{SecondReset, DoomedRequestsAreOut, FailureBeforeTheStop};
-ghost use Rattle.sva_runs.specs.RunsOfReadings.{EarlierWaitsInReset, OrdersDownStayInOrder, StopBehindAnInvalidate};
-ghost use Rattle.sva_runs.specs.RunsOfWrongRules.{NotFreeWhenSent, NotFreeWhenTaken, NotFreeAtTheReset};
-ghost use Rattle.sva_runs.specs.RunsOfWrongRules.{NotFreeWhenUnmappedInReset, NotFreedAtTheFirstOfTwo};
-ghost use Rattle.sva_runs.specs.RunsOfWrongRules.{NotNoneOfEight, DoomedAnswerNotKept, DoomedAnswerNotKeptLater};
-ghost use Rattle.sva_runs.specs.RunsOfWrongRules.{DoomedTagNotGivenBack, NotFinishedWhileAUseRuns};
-ghost use Rattle.sva_runs.specs.RunsOfWrongRules.{NoUseHeldAgainstAnother, NoDrainPastAPageRequest};
-ghost use Rattle.sva_runs.specs.RunsOfWrongRules.{NoResponseByAnUnbind, NoResponseInReset};
-ghost use Rattle.sva_runs.specs.RunsOfWrongRules.{NotWithheldPastTheLastWait, NoPageInvalidationWhileInvalidating};
-ghost use Rattle.sva_runs.specs.RunsOfWrongRules.{NotFreeWhileInvalidating, NoResetDonePastOlderMessages};
-ghost use Rattle.sva_runs.specs.RunsOfWrongRules.{NotReleasedWhileInvalidating, NotReleasedWhileQuiet};
-ghost use Rattle.sva_runs.specs.RunsOfWrongRules.{NoMarkerPastPageRequests, NoWaitPastABusyTag, NoUseLeftByAReset};
-ghost use Rattle.sva_runs.specs.RunsOfWrongRules.{NoIndexGivenBackByAQuit, NoQuitWhileAUseRuns};
+ghost use Rattle.sva_runs.specs.RunsOfReadings.{UnmapAfterTheInvalidation, SecondReset, DoomedRequestsAreOut};
+ghost use Rattle.sva_runs.specs.RunsOfReadings.{EarlierWaitsInReset};
+ghost use Rattle.sva_runs.specs.RunsOfGroups.{PageNamedTwice, PageRequestForNeither, OtherVerdictsNeedNoFrame};
+ghost use Rattle.sva_runs.specs.RunsOfGroups.{SuccessThatIsNone, JobOfALostBinding, DrainWaitsForOtherPasids};
+ghost use Rattle.sva_runs.specs.RunsOfGroups.{WaitOfAnUnmapDoesNotDrain, StaleGroupsKeepTheirRequests};
+ghost use Rattle.sva_runs.specs.RunsOfGroups.{UnfinishedWhereDisabled, UnfinishedWithoutCredit, GroupWhileStopping};
+ghost use Rattle.sva_runs.specs.RunsOfGroups.{GroupOfAnotherPasid};
+ghost use Rattle.sva_runs.specs.RunsOfEarlyReuse.{NotFreeWhenSent, NotFreeWhenTaken, NotFreeAtTheReset};
+ghost use Rattle.sva_runs.specs.RunsOfEarlyReuse.{NotFreeWhenUnmappedInReset, NotFreedAtTheFirstOfTwo};
+ghost use Rattle.sva_runs.specs.RunsOfEarlyReuse.{NotNoneOfEight, DoomedAnswerNotKept, DoomedAnswerNotKeptLater};
+ghost use Rattle.sva_runs.specs.RunsOfEarlyReuse.{DoomedTagNotGivenBack, NotWithheldPastTheLastWait};
+ghost use Rattle.sva_runs.specs.RunsOfEarlyReuse.{NotFreeWhileInvalidating, NotReleasedWhileInvalidating};
+ghost use Rattle.sva_runs.specs.RunsOfEarlyReuse.{NotReleasedWhileQuiet, NoUseLeftByAReset, NoIndexGivenBackByAQuit};
+ghost use Rattle.sva_runs.specs.RunsOfWrongRules.{NotFinishedWhileAUseRuns, NoUseHeldAgainstAnother};
+ghost use Rattle.sva_runs.specs.RunsOfWrongRules.{NoDrainPastAPageRequest, NoResponseByAnUnbind, NoResponseInReset};
+ghost use Rattle.sva_runs.specs.RunsOfWrongRules.{NoPageInvalidationWhileInvalidating, NoResetDonePastOlderMessages};
+ghost use Rattle.sva_runs.specs.RunsOfWrongRules.{NoMarkerPastPageRequests, NoWaitPastABusyTag, NoQuitWhileAUseRuns};
 ghost use Rattle.sva_runs.specs.RunsOfWrongRules.{NoQuitWhileARequestIsOut, NoTranslationWhileStopping};
 ghost use Rattle.sva_runs.specs.RunsOfWrongRules.{NoTranslationOfAnotherSpace, NothingElseInvalidated};
 ghost use Rattle.sva_runs.specs.RunsOfWrongRules.{NothingOfAPasidLeft};
-ghost use Rattle.sva_runs.specs.RunsOfNames.{NumbersApart, NumbersApartAsSent, NumbersApartAsOrdered};
-ghost use Rattle.sva_runs.specs.RunsOfNames.{OtherEndpointAsOrdered, CookiesOfTheFirst, CookiesOfTheOneInReset};
-ghost use Rattle.sva_runs.specs.RunsOfNames.{CookiesOfTheLast, NoTranslationAsSent, FullQueueOfOneUnit};
-ghost use Rattle.sva_runs.specs.RunsOfNames.{NumbersBelowTheFirst, QuitOfOneOfTwo};
-ghost use Rattle.sva_runs.specs.RunsOfNames.{SecondJobOfAnEndpoint, FullQueueOfABinding, PastOlderMessages};
-ghost use Rattle.sva_runs.specs.RunsOfNames.{NewerAnswerInPlace, SecondUnmap, TagsGivenBack, NumbersApartAsAsked};
+ghost use Rattle.sva_runs.specs.RunsOfNumbersApart.{NumbersApart, NumbersApartAsSent, NumbersApartAsOrdered};
+ghost use Rattle.sva_runs.specs.RunsOfNumbersApart.{OtherEndpointAsOrdered, NumbersApartAsAsked};
+ghost use Rattle.sva_runs.specs.RunsOfNames.{CookiesOfTheFirst, CookiesOfTheOneInReset, CookiesOfTheLast};
+ghost use Rattle.sva_runs.specs.RunsOfNames.{NoTranslationAsSent, FullQueueOfOneUnit, NumbersBelowTheFirst};
+ghost use Rattle.sva_runs.specs.RunsOfNames.{QuitOfOneOfTwo, SecondJobOfAnEndpoint, FullQueueOfABinding};
+ghost use Rattle.sva_runs.specs.RunsOfNames.{PastOlderMessages, NewerAnswerInPlace, SecondUnmap, TagsGivenBack};
 ghost use Rattle.sva_runs.specs.RunsOfBoundaries.{MessagesSpentBeforeBindings, LastNumberOfAReset};
 ghost use Rattle.sva_runs.specs.RunsOfBoundaries.{LastNumberOfACompletion, LastCookieOfADrain};
 ghost use Rattle.sva_runs.specs.RunsOfBoundaries.{LastCookieOfAnInvalidation, NoCookieInReset, QuietNeedsNoRoom};
 ghost use Rattle.sva_runs.specs.RunsOfBoundaries.{FullSpaceAndAnother, LastPageAndLastFrame, GreatestPage};
-ghost use Rattle.sva_runs.specs.RunsOfBoundaries.{HeldBeforeWritable, LastSlotAndLastTag, StagesInReset};
-ghost use Rattle.sva_runs.specs.RunsOfBoundaries.{UnmapInEachStage, UnmapWhileStoppingInReset};
-ghost use Rattle.sva_runs.specs.RunsOfBoundaries.{WaitsAfterAnEarlyReset, CreditAfterAReset, OrdersOverAfterAReset};
-ghost use Rattle.sva_runs.specs.RunsOfBoundaries.{LabelsBackInReset, NoStep, EvictInReset};
+ghost use Rattle.sva_runs.specs.RunsOfBoundaries.{HeldBeforeWritable, LastSlotAndLastTag, NoStep, LimitsOfAConfig};
+ghost use Rattle.sva_runs.specs.RunsOfStages.{StagesInReset, UnmapInEachStage, UnmapWhileStoppingInReset};
+ghost use Rattle.sva_runs.specs.RunsOfStages.{WaitsAfterAnEarlyReset, CreditAfterAReset, OrdersOverAfterAReset};
+ghost use Rattle.sva_runs.specs.RunsOfStages.{LabelsBackInReset, EvictInReset};
 ghost use Rattle.sva_runs.specs.RunsOfWhatStays.{SamePageOfTwoPasids, EvictOfOnePage, NoTranslationBesideAnOlder};
 ghost use Rattle.sva_runs.specs.RunsOfWhatStays.{CacheFullOfTwo, DoomedAnswerBesideANewer, UnmappedWhileInvalidating};
 ghost use Rattle.sva_runs.specs.RunsOfWhatStays.{OneOfTwoAnswered, UseBehindAnInvalidation, CachedByPasid};
 ghost use Rattle.sva_runs.specs.RunsOfWhatStays.{GroupFiledInPart, SecondGroupOfAnIndex, NothingElseIsOrdered};
+ghost use Rattle.sva_runs.specs.RunsOfOwnCauses.{FullQueueOfRanges, OpenBesideAReset, QuietBesideAReset};
+ghost use Rattle.sva_runs.specs.RunsOfOwnCauses.{SuccessOfAFullSpace, ReadBesideAWrite, LostBesideAFullQueue};
+ghost use Rattle.sva_runs.specs.RunsOfOwnCauses.{DropBesideAJob, BearersAtThreeEndpoints, BearerByNumber, GreatestPasid};
+ghost use Rattle.sva_runs.specs.WiresInReset.{AnswersOfBusyUnit, UnitInReset, EndpointReset, ResetEnded};
+ghost use Rattle.sva_runs.specs.WiresInReset.{AnswersOfToldToStop, EndingAndStale, AnswersOfFailedGroup, DisabledInterface};
 
 /// The answers of the runs that are read for what a host keeps, for what was sent or for what was ordered.
 pub fn answers()
@@ -226,8 +232,10 @@ pub fn names()
     ensures numbers_apart_as_asked { NumbersApartAsAsked }
 {}
 
-/// The last that is accepted before a limit, and each stage of a binding where it is unmapped, advanced or reset.
+/// The last that is accepted before a limit, and each stage of a binding where it is unmapped, advanced or reset; and which
+/// configs fit.
 pub fn boundaries()
+    ensures limits_of_a_config { LimitsOfAConfig }
     ensures messages_spent_before_bindings { MessagesSpentBeforeBindings }
     ensures last_number_of_a_reset { LastNumberOfAReset }
     ensures last_number_of_a_completion { LastNumberOfACompletion }
@@ -265,4 +273,33 @@ pub fn what_stays()
     ensures group_filed_in_part { GroupFiledInPart }
     ensures second_group_of_an_index { SecondGroupOfAnIndex }
     ensures nothing_else_is_ordered { NothingElseIsOrdered }
+{}
+
+/// What isn't refused: a step for what another endpoint, space or binding has, or for what its own has besides; and who
+/// bears a PASID.
+pub fn own_causes()
+    ensures full_queue_of_ranges { FullQueueOfRanges }
+    ensures open_beside_a_reset { OpenBesideAReset }
+    ensures quiet_beside_a_reset { QuietBesideAReset }
+    ensures success_of_a_full_space { SuccessOfAFullSpace }
+    ensures read_beside_a_write { ReadBesideAWrite }
+    ensures lost_beside_a_full_queue { LostBesideAFullQueue }
+    ensures drop_beside_a_job { DropBesideAJob }
+    ensures bearers_at_three_endpoints { BearersAtThreeEndpoints }
+    ensures bearer_by_number { BearerByNumber }
+    ensures greatest_pasid { GreatestPasid }
+{}
+
+/// What a host keeps, whole, of a unit in reset, before and after its endpoint has reset itself, and when the reset has
+/// ended; and what an endpoint keeps of a PASID that is told to stop, of a stale group and of a disabled interface. Beside
+/// them the answers of these runs.
+pub fn kept_in_reset()
+    ensures busy_unit { AnswersOfBusyUnit }
+    ensures unit_in_reset { UnitInReset }
+    ensures endpoint_reset { EndpointReset }
+    ensures reset_ended { ResetEnded }
+    ensures told_to_stop { AnswersOfToldToStop }
+    ensures ending_and_stale { EndingAndStale }
+    ensures failed_group { AnswersOfFailedGroup }
+    ensures disabled_interface { DisabledInterface }
 {}

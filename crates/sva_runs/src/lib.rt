@@ -7,5 +7,6 @@ mod by_names;
 
 pub use by_labels::runs_by_labels;
 pub use by_names::{
-    answers, boundaries, deliveries, names, readings, refusals, what_stays, wrong_rules,
+    answers, boundaries, deliveries, kept_in_reset, names, own_causes, readings, refusals,
+    what_stays, wrong_rules,
 };

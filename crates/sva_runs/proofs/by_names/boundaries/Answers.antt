@@ -86,3 +86,18 @@ returns-clause-no_step c = (refl, refl)
 pub returns-clause-evict_in_reset : goal.returns-clause-evict_in_reset
 unfolding lowest any_below all_below count_below select tabulate replies
 returns-clause-evict_in_reset c = (refl, refl)
+
+pub returns-clause-limits_of_a_config : goal.returns-clause-limits_of_a_config
+returns-clause-limits_of_a_config c =
+    λ limits. (
+      λ f. (f.some_endpoint, f.most_endpoints, f.some_frame, f.most_frames, f.some_worker, f.most_workers, f.first_number),
+      λ x. record {
+        some_endpoint = x.0;
+        most_endpoints = x.1;
+        some_frame = x.2;
+        most_frames = x.3;
+        some_worker = x.4;
+        most_workers = x.5;
+        first_number = x.6;
+      },
+    )

@@ -1,6 +1,6 @@
 -- Which label a step gives out, and what a pump's answer tells.
-use Rattle.std.proofs.Common.{◌≡◌, ◌≢◌, ◌⊎◌, inl, inr, refl, ap, sym, subst, ◌∙◌, ℕ, zero, suc, ◌<◌, ◌≤◌, Bool, true, false, arith}
-use Rattle.std.specs.Prelude.{Option, Some, None, option_map, ◌&&◌, ◌||◌, not, ◌==◌, List, [], ◌∷◌, Ok}
+use Rattle.std.proofs.Common.{◌≡◌, ◌≢◌, ◌⊎◌, inl, inr, refl, ap, sym, subst, ◌∙◌, ℕ, zero, suc, ◌<◌, Bool, true, false, arith}
+use Rattle.std.specs.Prelude.{Option, Some, None, option_map, ◌&&◌, ◌||◌, not, ◌==◌, List, Ok}
 use Rattle.std.proofs.lemmas.Bool.{not-true, not-false, eqb-true}
 use Rattle.sva_step.specs.declared.answers.Answer.{Answer}
 use Rattle.sva_step.specs.declared.answers.Answer.TheVariants as answer
@@ -9,7 +9,7 @@ use Rattle.sva_step.specs.declared.steps.Step.{Step}
 use Rattle.sva_step.specs.declared.steps.Step.TheVariants as step
 use Rattle.sva_step.specs.Limits
 use Rattle.sva_model.specs.Words.{any_below, lowest, find, is_some, holds_of, the}
-use Rattle.sva_model.specs.State.{PasidRule, Order, Stage, Endpoint, World}
+use Rattle.sva_model.specs.State.{PasidRule, Order, Endpoint, World}
 use Rattle.sva_model.specs.State.PasidRule.{PerEndpoint, PerSpace}
 use Rattle.sva_model.specs.State.Order.{RangeOf, PasidOf, Wait}
 use Rattle.sva_model.specs.State.OrderState.{Queued}
@@ -21,7 +21,7 @@ use Rattle.sva_model.specs.Labels
 use Rattle.sva_model.specs.Refusals.{refusals}
 use Rattle.sva_model.specs.Outcomes.{outcome, pump_outcome, head_outcome, wait_outcome, send_outcome, may_pass}
 use Rattle.sva_model.specs.Steps.{reply, world_after}
-use Rattle.sva_laws.specs.Given.{IsLowestFree, IsBorneBy, IsLowestAtEndpoint, IsGivenPasid, GivesLowest, Pumps}
+use Rattle.sva_laws.specs.Given.{IsLowestFree, IsBorneBy, IsGivenPasid, GivesLowest, Pumps}
 use Rattle.sva_lemmas.proofs.Words.{none_is, some_the, holds_the, lowest_below, lowest_passes, find_passes, find_some, any_below-false, any_below-true}
 use Rattle.sva_lemmas.proofs.Tests.{is_less}
 use Rattle.sva_laws.proofs.Bounds.{Bounds}
@@ -30,7 +30,7 @@ use Rattle.sva_laws.proofs.PageRequests.{arrived_is}
 use Rattle.sva_laws.proofs.Invariant.{Invariant}
 use Rattle.sva_laws.proofs.Runs.{always}
 use Rattle.sva_laws.proofs.Passed.{opened_is}
-use Rattle.sva_laws.proofs.Pasids.{lowest_is, none_lowest, own_or_new, new_is_its}
+use Rattle.sva_laws.proofs.Pasids.{lowest_is, own_or_new, new_is_its}
 use Rattle.sva_laws.proofs.LegalUnit.{Head, head_is, wait_legal}
 use Rattle.sva_laws.proofs.LegalEndpoint.{index_free}
 use Rattle.sva_laws.proofs.Told.{accepted}

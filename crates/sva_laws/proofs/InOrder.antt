@@ -8,7 +8,7 @@ use Rattle.sva_step.specs.declared.limits.Config.{Config}
 use Rattle.sva_step.specs.declared.steps.Step.{Step}
 use Rattle.sva_step.specs.declared.steps.Step.TheVariants as step
 use Rattle.sva_step.specs.declared.steps.Verdict.{Verdict}
-use Rattle.sva_model.specs.Words.{put, select, is_some, the}
+use Rattle.sva_model.specs.Words.{select, the}
 use Rattle.sva_model.specs.Message.{Code}
 use Rattle.sva_model.specs.Message.Code.{SuccessCode, InvalidCode, FailureCode}
 use Rattle.sva_model.specs.State.{PasidRule, World}
@@ -25,7 +25,7 @@ use Rattle.sva_model.specs.Steps.{reply, after_acts, world_after}
 use Rattle.sva_laws.specs.Asked.{IsFirstAsk, MapsInOrder}
 use Rattle.sva_lemmas.proofs.Words.{put-same, put-other, ℕ_cases}
 use Rattle.sva_lemmas.proofs.Counting.{length_select}
-use Rattle.sva_lemmas.proofs.Tests.{is_itself, other_fails}
+use Rattle.sva_lemmas.proofs.Tests.{other_fails}
 use Rattle.sva_laws.proofs.Lookback.{after_one}
 use Rattle.sva_laws.proofs.Told.{accepted}
 use Rattle.sva_laws.proofs.Asked.{Has}

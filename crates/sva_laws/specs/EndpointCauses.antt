@@ -10,7 +10,7 @@ use Rattle.sva_step.specs.declared.steps.Verdict.TheVariants as verdict_is
 use Rattle.sva_step.specs.Limits
 use Rattle.sva_model.specs.State.{PasidRule, PasidState, Subject, Endpoint, World}
 use Rattle.sva_model.specs.State.Stage.{Live}
-use Rattle.sva_model.specs.State.PasidState.{Off, On, Ending}
+use Rattle.sva_model.specs.State.PasidState.{On, Ending}
 use Rattle.sva_model.specs.State.UseState.{Running}
 use Rattle.sva_model.specs.State.GroupState.{Collecting}
 use Rattle.sva_model.specs.State.HostGroupState.{Job}

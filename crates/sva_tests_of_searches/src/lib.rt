@@ -2,12 +2,11 @@
 //! public functions alone; and of forty systems the same ends and claims as by all lists of choices, one after another.
 #![tactic(auto)]
 
-mod letters;
-mod ways;
-
 #[cfg(test)]
 mod all_lists;
 #[cfg(test)]
 mod asserted;
+mod letters;
 #[cfg(test)]
 mod searches;
+mod ways;

@@ -1,5 +1,5 @@
-//! The tests of the search: of two small systems, one whose states are copied as they are and one whose states own memory, by its
-//! public functions alone; and of forty systems the same ends and claims as by all lists of choices, one after another.
+//! The tests of the search, by its public functions alone: of a system whose states are copied as they are and of one
+//! whose states own memory; and of forty systems the same ends and claims as by all lists of choices, one after another.
 #![tactic(auto)]
 
 #[cfg(test)]

@@ -6,7 +6,7 @@ ghost use Rattle.sva_step.specs.declared.steps.Step.TheVariants as step;
 ghost use Rattle.sva_labels.specs.Finding.{flight_of};
 ghost use Rattle.sva_labels.specs.Sound.{IsSound};
 ghost use Rattle.sva_host_state.specs.Flights.{kind_seen};
-ghost use Rattle.sva_host_state.specs.Arriving.{IsArriving, answers};
+ghost use Rattle.sva_host_state.specs.Arriving.{IsArriving, StandsAt, answers};
 ghost use Rattle.sva_host_state.specs.Steps.{ByLabels, IsDown};
 
 use crate::completions::invalidated_arrives;
@@ -15,7 +15,7 @@ use crate::page_requests::page_request_arrives;
 use crate::requests::request_arrives;
 use crate::resets::{reset_arrives, reset_done_arrives};
 use sva_host_state::HostState;
-use sva_msg::{Kind, Message};
+use sva_msg::{Flight, Kind};
 use sva_step::{Answer, Refusal};
 
 /// Delivers the message of this number. `NoSuchMessage` where none is in flight under it, and `Overtakes` where an older
@@ -26,42 +26,38 @@ pub fn deliver(host: &mut HostState, message: u64) -> Result<Answer, Refusal>
     ensures step { ByLabels host.old (step.Deliver message) result host.new }
     ensures memory { answers host.old (flight_of host.old message) ≡ false → result ≢ Err refusal.OutOfMemory }
 {
-    let Some(sent) = host.in_flight.get(message) else {
+    let Some(flight) = host.in_flight.find(message) else {
         return Err(Refusal::NoSuchMessage);
     };
-    if !host.in_flight.may_deliver(message) {
+    if !host.in_flight.may_deliver_found(&flight) {
         return Err(Refusal::Overtakes);
     }
-    let endpoint = sent.endpoint;
-    match &sent.kind {
-        Kind::Reset => reset_arrives(host, message, endpoint),
-        Kind::Request { tag, pasid, page } => request_arrives(
-            host, message, endpoint, *tag, *pasid, *page,
-        ),
-        Kind::Invalidated { vector, count } => invalidated_arrives(
-            host, message, endpoint, *vector, *count,
-        ),
-        Kind::PageRequest(request) => page_request_arrives(host, message, endpoint, *request),
-        Kind::Marker { pasid } => marker_arrives(host, message, endpoint, *pasid),
-        Kind::ResetDone => reset_done_arrives(host, message, endpoint),
+    match &flight.message.kind {
+        Kind::Reset => reset_arrives(host, &flight),
+        Kind::Request { tag, pasid, page } => request_arrives(host, &flight, *tag, *pasid, *page),
+        Kind::Invalidated { vector, count } => invalidated_arrives(host, &flight, *vector, *count),
+        Kind::PageRequest(request) => page_request_arrives(host, &flight, *request),
+        Kind::Marker { pasid } => marker_arrives(host, &flight, *pasid),
+        Kind::ResetDone => reset_done_arrives(host, &flight),
         Kind::Start { .. }
         | Kind::Stop { .. }
         | Kind::Completion { .. }
         | Kind::Invalidate { .. }
-        | Kind::Response { .. } => Ok(goes_down(host, message, sent)),
+        | Kind::Response { .. } => Ok(goes_down(host, &flight)),
     }
 }
 
 /// An endpoint gets a message of its host that is no Reset.
-fn goes_down(host: &mut HostState, message: u64, sent: Message) -> Answer
+fn goes_down(host: &mut HostState, flight: &Flight) -> Answer
     requires sound { IsSound host.old }
-    requires arriving { IsArriving host.old message sent.endpoint sent.kind }
-    requires down { IsDown (kind_seen sent.kind) }
-    ensures { ByLabels host.old (step.Deliver message) (Ok result) host.new }
+    requires arriving { IsArriving host.old flight.now.number flight.now.message.endpoint flight.now.message.kind }
+    requires there { StandsAt host.old flight.now }
+    requires down { IsDown (kind_seen flight.now.message.kind) }
+    ensures { ByLabels host.old (step.Deliver flight.now.number) (Ok result) host.new }
 {
-    let _room = host.in_flight.left();
+    let sent = flight.message;
     let at = sent.endpoint as usize;
-    let _taken = host.in_flight.deliver(message);
+    host.in_flight.deliver_found(flight);
     let received = host.ports[at].device.receive(sent);
     received.answer
 }

@@ -8,10 +8,11 @@ ghost use Rattle.sva_labels.specs.Outcomes.{found_for};
 ghost use Rattle.sva_labels.specs.Sound.{IsSound};
 ghost use Rattle.sva_msg.specs.declared.messages.Kind.TheVariants as kind;
 ghost use Rattle.sva_host_state.specs.Seen.{page_seen};
-ghost use Rattle.sva_host_state.specs.Arriving.{IsArriving};
+ghost use Rattle.sva_host_state.specs.Arriving.{IsArriving, StandsAt};
 ghost use Rattle.sva_host_state.specs.Steps.{ByLabels};
 
 use sva_host_state::{HostState, completion, is_live, send};
+use sva_msg::Flight;
 use sva_step::{Answer, Refusal};
 
 /// What the binding that bears a PASID at an endpoint has at a page: its frame, and whether it may be written. Nothing where
@@ -33,20 +34,21 @@ fn translation(host: &HostState, endpoint: u64, pasid: u32, page: u64) -> Option
 /// is refused: then the request stays in flight.
 pub(crate) fn request_arrives(
     host: &mut HostState,
-    message: u64,
-    endpoint: u64,
+    flight: &Flight,
     tag: u8,
     pasid: u32,
     page: u64,
 ) -> Result<Answer, Refusal>
     requires sound { IsSound host.old }
-    requires arriving { IsArriving host.old message endpoint (kind.Request tag pasid page) }
-    ensures step { ByLabels host.old (step.Deliver message) result host.new }
-    ensures memory { (unit_of host.old endpoint).is_open ≡ false → result ≢ Err refusal.OutOfMemory }
+    requires arriving { IsArriving host.old flight.now.number flight.now.message.endpoint (kind.Request tag pasid page) }
+    requires there { StandsAt host.old flight.now }
+    ensures step { ByLabels host.old (step.Deliver flight.now.number) result host.new }
+    ensures memory { (unit_of host.old flight.now.message.endpoint).is_open ≡ false → result ≢ Err refusal.OutOfMemory }
 {
+    let endpoint = flight.message.endpoint;
     let at = endpoint as usize;
     if !host.ports[at].unit.is_open() {
-        let _taken = host.in_flight.deliver(message);
+        host.in_flight.deliver_found(flight);
         return Ok(Answer::Dropped);
     }
     let found = translation(host, endpoint, pasid, page);
@@ -56,6 +58,6 @@ pub(crate) fn request_arrives(
         completion(tag, page, found),
         1,
     )?;
-    let _taken = host.in_flight.deliver(message);
+    host.in_flight.deliver_found(flight);
     Ok(Answer::Completion)
 }

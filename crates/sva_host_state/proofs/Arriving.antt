@@ -1,14 +1,17 @@
 -- What is known of a message that arrives.
-use Rattle.std.proofs.Common.{◌≡◌, refl, ap, sym, ◌∙◌, subst, ℕ, suc, ◌<◌, Bool, true, false, arith}
-use Rattle.std.specs.Prelude.{not, ◌==◌, if◌then◌else◌, nat_lt, Ok, Option, Some, None, List, [], ◌∷◌, length, slice_get}
+use Rattle.std.proofs.Common.{◌≡◌, refl, ap, sym, ◌∙◌, subst, ℕ, zero, suc, ◌<◌, Bool, true, false, arith}
+use Rattle.std.specs.Prelude.{not, ◌==◌, if◌then◌else◌, nat_lt, Ok, Option, Some, None, option_map, List, [], ◌∷◌, map, length, slice_get}
 use Rattle.std.proofs.lemmas.Bool.Decides.{nat_tests}
 use Rattle.std.specs.List.{find, list_any}
 use Rattle.sva_model.specs.Wire.{Wire, FlightWire}
 use Rattle.sva_labels.specs.Finding.{flight_of, may_deliver, holds_back}
 use Rattle.sva_labels.specs.Sound.{IsSound}
+use Rattle.sva_msg.specs.declared.in_flight.Flight.{Flight}
 use Rattle.sva_msg.specs.declared.messages.Kind.{Kind}
 use Rattle.sva_msg.specs.declared.messages.Message.{Message as Sent}
-use Rattle.sva_msg.specs.Bag.{IsNumbered, MayDeliver, message_at}
+use Rattle.sva_msg.specs.Bag.{InFlight, IsNumbered, MayDeliver, message_at}
+use Rattle.sva_msg.specs.Flight.{IsAt}
+use Rattle.sva_msg.proofs.Numbered.{number_at}
 use Rattle.sva_parts_by_labels.specs.Flights.{flight_seen, flight_at, flights_seen}
 use Rattle.sva_parts_by_labels.proofs.Flights.{flight_laws}
 use Rattle.sva_host_state.specs.declared.host_state.HostState.TheInside.{Inside as HostState}
@@ -16,7 +19,7 @@ use Rattle.sva_host_state.specs.declared.host_state.Port.{Port}
 use Rattle.sva_host_state.specs.Inner.{wire_of}
 use Rattle.sva_host_state.specs.Steps.{PortFor}
 use Rattle.sva_host_state.proofs.Ports.{below}
-use Rattle.sva_host_state.specs.Arriving.{IsArriving}
+use Rattle.sva_host_state.specs.Arriving.{IsArriving, StandsAt}
 
 -- what is found under a number stands somewhere in the list
 pub stands : (n : ℕ) (fs : List FlightWire) (f : FlightWire) → find (λ g. g.number == n) fs ≡ Some f → (k : ℕ) × (slice_get fs k ≡ Some f)
@@ -60,6 +63,28 @@ may_take host v n e kind view numbered arriving = go (message_at host.in_flight 
             let both : ◌≡◌ {A = Option FlightWire} (Some (flight_seen (n, sent))) (Some (flight_seen (n, record { endpoint = e; kind = kind }))) =
             sym (ap (flight_at n) some) ∙ sym ((flight_laws host.in_flight numbered).by_number n) ∙ found in
             cc
+
+-- where it was found
+numbers_seen : (es : List (ℕ × Sent)) (k : ℕ) → option_map (λ (f : FlightWire). f.number) (slice_get (map flight_seen es) k) ≡ number_at es k
+numbers_seen [] k = refl
+numbers_seen (p ∷ es) zero = refl
+numbers_seen (p ∷ es) (suc k) = numbers_seen es k
+
+pub seen_at : (bag : InFlight) (flight : Flight) → option_map (λ (f : FlightWire). f.number) (slice_get (flights_seen bag) flight.place)
+    ≡ number_at bag.messages flight.place
+seen_at bag flight = numbers_seen bag.messages flight.place
+
+pub stands_at : (host : HostState) (v : Wire) (flight : Flight) → wire_of host ≡ v → StandsAt v flight → IsAt host.in_flight flight
+stands_at host v flight view is =
+    sym (seen_at host.in_flight flight)
+    ∙ ap (λ (w : Wire). option_map (λ (f : FlightWire). f.number) (slice_get w.in_flight flight.place)) view
+    ∙ is
+
+pub stands_there : (host : HostState) (v : Wire) (flight : Flight) → wire_of host ≡ v → IsAt host.in_flight flight → StandsAt v flight
+stands_there host v flight view is =
+    ap (λ (w : Wire). option_map (λ (f : FlightWire). f.number) (slice_get w.in_flight flight.place)) (sym view)
+    ∙ seen_at host.in_flight flight
+    ∙ is
 
 -- its endpoint is there
 pub goes_to : (w : Wire) (n e : ℕ) (kind : Kind) → IsSound w → IsArriving w n e kind → e < length w.parts

@@ -22,11 +22,12 @@ use Rattle.sva_msg.specs.declared.messages.Kind.{Kind}
 use Rattle.sva_msg.specs.Bag.{InFlight}
 use Rattle.sva_msg.specs.declared.extents.Extent.{Extent}
 use Rattle.sva_msg.specs.declared.extents.Extent.TheVariants.{Pages, All}
-use Rattle.sva_iommu.specs.declared.pumping.Sending.{Sending}
-use Rattle.sva_iommu.specs.declared.pumping.Next.{Next}
-use Rattle.sva_iommu.specs.declared.pumping.Next.TheVariants.{Idle, Blocked, Send, Pass}
+use Rattle.sva_queue.specs.declared.heads.Sending.{Sending}
+use Rattle.sva_queue.specs.declared.heads.Next.{Next}
+use Rattle.sva_queue.specs.declared.heads.Next.TheVariants.{Idle, Blocked, Send, Pass}
 use Rattle.sva_iommu.specs.Seen.{UnitSeen, with_unit as with_own}
-use Rattle.sva_iommu.specs.Pumping.{send_next, pass_next, may_pass, next_at, next_of, pumped, unit_sent, unit_passed}
+use Rattle.sva_iommu.specs.Pumping.{pass_next, may_pass, next_at, next_of, pumped, unit_sent, unit_passed}
+use Rattle.sva_queue.specs.Heads.{send_next}
 use Rattle.sva_msg.specs.Seen.{extent_seen}
 use Rattle.sva_msg.specs.Extents.{scope_sent}
 use Rattle.sva_iommu.proofs.Pumps.{pump_is}

@@ -17,7 +17,7 @@ pub mod Faults
 pub mod Quits
 pub mod Finishes
 pub mod TakenOut
-pub mod Awaited
+pub mod Planning
 pub mod Submitting
 pub mod PagesOut
 pub mod Arrivals

@@ -13,12 +13,11 @@ use Rattle.sva_frames.specs.declared.waits.Target.{Target}
 use Rattle.sva_frames.specs.Frames.{has_target}
 use Rattle.sva_model.specs.Words.{tabulate, any_below, count_below}
 use Rattle.sva_model.specs.Outcomes.{unmap_answer, unmap_range_answer}
-use Rattle.sva_model.specs.Refusals.{Cause}
 use Rattle.sva_model.specs.Steps.{Reply}
 use Rattle.sva_model.specs.Wire.{Wire, PlaceWire, TargetWire}
 use Rattle.sva_model.specs.Wire.TargetWire.{Cookie, ResetEnd}
 use Rattle.sva_labels.specs.Finding.{unit_of, bound_at, pages_in, frames_of, is_mapped}
-use Rattle.sva_labels.specs.Causes.{queue_full, numbers_spent, waits_needed}
+use Rattle.sva_labels.specs.Causes.{lacks}
 use Rattle.sva_labels.specs.Host.{Decision, checked, decide_of}
 use Rattle.sva_labels.specs.Moves.{targets_of, target_by, cookie_at, with_pages, without_pages, is_between, placed, place_for}
 use Rattle.sva_labels.specs.Outcomes.{waits, result_of}
@@ -31,15 +30,13 @@ use Rattle.sva_address_spaces.specs.Pieces.{verdict}
 use Rattle.sva_address_spaces.specs.Unmapping.{may_unmap, may_unmap_range, unmap_causes_of, range_causes_of, unmapped}
 use Rattle.sva_parts_by_labels.proofs.Bindings.{seen_some}
 use Rattle.sva_host_state.specs.declared.host_state.HostState.TheInside.{Inside as HostState}
+use Rattle.sva_host_state.specs.declared.unmapping.Plan.{Plan}
 use Rattle.sva_host_state.specs.Inner.{wire_of}
 use Rattle.sva_host_state.specs.Steps.{Does, ByLabels}
-use Rattle.sva_host_state.specs.Unmapping.{have_room, submitted}
+use Rattle.sva_host_state.specs.Unmapping.{lacks_room, IsPlan, unit_causes, submitted}
 use Rattle.sva_host_state.proofs.Deciding.{IsOther, refused_by, passed, all_clear}
 use Rattle.sva_host_state.proofs.Refusing.{is_other}
 use Rattle.sva_host_state.proofs.Submitting.{room_there}
-
-abbrev pub unit_causes : Wire → (space descriptors : ℕ) → List Cause
-unit_causes w n k = queue_full w n k ∷ numbers_spent w.next_cookie (waits_needed w n) ∷ []
 
 pub unmap_refused : (host : HostState) (n q count : ℕ) (x : Refusal) → Err x ≡ may_unmap host.address_spaces n q count
     → ByLabels (wire_of host) (step.Unmap n q count) (Err x) (wire_of host)
@@ -62,8 +59,15 @@ units_refuse host v n q count x view allows is =
 
 -- Room for what the frames wait for.
 
-pub units_fit : (v : Wire) (n k : ℕ) → Ok tt ≡ verdict (unit_causes v n k) → have_room v n k ≡ true
-units_fit v n k allows = ap (λ (b : Bool). not b) (all_clear tt tt (unit_causes v n k) (sym allows)).0
+pub units_fit : (v : Wire) (n k : ℕ) → Ok tt ≡ verdict (unit_causes v n k) → any_below (length v.parts) (lacks_room v n k) ≡ false
+units_fit v n k allows = (all_clear tt tt (unit_causes v n k) (sym allows)).0
+
+low : (next k : ℕ) → lacks next k ≡ false → next + k ≤ 2 ^ 63
+low next k is = grind (arith, nat_tests)
+
+pub cookies_left : (v : Wire) (n k : ℕ) (plan : Plan) → IsPlan v n k plan → Ok tt ≡ verdict (unit_causes v n k) → v.next_cookie + plan.cookies ≤ 2 ^ 63
+cookies_left v n k plan is allows =
+    low v.next_cookie plan.cookies (ap (lacks v.next_cookie) is.cookies ∙ (all_clear tt tt (unit_causes v n k) (sym allows)).1.0)
 
 pub at_least_one : (memory : AddressSpacesSeen) (n q count : ℕ) → Ok tt ≡ may_unmap memory n q count → 1 ≤ count
 at_least_one memory n q count allows = one count (all_clear tt tt (unmap_causes_of memory n q count) (sym allows)).1.0
@@ -72,7 +76,7 @@ at_least_one memory n q count allows = one count (all_clear tt tt (unmap_causes_
     one c is = grind (arith, nat_tests)
 
 pub room_for : (v : Wire) (n count : ℕ) (places : List PlaceWire) (targets : List (Option TargetWire)) → IsSound v → 1 ≤ count
-    → have_room v n (count + 1) ≡ true
+    → any_below (length v.parts) (lacks_room v n (count + 1)) ≡ false
     → places ≡ v.places → targets ≡ targets_of v n → HaveRoom places targets
 room_for v n count places targets s more free same is = λ e target h. go e target h
   where

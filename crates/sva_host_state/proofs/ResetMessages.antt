@@ -16,7 +16,9 @@ use Rattle.sva_labels.specs.Outcomes.{by_one, deliver_result}
 use Rattle.sva_msg.specs.declared.messages.Kind.TheVariants.{Reset, ResetDone}
 use Rattle.sva_msg.specs.declared.messages.Message.{Message as Sent}
 use Rattle.sva_msg.specs.Bag.{InFlight, IsNumbered, MayDeliver, message_at, with_sent, without}
-use Rattle.sva_msg.proofs.Numbered.{AreNumbered-sent, lookup-above}
+use Rattle.sva_msg.specs.Flight.{IsAt}
+use Rattle.sva_msg.specs.declared.in_flight.Flight.{Flight}
+use Rattle.sva_msg.proofs.Numbered.{AreNumbered-sent, lookup-above, number_at-sent}
 use Rattle.sva_endpoint.specs.Deliveries.{after_receive}
 use Rattle.sva_parts_by_labels.specs.Device.{device_seen}
 use Rattle.sva_parts_by_labels.specs.Flights.{flight_seen, flights_seen}
@@ -72,6 +74,11 @@ may_still bag after n m numbers may is = subst (λ (b : InFlight). MayDeliver b 
           found_before n bag.next bag.messages m low ∙ at,
           λ k other l there. none k other l (sym (found_before k bag.next bag.messages m (omega (arith, low, l))) ∙ there),
         )
+
+-- it stands where it stood
+pub still_at : (bag after : InFlight) (flight : Flight) (m : Sent) → IsAt bag flight → after ≡ with_sent bag m 1 → IsAt after flight
+still_at bag after flight m at is =
+    subst (λ (b : InFlight). IsAt b flight) (sym is) (number_at-sent flight.number flight.place bag.messages ((bag.next, m) ∷ []) at)
 
 -- what is left once it is taken out
 pub left_in_flight : (bag : InFlight) (n : ℕ) (m : Sent) → IsNumbered bag → lacks bag.next 1 ≡ false → n < bag.next

@@ -1,12 +1,10 @@
--- Which units get descriptors where pages of a space are taken out, as the ports and the bindings of a host tell it.
-use Rattle.std.proofs.Common.{◌≡◌, ◌⊎◌, inl, inr, refl, ap, sym, ◌∙◌, ℕ, suc, ◌+◌, ◌<◌, Bool, true, false, arith}
-use Rattle.std.specs.Prelude.{◌&&◌, not, if◌then◌else◌, Option, option_map, List, length, slice_index_or}
+-- The units of a host, and the bindings of a space there, as its ports and its table of bindings tell them; tests and counts row by row.
+use Rattle.std.proofs.Common.{◌≡◌, refl, ap, sym, ◌∙◌, ℕ, suc, ◌+◌, ◌<◌, Bool, true, false, arith}
+use Rattle.std.specs.Prelude.{if◌then◌else◌, Option, option_map, List, length, slice_index_or}
 use Rattle.std.proofs.lemmas.List.{length-map}
 use Rattle.sva_model.specs.Words.{any_below, count_below}
 use Rattle.sva_model.specs.Wire.{Wire}
-use Rattle.sva_labels.specs.Finding.{submits_by, submits, has_room, unit_of, bound_at}
-use Rattle.sva_lemmas.proofs.Tests.{first_alone}
-use Rattle.sva_lemmas.proofs.Words.{any_below-intro}
+use Rattle.sva_labels.specs.Finding.{unit_of, bound_at}
 use Rattle.sva_pasid.specs.declared.places.TableEntry.{TableEntry}
 use Rattle.sva_pasid.specs.Places.{place_between}
 use Rattle.sva_parts_by_labels.specs.Bindings.{binding_seen}
@@ -14,7 +12,6 @@ use Rattle.sva_parts_by_labels.proofs.Bindings.{bindings_are_seen}
 use Rattle.sva_host_state.specs.declared.host_state.HostState.TheInside.{Inside as HostState}
 use Rattle.sva_host_state.specs.declared.host_state.Port.{Port}
 use Rattle.sva_host_state.specs.Inner.{part_seen, wire_of}
-use Rattle.sva_host_state.specs.Unmapping.{have_room}
 use Rattle.sva_host_state.proofs.Ports.{part_there}
 
 pub parts_seen : (host : HostState) (v : Wire) → wire_of host ≡ v → length v.parts ≡ length host.ports.items
@@ -32,13 +29,6 @@ pub bound_there : (host : HostState) (v : Wire) (e n : ℕ) (o : Option TableEnt
     → option_map binding_seen o ≡ bound_at v e n
 bound_there host v e n o view found =
     ap (option_map binding_seen) found ∙ ((bindings_are_seen host.bindings).0 (wire_of host) refl).by_space e n ∙ ap (λ (u : Wire). bound_at u e n) view
-
-pub submits_there : (host : HostState) (v : Wire) (e n : ℕ) (slice : List Port) (d : Port) (o : Option TableEntry) → wire_of host ≡ v → e < length v.parts
-    → slice ≡ host.ports.items
-    → o ≡ place_between e n host.bindings → submits_by (slice_index_or slice e d).unit.unit (option_map binding_seen o) ≡ submits v n e
-submits_there host v e n slice d o view there same found =
-    let length_is = parts_seen host v view in
-    λ i. submits_by (unit_there host v e slice d view (omega arith) same i) (bound_there host v e n o view found i)
 
 -- Row by row.
 
@@ -68,14 +58,3 @@ unfolding count_below
 counted_off n p here =
     let next : n + 1 ≡ suc n = omega arith in
     ap (λ k. count_below k p) next ∙ ap (λ (b : Bool). if b then suc (count_below n p) else count_below n p) here
-
-pub lacks_none : (a b s r : Bool) → a ≡ s → b ≡ r → (a ≡ true) × (b ≡ true) ⊎ (a ≡ false) → (s && not r) ≡ false
-lacks_none a b false r _ _ is = refl
-lacks_none a b true true _ _ is = refl
-lacks_none a b true false asks lacks (inl is) = absurd (cc (is.1, lacks))
-lacks_none a b true false asks lacks (inr is) = absurd (cc (is, asks))
-
-pub no_room : (w : Wire) (n k e : ℕ) → e < length w.parts → submits w n e ≡ true → has_room (unit_of w e) k ≡ false → false ≡ have_room w n k
-no_room w n k e there asks lacks =
-    ap (λ (b : Bool). not b)
-    (sym (any_below-intro (length w.parts) (λ e. submits w n e && not (has_room (unit_of w e) k)) e there (first_alone _ _ asks lacks)))

@@ -4,8 +4,8 @@ use Rattle.sva_model.specs.Wire.{Wire}
 use Rattle.sva_labels.specs.Finding.{part_of, unit_of}
 use Rattle.sva_msg.specs.declared.messages.Kind.{Kind}
 use Rattle.sva_msg.specs.declared.messages.Kind.TheVariants.{Invalidate}
-use Rattle.sva_iommu.specs.declared.pumping.Next.{Next}
-use Rattle.sva_iommu.specs.declared.pumping.Sending.{Sending}
+use Rattle.sva_queue.specs.declared.heads.Next.{Next}
+use Rattle.sva_queue.specs.declared.heads.Sending.{Sending}
 use Rattle.sva_iommu.specs.Seen.{UnitSeen}
 use Rattle.sva_iommu.specs.Pumping.{next_of}
 use Rattle.sva_msg.specs.Extents.{scope_sent}

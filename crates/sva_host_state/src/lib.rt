@@ -22,4 +22,4 @@ pub use requests::completion;
 pub use sending::send;
 pub use stage_reading::{is_draining, is_live, is_lost, is_quiet};
 pub use unbinding::Ending;
-pub use unmapping::{submit_all, submits, target};
+pub use unmapping::Plan;

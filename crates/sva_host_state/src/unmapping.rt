@@ -1,32 +1,18 @@
-//! What each unit is asked, and gets, where pages are taken out of a space, and what the frames wait for there.
+//! The plan of an unmapping: what each unit gets where pages are taken out of a space, and what the frames wait for there.
 
-ghost use Rattle.std.specs.Prelude.{◌≡◌, if◌then◌else◌, ◌+◌, ◌≤◌, ◌*◌, ◌%◌, ◌^◌, true, length, option_map, map, suc};
-ghost use Rattle.std.specs.Option.{option_copied};
-ghost use Rattle.sva_model.specs.Words.{tabulate};
+ghost use Rattle.std.specs.Prelude.{◌≡◌, if◌then◌else◌, ◌+◌, ◌≤◌, ◌*◌, ◌%◌, ◌^◌, option_map, suc};
 ghost use Rattle.sva_model.specs.Wire.TargetWire.{Cookie as CookieTarget, ResetEnd as ResetTarget};
-ghost use Rattle.sva_labels.specs.Finding.{submits_by};
-ghost use Rattle.sva_labels.specs.Causes.{waits_needed};
-ghost use Rattle.sva_labels.specs.Moves.{part_unmapped, target_by_stage, target_by};
+ghost use Rattle.sva_labels.specs.Moves.{target_by_stage};
 ghost use Rattle.sva_address_spaces.specs.Seen.{target_seen};
-ghost use Rattle.sva_parts_by_labels.specs.Bindings.{binding_seen, stage_or_quiet};
-ghost use Rattle.sva_host_state.specs.Inner.{part_seen};
-ghost use Rattle.sva_host_state.specs.Unmapping.{have_room, pasid_asked, AreGiven, wire_with, devices_of};
+ghost use Rattle.sva_parts_by_labels.specs.Bindings.{stage_or_quiet};
+ghost use Rattle.sva_host_state.specs.Unmapping.{Plans, IsPlan, AreGiven, submitted};
 
-use crate::host_state::Port;
+use crate::host_state::HostState;
 use crate::stage_reading::is_before_invalidating;
-use sva_frames::Target;
+use sva_frames::{Target, Waits};
 use sva_iommu::RemappingUnit;
-use sva_pasid::{Stage, Table, TableEntry};
-
-/// Whether a unit gets descriptors for the binding of the space there, if there is one.
-pub fn submits(unit: &RemappingUnit, place: Option<&TableEntry>) -> bool
-    ensures { result ≡ submits_by unit.now.unit (option_map binding_seen (option_copied place.entry)) }
-{
-    match place {
-        Some(place) => unit.is_open() && is_before_invalidating(&place.stage),
-        None => false,
-    }
-}
+use sva_pasid::Stage;
+use sva_step::{MOST_ENDPOINTS, NUMBERS, Refusal};
 
 /// What a frame waits for at a unit: this wait, or the end of the reset that the unit is in.
 fn awaited(unit: &RemappingUnit, cookie: u64) -> Target
@@ -39,7 +25,8 @@ fn awaited(unit: &RemappingUnit, cookie: u64) -> Target
     }
 }
 
-/// The same, by the stage of that binding.
+/// What the frames of pages that are taken out wait for at a unit, by the stage of the binding of their space there. `cookie`
+/// is that of the wait which the unit gets.
 fn target_of(unit: &RemappingUnit, stage: &Option<Stage>, cookie: u64) -> Option<Target>
     ensures { option_map target_seen result ≡ target_by_stage unit.now.unit cookie (stage_or_quiet stage.now) }
 {
@@ -60,63 +47,73 @@ fn target_of(unit: &RemappingUnit, stage: &Option<Stage>, cookie: u64) -> Option
     }
 }
 
-/// What the frames of pages that are taken out wait for at a unit, by the place of the binding of their space there, if there is
-/// one. `cookie` is that of the wait which the unit gets.
-pub fn target(unit: &RemappingUnit, place: Option<&TableEntry>, cookie: u64) -> Option<Target>
-    ensures { option_map target_seen result ≡ target_by unit.now.unit cookie (option_map binding_seen (option_copied place.entry)) }
-{
-    match place {
-        Some(place) => target_of(unit, &place.stage, cookie),
-        None => None,
-    }
+/// What an unmapping of pages of a space asks of the units, and what its frames wait for.
+#[derive(Drop)]
+pub struct Plan {
+    /// The number of the space.
+    pub space: u64,
+    /// The PASID under which the unit of an endpoint gets descriptors, by the endpoint's number, if it gets some.
+    pub pasids: [Option<u32>; MOST_ENDPOINTS],
+    /// What the frames wait for, unit by unit.
+    pub waits: Waits,
+    /// How many units get descriptors, each with a wait. The cookies of these are given out in rising order of units.
+    pub cookies: u64,
 }
 
-/// The PASID of the binding for which a unit gets descriptors, if it gets some.
-fn pasid_asked(unit: &RemappingUnit, place: Option<&TableEntry>) -> Option<u32>
-    ensures { result ≡ pasid_asked unit.now.unit (option_map binding_seen (option_copied place.entry)) }
-{
-    match place {
-        Some(place) => {
+impl Plan {
+    /// The plan of an unmapping of pages of a space for which each unit that gets some gets so many descriptors. `QueueFull`
+    /// where one of them lacks the room, and `NumbersSpent` where too few cookies are left for the waits.
+    pub fn new(host: &HostState, space: u64, descriptors: u64) -> Result<Plan, Refusal>
+        requires cookies { host.now.next_cookie ≤ 2 ^ 63 }
+        ensures { Plans host.now space descriptors result }
+    {
+        let mut plan = Plan {
+            space,
+            pasids: [None; MOST_ENDPOINTS],
+            waits: Waits::new(),
+            cookies: 0,
+        };
+        for endpoint in 0..host.ports.len() {
+            let Some(place) = host.bindings.place_between(endpoint as u64, space) else {
+                continue;
+            };
+            let unit = &host.ports[endpoint].unit;
+            if let Some(target) = target_of(unit, &place.stage, host.next_cookie + plan.cookies) {
+                plan.waits.push(endpoint as u64, target);
+            }
             if unit.is_open() && is_before_invalidating(&place.stage) {
-                Some(place.pasid)
-            } else {
-                None
+                if !unit.has_room(descriptors) {
+                    return Err(Refusal::QueueFull);
+                }
+                plan.pasids[endpoint] = Some(place.pasid);
+                plan.cookies += 1;
             }
         }
-        None => None,
+        if NUMBERS - host.next_cookie < plan.cookies {
+            return Err(Refusal::NumbersSpent);
+        }
+        Ok(plan)
     }
-}
 
-/// Each unit that gets descriptors for the space gets them, with the next cookie for its wait. Gives the cookie after these.
-pub fn submit_all(
-    ports: &mut [Port],
-    bindings: &Table,
-    space: u64,
-    page: u64,
-    count: u64,
-    order: u8,
-    first: u64,
-) -> u64
-    requires few { length ports.old ≤ 8 }
-    requires room { have_room (wire_with ports.old bindings.now first) space (suc count) ≡ true }
-    requires given { AreGiven (wire_with ports.old bindings.now first) }
-    requires cookies { first + waits_needed (wire_with ports.old bindings.now first) space ≤ 2 ^ 63 }
-    requires small { order ≤ 9 }
-    requires aligned { page % 2 ^ order ≡ 0 }
-    requires low { page + count * 2 ^ order ≤ 2 ^ 36 }
-    ensures parts { map part_seen ports.new ≡ tabulate (length ports.old) (part_unmapped (wire_with ports.old bindings.now first) space page count order) }
-    ensures devices { devices_of ports.new ≡ devices_of ports.old }
-    ensures next { result ≡ first + waits_needed (wire_with ports.old bindings.now first) space }
-{
-    let mut cookie = first;
-    for endpoint in 0..ports.len() {
-        let place = bindings.place_between(endpoint as u64, space);
-        if let Some(pasid) = pasid_asked(&ports[endpoint].unit, place) {
-            ports[endpoint]
-                .unit
-                .submit_ranges(pasid, page, count, order, cookie);
-            cookie += 1;
+    /// Each unit that is to get descriptors gets them: for `count` ranges of 2^`order` pages, one behind another from `page`
+    /// on, and with the next cookie for its wait.
+    pub fn submit(&self, host: &mut HostState, page: u64, count: u64, order: u8)
+        requires plan { IsPlan host.old self.now.space (suc count) self.now }
+        requires given { AreGiven host.old }
+        requires cookies { host.old.next_cookie + self.now.cookies ≤ 2 ^ 63 }
+        requires small { order ≤ 9 }
+        requires aligned { page % 2 ^ order ≡ 0 }
+        requires low { page + count * 2 ^ order ≤ 2 ^ 36 }
+        ensures { host.new ≡ submitted host.old self.now.space page count order }
+    {
+        for endpoint in 0..host.ports.len() {
+            if let Some(pasid) = self.pasids[endpoint] {
+                let cookie = host.next_cookie;
+                host.ports[endpoint]
+                    .unit
+                    .submit_ranges(pasid, page, count, order, cookie);
+                host.next_cookie += 1;
+            }
         }
     }
-    cookie
 }

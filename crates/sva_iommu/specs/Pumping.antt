@@ -1,9 +1,9 @@
 -- What a unit does with the head of its invalidation queue.
 use Rattle.std.specs.Prelude.{◌≡◌, ℕ, suc, Bool, true, false, ◌&&◌, ◌||◌, not, ◌==◌, Option, Some, None, List, [], ◌∷◌, drop, length, slice_set}
 use Rattle.sva_step.specs.declared.answers.Answer.TheVariants as answer
-use Rattle.sva_queue.specs.declared.descriptors.Descriptor.{Descriptor as Order}
-use Rattle.sva_queue.specs.declared.descriptors.Descriptor.TheVariants.{Range, Pasid, Wait}
-use Rattle.sva_msg.specs.declared.extents.Extent.{Extent}
+use Rattle.sva_queue.specs.declared.heads.Next.{Next}
+use Rattle.sva_queue.specs.declared.heads.Next.TheVariants.{Idle, Blocked, Send, Pass}
+use Rattle.sva_queue.specs.Heads.{send_next}
 use Rattle.sva_msg.specs.declared.extents.Extent.TheVariants.{Pages, All}
 use Rattle.sva_msg.specs.Seen.{extent_seen}
 use Rattle.sva_model.specs.Wire.{EndpointWire, UnitWire, DeviceWire, HostGroupWire, Descriptor}
@@ -12,39 +12,7 @@ use Rattle.sva_model.specs.Wire.Descriptor.{RangeDescriptor, PasidDescriptor, Wa
 use Rattle.sva_labels.specs.Finding.{lowest_label, is_some_busy}
 use Rattle.sva_labels.specs.Moves.{Move}
 use Rattle.sva_labels.specs.Outcomes.{Result, says, by_one, pump_result}
-use Rattle.sva_iommu.specs.declared.pumping.Sending.{Sending}
-use Rattle.sva_iommu.specs.declared.pumping.Next.{Next}
-use Rattle.sva_iommu.specs.declared.pumping.Next.TheVariants.{Idle, Blocked, Send, Pass}
 use Rattle.sva_iommu.specs.Seen.{UnitSeen}
-
--- An invalidation of the queue under an ITag.
-
--- is it an invalidation, which the endpoint has to answer, and no wait?
-abbrev pub is_invalidation : Order → Bool
-is_invalidation (Wait cookie drain) = false
-is_invalidation _ = true
-
--- what an invalidation is of; a wait is of nothing
-abbrev pub extent_of : Order → Extent
-extent_of (Range pasid range) = Pages range
-extent_of _ = All
-
--- the PASID that an invalidation is of; a wait is of none, for which 0 stands
-abbrev pub pasid_of : Order → ℕ
-pasid_of (Range pasid range) = pasid
-pasid_of (Pasid pasid) = pasid
-pasid_of (Wait cookie drain) = 0
-
--- an invalidation as it goes to the endpoint under this ITag
-abbrev pub sending_of : (itag : ℕ) → Order → Sending
-sending_of itag order = record { itag = itag; pasid = pasid_of order; extent = extent_of order }
-
--- What becomes of the head.
-
--- an invalidation is sent under the lowest ITag that is free
-abbrev pub send_next : (pasid : ℕ) → Extent → Option ℕ → Next
-send_next pasid extent None = Blocked
-send_next pasid extent (Some itag) = Send (record { itag = itag; pasid = pasid; extent = extent })
 
 -- a wait is passed where no ITag is busy and, if it drains, no page request waits
 abbrev pub pass_next : (cookie : ℕ) → Bool → Next

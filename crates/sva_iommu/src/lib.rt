@@ -3,9 +3,8 @@
 #![tactic(auto)]
 
 mod orders;
-mod pumping;
 mod units;
 
-pub use pumping::{Next, Sending};
 pub use sva_msg::Extent;
+pub use sva_queue::{Next, Sending};
 pub use units::RemappingUnit;

@@ -5,36 +5,14 @@ ghost use Rattle.sva_queue.specs.Cookies.{AreRising, HasNumber, number_after};
 ghost use Rattle.sva_model.specs.Wire.Descriptor.{PasidDescriptor, WaitDescriptor};
 ghost use Rattle.sva_labels.specs.Finding.{has_room, is_wait_done};
 ghost use Rattle.sva_labels.specs.Moves.{descriptors_for, with_descriptors};
-ghost use Rattle.sva_iommu.specs.declared.pumping.Next.TheVariants as Next;
-ghost use Rattle.sva_iommu.specs.Pumping.{is_invalidation, sending_of};
+ghost use Rattle.sva_queue.specs.declared.heads.Next.TheVariants as Next;
 
 use crate::orders::orders_for;
-use crate::pumping::{Next, Sending};
 use std::marker::Model;
 use sva_itags::Count;
-use sva_msg::{Extent, PageRequest};
+use sva_msg::PageRequest;
 use sva_prq::PageQueue;
-use sva_queue::{Descriptor, Pumped};
-
-/// This invalidation under this ITag.
-fn sending_of(itag: u8, order: Descriptor) -> Sending
-    requires { is_invalidation order ≡ true }
-    ensures { result ≡ sending_of itag order }
-{
-    match order {
-        Descriptor::Range { pasid, range } => Sending {
-            itag,
-            pasid,
-            extent: Extent::Pages(range),
-        },
-        Descriptor::Pasid { pasid } => Sending {
-            itag,
-            pasid,
-            extent: Extent::All,
-        },
-        Descriptor::Wait { .. } => unreachable!(),
-    }
-}
+use sva_queue::{Descriptor, Next, Sending};
 
 /// One remapping unit of the host: its invalidation queue, the ITags of the Invalidate Requests that it sent, and its page
 /// request queue (Intel VT-d, "Queued Invalidation Interface" and "Page Request Queue"). It is seen as the definitions by
@@ -174,17 +152,7 @@ impl RemappingUnit {
         ensures next { result ≡ next_of self.now }
         ensures pump { IsPump self.now result }
     {
-        match self.queue.next(self.requests.is_empty()) {
-            Pumped::Idle => Next::Idle,
-            Pumped::Blocked => Next::Blocked,
-            Pumped::Done(cookie) => Next::Pass(cookie),
-            Pumped::Issued(itag) => {
-                let Some(order) = self.queue.head() else {
-                    unreachable!()
-                };
-                Next::Send(sending_of(itag, order))
-            }
-        }
+        self.queue.look(self.requests.is_empty())
     }
 
     /// The invalidation at the head, which `next` gave, goes to the endpoint: it is taken off, and its ITag is busy.
@@ -192,7 +160,7 @@ impl RemappingUnit {
         requires { next_of self.old ≡ Next.Send sending }
         ensures { self.new ≡ with_unit self.old (unit_sent self.old.unit sending.itag) }
     {
-        let _sent = self.queue.pump(self.requests.is_empty());
+        self.queue.send(sending.itag);
     }
 
     /// The wait at the head is done, with the cookie that `next` gave: it is taken off, and the front is behind it.
@@ -200,7 +168,7 @@ impl RemappingUnit {
         requires { next_of self.old ≡ Next.Pass cookie }
         ensures { self.new ≡ with_unit self.old (unit_passed self.old.unit cookie) }
     {
-        let _passed = self.queue.pump(self.requests.is_empty());
+        self.queue.pass(cookie);
     }
 
     /// Completions have arrived that name the ITags of `vector` (bit T stands for ITag T, 0 to 31) and bear `count`. Gives how

@@ -1,5 +1,5 @@
 //! The tags of a unit.
-ghost use Rattle.std.specs.Prelude.{◌≡◌, ℕ, ◌<◌, ◌≤◌, ◌↔◌, length, IsNone, IfSome, IsTrue, is_some, count_by};
+ghost use Rattle.std.specs.Prelude.{◌≡◌, ℕ, ◌<◌, ◌≤◌, ◌↔◌, length, Some, IsNone, IfSome, IsTrue, is_some, count_by};
 ghost use Rattle.sva_itags.specs.Tags.{IsPlace, AreTags, all_free, busy_vector, lowest_free, taken, counted, is_freed, after_completion, completed};
 ghost use Rattle.sva_itags.specs.Tags.{freed_vector, IsBusy, Completes};
 ghost use Rattle.sva_itags.specs.Vector.{is_named};
@@ -152,6 +152,14 @@ impl Itags {
         };
         self.places[tag] = Some(Busy::Fresh);
         Some(tag as u8)
+    }
+
+    /// Takes this tag, which is the lowest free one, as `lowest_free` tells.
+    pub fn take_lowest(&mut self, tag: u8)
+        requires { lowest_free self.old ≡ Some tag }
+        ensures { self.new ≡ taken self.old }
+    {
+        self.places[tag as usize] = Some(Busy::Fresh);
     }
 
     /// A completion has arrived that names the tags of `vector` (bit T stands for tag T, 0 to 31) and bears `count`. Gives

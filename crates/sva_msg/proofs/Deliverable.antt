@@ -1,7 +1,8 @@
 -- The code's test of all older messages is the definition, which looks them up by their numbers.
-use Rattle.std.proofs.Common.{◌≡◌, ◌↔◌, ℕ, ◌+◌, ◌<◌, Bool, true, false, not, cond, ◌&&◌, ◌||◌, nat_eq, nat_lt, IsTrue, List, [], ◌∷◌, Some, refl, sym, ◌∙◌}
+use Rattle.std.proofs.Common.{◌≡◌, ◌↔◌, ℕ, ◌+◌, ◌<◌, ◌≤◌, Bool, true, false, not, cond, ◌&&◌, ◌||◌, nat_eq, nat_lt, IsTrue, List, [], ◌∷◌, zero, suc, Some, refl, ap, sym, ◌∙◌}
 use Rattle.std.proofs.Common.{arith}
 use Rattle.std.proofs.lemmas.Bool.Decides.{nat_tests}
+use Rattle.std.specs.Prelude.{take}
 use Rattle.std.specs.List.{list_any}
 use Rattle.std.specs.Map.{lookup}
 use Rattle.sva_model.specs.LinkOrder.{MessageKind, StartKind, StopKind, ResetKind, CompletionKind, InvalidateKind, ResponseKind, RequestKind, InvalidatedKind}
@@ -9,7 +10,7 @@ use Rattle.sva_model.specs.LinkOrder.{PageRequestKind, MarkerKind, ResetDoneKind
 use Rattle.sva_msg.specs.Kind.{kind_of, is_ordered}
 use Rattle.sva_msg.specs.Bag.{InFlight, AreNumbered, IsNumbered, MayDeliver, message_at, must_follow}
 use Rattle.sva_msg.specs.declared.messages.Message.{Message}
-use Rattle.sva_msg.proofs.Numbered.{lookup-below}
+use Rattle.sva_msg.proofs.Numbered.{lookup-below, number_at, number_above}
 
 -- no older message passes the test f, by their numbers
 abbrev pub NoneOlder : (Message → Bool) → ℕ → List (ℕ × Message) → Type 0
@@ -58,6 +59,26 @@ module _ (f : Message → Bool) (n : ℕ) where
       by : (b : Bool) → nat_lt p.0 n ≡ b → (b && f p.1) || false ≡ false
       by true lt = rw (NoneOlder-head p ps none (grind (arith, nat_tests))) refl
       by false ge = refl
+
+  -- none is older than the first number
+  none_newer : (low high : ℕ) (es : List (ℕ × Message)) → n ≤ low → AreNumbered low high es → any_older es ≡ false
+  none_newer low high [] le h = refl
+  none_newer low high (p ∷ ps) le h =
+      let rest = none_newer (p.0 + 1) high ps (omega (arith, le, h.0)) h.1 in
+      let first : nat_lt p.0 n ≡ false = grind (arith, nat_tests) in
+      ap (λ (b : Bool). (b && f p.1) || any_older ps) first ∙ rest
+
+  -- the older ones are those ahead of it
+  pub any_ahead : (low high k : ℕ) (es : List (ℕ × Message)) → AreNumbered low high es → number_at es k ≡ Some n → list_any (λ e. f e.1) (take k es) ≡ any_older es
+  any_ahead low high k [] h at = absurd (cc (at))
+  any_ahead low high zero (p ∷ ps) h at =
+      let same : p.0 ≡ n = cc in
+      let first : nat_lt p.0 n ≡ false = grind (arith, nat_tests) in
+      sym (ap (λ (b : Bool). (b && f p.1) || any_older ps) first ∙ none_newer (p.0 + 1) high ps (omega (arith, same)) h.1)
+  any_ahead low high (suc k) (p ∷ ps) h at =
+      let above = number_above (p.0 + 1) high n k ps h.1 at in
+      let first : nat_lt p.0 n ≡ true = grind (arith, nat_tests) in
+      ap (λ (b : Bool). f p.1 || b) (any_ahead (p.0 + 1) high k ps h.1 at) ∙ sym (ap (λ (b : Bool). (b && f p.1) || any_older ps) first)
 
 -- the code's answer where the message is in flight
 pub may_deliver-is : (bag : InFlight) (n : ℕ) (m : Message) (r : Bool) → IsNumbered bag → message_at bag n ≡ Some m

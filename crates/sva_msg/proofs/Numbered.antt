@@ -1,7 +1,8 @@
 -- Lists of messages whose numbers rise.
-use Rattle.std.proofs.Common.{◌≡◌, ℕ, zero, suc, ◌+◌, ◌-◌, ◌<◌, ◌≤◌, true, false, cond, nat_eq, List, [], ◌∷◌, ◌++◌, None, refl, arith}
+use Rattle.std.proofs.Common.{◌≡◌, ℕ, zero, suc, ◌+◌, ◌-◌, ◌<◌, ◌≤◌, Bool, true, false, cond, nat_eq, List, [], ◌∷◌, ◌++◌, Option, None, Some, refl, ap, sym, ◌∙◌, arith}
+use Rattle.std.specs.Prelude.{option_map, slice_get, take, drop, remove}
 use Rattle.std.proofs.lemmas.Bool.Decides.{nat_tests}
-use Rattle.std.specs.Map.{lookup}
+use Rattle.std.specs.Map.{lookup, lookup_key}
 use Rattle.std.proofs.lemmas.List.FromFn.{map-range_with_len_more}
 use Rattle.indexmap.specs.IndexMap.{shift_remove_entry}
 use Rattle.sva_msg.specs.Bag.{AreNumbered, copies_of}
@@ -67,3 +68,51 @@ pub copies_of-more : (m : Message) (first number : ℕ) → first ≤ number →
 copies_of-more m first number le =
     let count : number + 1 - first ≡ (number - first) + 1 = omega arith in
     rw count (map-range_with_len_more (λ n. (n, m)) first (number - first) number (omega arith))
+
+-- What is found under a number has that number.
+
+pub key_is : (n k : ℕ) (es : List (ℕ × Message)) → lookup_key (nat_eq n) es ≡ Some k → k ≡ n
+key_is n k [] is = absurd (cc (is))
+key_is n k (p ∷ ps) is = go (nat_eq n p.0) refl is (key_is n k ps)
+  where
+    go : (b : Bool) → nat_eq n p.0 ≡ b → cond b (Some p.0) (lookup_key (nat_eq n) ps) ≡ Some k → (lookup_key (nat_eq n) ps ≡ Some k → k ≡ n) → k ≡ n
+    go true same found rest =
+        let first : p.0 ≡ k = cc in
+        grind (arith, nat_tests)
+    go false other found rest = rest found
+
+-- What stands at a place.
+
+abbrev pub number_at : List (ℕ × Message) → ℕ → Option ℕ
+number_at es k = option_map (λ e. e.0) (slice_get es k)
+
+pub number_above : (low high n k : ℕ) (es : List (ℕ × Message)) → AreNumbered low high es → number_at es k ≡ Some n → low ≤ n
+number_above low high n k [] h at = absurd (cc (at))
+number_above low high n zero (p ∷ ps) h at =
+    let same : p.0 ≡ n = cc in
+    let first = h.0 in
+    omega arith
+number_above low high n (suc k) (p ∷ ps) h at =
+    let above = number_above (p.0 + 1) high n k ps h.1 at in
+    let first = h.0 in
+    omega arith
+
+-- taken out at its place, it is taken out under its number
+pub remove-at : (low high n k : ℕ) (es : List (ℕ × Message)) → AreNumbered low high es → number_at es k ≡ Some n
+    → remove es k ≡ shift_remove_entry (nat_eq n) es
+remove-at low high n k [] h at = absurd (cc (at))
+remove-at low high n zero (p ∷ ps) h at =
+    let same : p.0 ≡ n = cc in
+    let here : nat_eq n p.0 ≡ true = grind (arith, nat_tests) in
+    sym (ap (λ (b : Bool). cond b ps (p ∷ shift_remove_entry (nat_eq n) ps)) here)
+remove-at low high n (suc k) (p ∷ ps) h at =
+    let above = number_above (p.0 + 1) high n k ps h.1 at in
+    let other : nat_eq n p.0 ≡ false = grind (arith, nat_tests) in
+    ap (λ (l : List (ℕ × Message)). p ∷ l) (remove-at (p.0 + 1) high n k ps h.1 at)
+    ∙ sym (ap (λ (b : Bool). cond b ps (p ∷ shift_remove_entry (nat_eq n) ps)) other)
+
+-- and it stands there still once others were sent
+pub number_at-sent : (n k : ℕ) (es more : List (ℕ × Message)) → number_at es k ≡ Some n → number_at (es ++ more) k ≡ Some n
+number_at-sent n k [] more at = absurd (cc (at))
+number_at-sent n zero (p ∷ ps) more at = at
+number_at-sent n (suc k) (p ∷ ps) more at = number_at-sent n k ps more at

@@ -1,8 +1,10 @@
 //! The messages in flight between a host and its endpoints, and which of them the link may deliver.
-ghost use Rattle.std.specs.Prelude.{◌≡◌, ◌+◌, ◌-◌, ◌<◌, ◌≤◌, ◌^◌, ◌↔◌, [], ◌∷◌, ◌++◌, ◌&&◌, nat_eq, nat_lt, IsTrue, IfOk, OnOk, OnErr, Some, None};
+ghost use Rattle.std.specs.Prelude.{◌≡◌, ◌+◌, ◌-◌, ◌<◌, ◌≤◌, ◌^◌, ◌↔◌, [], ◌∷◌, ◌++◌, nat_eq, take, length, IsTrue, IfOk, IfSome, OnOk, OnErr, Some, None};
+ghost use Rattle.std.specs.Prelude.{option_map};
 ghost use Rattle.std.specs.List.{list_any};
 ghost use Rattle.indexmap.specs.IndexMap.{get, spare};
 ghost use Rattle.sva_msg.specs.Bag.{InFlight, IsNumbered, MayDeliver, opened, message_at, must_follow, with_sent, without};
+ghost use Rattle.sva_msg.specs.Flight.{IsIn, IsAt};
 ghost use Rattle.sva_msg.specs.Laws.{Always, GivesNumbersOnce, LosesNone, KeepsOrder, NeverStops};
 
 use crate::messages::Message;
@@ -10,6 +12,17 @@ use indexmap::IndexMap;
 use std::alloc::{AllocError, Global};
 use std::marker::Model;
 use sva_step::NUMBERS;
+
+/// A message in flight, as it was found in its bag.
+#[derive(Clone, Copy)]
+pub struct Flight {
+    /// Its number.
+    pub number: u64,
+    /// Its place among the messages in flight: how many older ones there are.
+    pub place: usize,
+    /// The message.
+    pub message: Message,
+}
 
 /// The messages in flight, each under its number, in order of age.
 ///
@@ -77,6 +90,22 @@ impl Bag {
         self.messages.get(&number).copied()
     }
 
+    /// The message in flight with this number, and its place among those in flight.
+    pub fn find(&self, number: u64) -> Option<Flight>
+        ensures message { option_map (λ flight. flight.message) result ≡ message_at self.now number }
+        ensures found { IfSome result (λ flight. (flight.number ≡ number) × IsIn self.now flight) }
+        ensures numbered { IsNumbered self.now }
+    {
+        let Some((place, _number, message)) = self.messages.get_full(&number) else {
+            return None;
+        };
+        Some(Flight {
+            number,
+            place,
+            message: *message,
+        })
+    }
+
     /// Whether the message with this number is in flight and may be delivered now.
     ///
     /// Of the older messages in flight of its endpoint, a page request with L and a marker overtake no page request; a
@@ -86,21 +115,36 @@ impl Bag {
     pub fn may_deliver(&self, number: u64) -> bool
         ensures { IsTrue result ↔ MayDeliver self.now number }
     {
-        let Some(message) = self.get(number) else {
+        let Some(flight) = self.find(number) else {
             return false;
         };
-        // Most kinds may overtake any message, and then none is looked at.
-        if !message.kind.is_ordered() {
-            return true;
-        }
-        !self.overtakes(number, &message)
+        self.may_deliver_found(&flight)
     }
 
-    /// Whether the message would overtake an older one, of a number below its own, that it must not overtake.
-    fn overtakes(&self, number: u64, message: &Message) -> bool
-        ensures { result ≡ list_any (λ e. nat_lt e.0 number && must_follow message.now e.1) self.now.messages }
+    /// The same of a message that was found, and stands there still.
+    pub fn may_deliver_found(&self, flight: &Flight) -> bool
+        requires { IsIn self.now flight.now }
+        ensures { IsTrue result ↔ MayDeliver self.now flight.now.number }
     {
-        self.messages.iter().any(|(older, other)| *older < number && message.must_follow(other))
+        // Most kinds may overtake any message, and then none is looked at.
+        if !flight.message.kind.is_ordered() {
+            return true;
+        }
+        !self.overtakes(flight)
+    }
+
+    /// Whether the message would overtake an older one, which stands ahead of it, that it must not overtake.
+    fn overtakes(&self, flight: &Flight) -> bool
+        requires { flight.now.place ≤ length self.now.messages }
+        ensures ahead { result ≡ list_any (λ e. must_follow flight.now.message e.1) (take flight.now.place self.now.messages) }
+        ensures numbered { IsNumbered self.now }
+    {
+        let Some(older) = self.messages.get_range(..flight.place) else {
+            unreachable!()
+        };
+        older
+            .iter()
+            .any(|(_, other)| flight.message.must_follow(other))
     }
 
     /// Takes out the message with this number, and keeps the order of the others. `may_deliver` is the test.
@@ -109,10 +153,20 @@ impl Bag {
         ensures message { message_at self.old number ≡ Some result }
         ensures taken { self.new ≡ without self.old number }
     {
-        let Some(message) = self.messages.shift_remove(&number) else {
+        let Some(flight) = self.find(number) else {
             unreachable!()
         };
-        message
+        self.deliver_found(&flight);
+        flight.message
+    }
+
+    /// Takes out a message that was found, and stands there still. `may_deliver_found` is the test.
+    pub fn deliver_found(&mut self, flight: &Flight)
+        requires stands { IsAt self.old flight.now }
+        requires may { MayDeliver self.old flight.now.number }
+        ensures { self.new ≡ without self.old flight.now.number }
+    {
+        self.messages.shift_remove_index(flight.place);
     }
 }
 

@@ -11,6 +11,6 @@ mod messages;
 mod ranges;
 
 pub use extents::Extent;
-pub use in_flight::{Bag, laws};
+pub use in_flight::{Bag, Flight, laws};
 pub use messages::{Code, CountField, Kind, Message, PageRequest, Scope};
 pub use ranges::Range;

@@ -5,3 +5,4 @@ pub mod Windows
 pub mod Cookies
 pub mod Kept
 pub mod Fronts
+pub mod Looked

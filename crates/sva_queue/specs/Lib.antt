@@ -3,3 +3,4 @@ pub mod Cookies
 pub mod Queue
 pub mod Calls
 pub mod Fronts
+pub mod Heads

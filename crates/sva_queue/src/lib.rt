@@ -2,8 +2,10 @@
 #![tactic(auto)]
 
 mod descriptors;
+mod heads;
 mod ring;
 mod units;
 
 pub use descriptors::{Descriptor, Pumped, QueueFull};
+pub use heads::{Next, Sending};
 pub use units::{Unit, laws};

@@ -1,14 +1,16 @@
 //! A unit: its queue and its tags.
 ghost use Rattle.std.specs.Prelude.{◌≡◌, ℕ, ◌+◌, ◌≤◌, ◌↔◌, Bool, true, length, All, IsOk, OnOk, OnErr, slice_get, [], ◌∷◌};
-ghost use Rattle.sva_itags.specs.Tags.{AreTags, busy_vector, freed_vector};
+ghost use Rattle.sva_itags.specs.Tags.{AreTags, busy_vector, freed_vector, lowest_free};
 ghost use Rattle.sva_queue.specs.Cookies.{AreRising, number_after, HasNumber};
 ghost use Rattle.sva_queue.specs.Calls.{AlwaysFits, FirstInFirstOut, DoneBehind, TagsByCalls};
 ghost use Rattle.sva_queue.specs.Fronts.{AlwaysInOrder, PendingFromFront, DoneBelowFront};
 
 use crate::descriptors::{Descriptor, Pumped, QueueFull};
+use crate::heads::{Next, Sending};
 use crate::ring::Ring;
 use std::marker::Model;
 use sva_itags::{Count, Itags};
+use sva_msg::Extent;
 
 /// The number after the cookie of a wait; `first` for an invalidation.
 fn number_after_one(first: u64, descriptor: Descriptor) -> u64
@@ -67,7 +69,8 @@ impl Default for Unit {
 
 impl Unit {
     ghost use Rattle.sva_queue.specs.Queue.{InOrder, empty, room_of, with_more, submitted, is_idle, is_complete, next_of};
-    ghost use Rattle.sva_queue.specs.Queue.{pumped, with_completion, reset_begun, reset_ended};
+    ghost use Rattle.sva_queue.specs.Queue.{pumped, after_answer, with_completion, reset_begun, reset_ended};
+    ghost use Rattle.sva_queue.specs.Heads.{look_of, send_next, IsAnswered};
     ghost use Rattle.sva_queue.specs.Calls.{IsWaitDone};
 
     /// An open unit with an empty queue; all its tags are free.
@@ -148,50 +151,87 @@ impl Unit {
         self.is_idle() && (!drain || prq_empty)
     }
 
-    /// What `pump` would answer; nothing changes. `prq_empty` is the caller's word that the unit's page request queue is
-    /// empty: the unit itself knows nothing of that queue.
-    pub fn next(&self, prq_empty: bool) -> Pumped
-        ensures { result ≡ next_of self.now prq_empty }
+    /// An invalidation under the lowest tag that is free; blocked where none is.
+    fn under_tag(&self, pasid: u32, extent: Extent) -> Next
+        ensures { result ≡ send_next pasid extent (lowest_free self.now.tags) }
     {
-        match self.head() {
-            None => Pumped::Idle,
-            Some(Descriptor::Wait { cookie, drain }) => {
-                if self.is_complete(prq_empty, drain) {
-                    Pumped::Done(cookie)
+        match self.tags.lowest_free() {
+            Some(itag) => Next::Send(Sending {
+                itag,
+                pasid,
+                extent,
+            }),
+            None => Next::Blocked,
+        }
+    }
+
+    /// What becomes of the head; nothing changes. An invalidation takes the lowest free tag, a wait goes where no tag is busy
+    /// and, with its drain flag, `prq_empty` says that the unit's page request queue is empty. That is the caller's word: the
+    /// unit itself knows nothing of that queue. `send` and `pass` do what this has told.
+    pub fn look(&self, prq_empty: bool) -> Next
+        ensures { result ≡ look_of self.now prq_empty }
+    {
+        let Some(head) = self.head() else {
+            return Next::Idle;
+        };
+        match &head {
+            Descriptor::Range { pasid, range } => self.under_tag(*pasid, Extent::Pages(*range)),
+            Descriptor::Pasid { pasid } => self.under_tag(*pasid, Extent::All),
+            Descriptor::Wait { cookie, drain } => {
+                if self.is_complete(prq_empty, *drain) {
+                    Next::Pass(*cookie)
                 } else {
-                    Pumped::Blocked
-                }
-            }
-            Some(Descriptor::Range { .. } | Descriptor::Pasid { .. }) => {
-                match self.tags.lowest_free() {
-                    Some(tag) => Pumped::Issued(tag),
-                    None => Pumped::Blocked,
+                    Next::Blocked
                 }
             }
         }
     }
 
-    /// Takes the head off where it can go: an invalidation takes the lowest free tag, a wait goes where no tag is busy
-    /// and, with its drain flag, `prq_empty` says that the unit's page request queue is empty. That is the caller's word: the
-    /// unit itself knows nothing of that queue.
+    /// What `pump` would answer; nothing changes.
+    pub fn next(&self, prq_empty: bool) -> Pumped
+        ensures { result ≡ next_of self.now prq_empty }
+    {
+        self.look(prq_empty).pumped()
+    }
+
+    /// The invalidation at the head is sent under this tag, as `look` told: it is taken off, and the tag is busy. It is the
+    /// `pump` that answers so.
+    pub fn send(&mut self, itag: u8)
+        requires { IsAnswered self.old (Pumped.Issued itag) }
+        ensures { self.new ≡ after_answer (Pumped.Issued itag) self.old }
+    {
+        self.queue.drop_first();
+        self.tags.take_lowest(itag);
+    }
+
+    /// The wait at the head, with this cookie, is done, as `look` told: it is taken off, and the front is behind it. It is
+    /// the `pump` that answers so.
+    pub fn pass(&mut self, cookie: u64)
+        requires { IsAnswered self.old (Pumped.Done cookie) }
+        ensures { self.new ≡ after_answer (Pumped.Done cookie) self.old }
+    {
+        self.queue.drop_first();
+        self.front = cookie + 1;
+    }
+
+    /// Takes the head off where it can go, as `look` tells.
     pub fn pump(&mut self, prq_empty: bool) -> Pumped
         ensures answer { result ≡ next_of self.old prq_empty }
         ensures done { (cookie : ℕ) → (result ≡ Pumped.Done cookie) ↔ IsWaitDone self.old prq_empty cookie }
         ensures queue { self.new ≡ pumped prq_empty self.old }
     {
-        let answer = self.next(prq_empty);
-        match answer {
-            Pumped::Issued(_) => {
-                self.queue.drop_first();
-                let _tag = self.tags.take();
+        match self.look(prq_empty) {
+            Next::Send(sending) => {
+                self.send(sending.itag);
+                Pumped::Issued(sending.itag)
             }
-            Pumped::Done(cookie) => {
-                self.queue.drop_first();
-                self.front = cookie + 1;
+            Next::Pass(cookie) => {
+                self.pass(cookie);
+                Pumped::Done(cookie)
             }
-            Pumped::Blocked | Pumped::Idle => {}
+            Next::Blocked => Pumped::Blocked,
+            Next::Idle => Pumped::Idle,
         }
-        answer
     }
 
     /// A completion has arrived that names the tags of `vector` (bit T stands for tag T, 0 to 31) and bears `count`. Gives

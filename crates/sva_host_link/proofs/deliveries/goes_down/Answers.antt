@@ -11,55 +11,59 @@ use Rattle.sva_host_state.specs.Inner.{wire_of}
 use Rattle.sva_host_state.specs.Steps.{ByLabels}
 use Rattle.sva_host_state.proofs.Ports.{port_found, rewritten, with_tables, with_tables_host}
 use Rattle.sva_host_state.proofs.Devices.{ended}
-use Rattle.sva_host_state.proofs.Arriving.{may_take, arriving_port, arriving_within, seen_found, seen_free}
+use Rattle.sva_host_state.proofs.Arrived.{numbered}
+use Rattle.sva_host_state.proofs.Arriving.{may_take, stands_at, arriving_port, arriving_within, seen_found, seen_free}
 use Rattle.sva_host_state.proofs.Arrivals.{deliver_done}
 use Rattle.sva_host_link.proofs.deliveries.goes_down.Goals as goal
 
-pub deliver-taken-requires : goal.deliver-taken-requires
-deliver-taken-requires c =
-    may_take c.host.inside _ c.args.message c.args.sent.endpoint c.args.sent.kind c.host.view_is c.left-room.ensures.numbered c.requires.arriving
+pub deliver_found-requires-clause-stands : goal.deliver_found-requires-clause-stands
+deliver_found-requires-clause-stands c = stands_at c.host.inside _ c.args.flight.now c.host.view_is c.requires.there
+
+pub deliver_found-requires-clause-may : goal.deliver_found-requires-clause-may
+deliver_found-requires-clause-may c =
+    may_take c.host.inside _ c.args.flight.now.number c.args.flight.now.message.endpoint c.args.flight.now.message.kind c.host.view_is (numbered c.host.inside _ c.host.view_is c.requires.sound) c.requires.arriving
 
 pub bounds-deref_mut-at : goal.bounds-deref_mut-at
 bounds-deref_mut-at c =
-    arriving_within c.host.inside _ c.args.message c.args.sent.endpoint c.args.sent.kind _ c.host.view_is c.requires.sound c.requires.arriving
+    arriving_within c.host.inside _ c.args.flight.now.number c.args.flight.now.message.endpoint c.args.flight.now.message.kind _ c.host.view_is c.requires.sound c.requires.arriving
     c.deref_mut.ensures.value
 
 pub offset_bounds-deref_mut-at : goal.offset_bounds-deref_mut-at
 offset_bounds-deref_mut-at c =
-    let within = arriving_within c.host.inside _ c.args.message c.args.sent.endpoint c.args.sent.kind c.deref_mut.result.now c.host.view_is
+    let within = arriving_within c.host.inside _ c.args.flight.now.number c.args.flight.now.message.endpoint c.args.flight.now.message.kind c.deref_mut.result.now c.host.view_is
     c.requires.sound c.requires.arriving c.deref_mut.ensures.value in
     omega (arith, within, c.deref_mut.ensures.fits)
 
 pub invariant_of-host : goal.invariant_of-host
 invariant_of-host c =
-    let e = c.args.sent.endpoint in
-    let for = arriving_port _ c.args.message e c.args.sent.kind c.requires.sound c.requires.arriving in
+    let e = c.args.flight.now.message.endpoint in
+    let for = arriving_port _ c.args.flight.now.number e c.args.flight.now.message.kind c.requires.sound c.requires.arriving in
     let is = port_found c.host.inside _ e e c.deref_mut.result.now c.index-deref_mut-at.result c.host.invariant c.host.view_is for
     c.deref_mut.ensures.value in
-    let tables = λ (s : Tables). after_receive s c.args.sent.kind in
-    with_tables_host c.host.inside e (slice_index_or c.deref_mut.result.now e c.index-deref_mut-at.result) _ c.deliver-taken.new.self _ c.host.invariant
-    (sound_after _ (call.Receive c.args.sent.kind) refl is.sound)
+    let tables = λ (s : Tables). after_receive s c.args.flight.now.message.kind in
+    with_tables_host c.host.inside e (slice_index_or c.deref_mut.result.now e c.index-deref_mut-at.result) _ c.deliver_found.new.self _ c.host.invariant
+    (sound_after _ (call.Receive c.args.flight.now.message.kind) refl is.sound)
     (rewritten c.host.inside _ e e c.deref_mut.result.now c.deref_mut.result.now c.index-deref_mut-at.result c.index-deref_mut-at.result
     c.receive-received.new.self tables c.host.view_is for c.deref_mut.ensures.value c.deref_mut.ensures.value c.receive-received.ensures.after)
 
 pub returns : goal.returns
 returns c =
-    let e = c.args.sent.endpoint in
-    let for = arriving_port _ c.args.message e c.args.sent.kind c.requires.sound c.requires.arriving in
+    let e = c.args.flight.now.message.endpoint in
+    let for = arriving_port _ c.args.flight.now.number e c.args.flight.now.message.kind c.requires.sound c.requires.arriving in
     let is = port_found c.host.inside _ e e c.deref_mut.result.now c.index-deref_mut-at.result c.host.invariant c.host.view_is for
     c.deref_mut.ensures.value in
-    let tables = λ (s : Tables). after_receive s c.args.sent.kind in
+    let tables = λ (s : Tables). after_receive s c.args.flight.now.message.kind in
     let port : Port = slice_index_or c.deref_mut.result.now e c.index-deref_mut-at.result in
-    ended c.host.inside _ (step.Deliver c.args.message) c.receive-received.result.answer _ _ _ c.deliver-taken.new.self c.host.view_is
+    ended c.host.inside _ (step.Deliver c.args.flight.now.number) c.receive-received.result.answer _ _ _ c.deliver_found.new.self c.host.view_is
     (rewritten c.host.inside _ e e c.deref_mut.result.now c.deref_mut.result.now c.index-deref_mut-at.result c.index-deref_mut-at.result
     c.receive-received.new.self tables c.host.view_is for c.deref_mut.ensures.value c.deref_mut.ensures.value c.receive-received.ensures.after)
     c.receive-received.ensures.answer
     (subst
     (λ (bag : InFlight).
-    ByLabels (wire_of c.host.inside) (step.Deliver c.args.message) (Ok (answer_to port.device c.args.sent.kind))
-    (wire_of (record (with_tables c.host.inside e port (after_receive port.device c.args.sent.kind)) { in_flight = bag })))
-    (sym c.deliver-taken.ensures.taken)
-    (deliver_done c.host.inside e c.args.message c.args.sent.kind port c.left-room.ensures.numbered is
-    (seen_found c.host.inside _ c.args.message e c.args.sent.kind c.host.view_is c.requires.arriving)
-    (seen_free c.host.inside _ c.args.message e c.args.sent.kind c.host.view_is c.requires.arriving)
+    ByLabels (wire_of c.host.inside) (step.Deliver c.args.flight.now.number) (Ok (answer_to port.device c.args.flight.now.message.kind))
+    (wire_of (record (with_tables c.host.inside e port (after_receive port.device c.args.flight.now.message.kind)) { in_flight = bag })))
+    (sym c.deliver_found.ensures)
+    (deliver_done c.host.inside e c.args.flight.now.number c.args.flight.now.message.kind port (numbered c.host.inside _ c.host.view_is c.requires.sound) is
+    (seen_found c.host.inside _ c.args.flight.now.number e c.args.flight.now.message.kind c.host.view_is c.requires.arriving)
+    (seen_free c.host.inside _ c.args.flight.now.number e c.args.flight.now.message.kind c.host.view_is c.requires.arriving)
     c.requires.down))

@@ -1,6 +1,6 @@
 use Rattle.std.proofs.Common.{sym, ap, ◌∙◌, subst, ℕ}
 use Rattle.std.specs.Prelude.{List, slice_index_or}
-use Rattle.sva_iommu.specs.declared.pumping.Next.TheVariants as Next
+use Rattle.sva_queue.specs.declared.heads.Next.TheVariants as Next
 use Rattle.sva_host_state.specs.declared.host_state.Port.{Port}
 use Rattle.sva_host_state.specs.Heads.{IsHead}
 use Rattle.sva_host_state.proofs.Ports.{port_found, same_port}

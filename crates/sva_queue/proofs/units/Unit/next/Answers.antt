@@ -1,5 +1,7 @@
-use Rattle.std.proofs.Common.{rules}
+use Rattle.std.proofs.Common.{ap, ◌∙◌}
+use Rattle.sva_queue.specs.Heads.{pumped_of}
+use Rattle.sva_queue.proofs.Looked.{answered}
 use Rattle.sva_queue.proofs.units.Unit.next.Goals as goal
 
-pub returns-in-None-lowest_free : goal.returns-in-None-lowest_free
-returns-in-None-lowest_free c = search rules
+pub returns : goal.returns
+returns c = c.pumped.ensures ∙ ap pumped_of c.look.ensures ∙ answered c.args.self.now c.args.prq_empty

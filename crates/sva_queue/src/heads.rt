@@ -1,6 +1,8 @@
 //! What becomes of the head of an invalidation queue.
 ghost use Rattle.std.specs.Prelude.{◌≡◌};
+ghost use Rattle.sva_queue.specs.Heads.{pumped_of};
 
+use crate::descriptors::Pumped;
 use sva_msg::{Extent, Kind};
 
 /// An invalidation that goes to the endpoint.
@@ -40,4 +42,18 @@ pub enum Next {
     Send(Sending),
     /// The wait at the head, with this cookie, below 2^63, is done.
     Pass(u64),
+}
+
+impl Next {
+    /// What a pump answers of it.
+    pub(crate) fn pumped(self) -> Pumped
+        ensures { result ≡ pumped_of self }
+    {
+        match self {
+            Next::Idle => Pumped::Idle,
+            Next::Blocked => Pumped::Blocked,
+            Next::Send(sending) => Pumped::Issued(sending.itag),
+            Next::Pass(cookie) => Pumped::Done(cookie),
+        }
+    }
 }

@@ -19,30 +19,12 @@ AsksNoJobTable (step.Take worker) = ⊥
 AsksNoJobTable (step.Reply worker verdict) = ⊥
 AsksNoJobTable _ = Unit {0}
 
--- an endpoint asks for a translation, uses one, or lets go of one
-abbrev pub IsOfTranslations : Step → Type 0
-IsOfTranslations (step.Ask endpoint pasid page) = Unit {0}
-IsOfTranslations (step.BeginUse endpoint pasid page write) = Unit {0}
-IsOfTranslations (step.EndUse endpoint slot) = Unit {0}
-IsOfTranslations (step.Evict endpoint pasid page) = Unit {0}
-IsOfTranslations _ = ⊥
-
--- any step of an endpoint
-abbrev pub IsOfEndpoint : Step → Type 0
-IsOfEndpoint (step.Fault endpoint pasid page read write group last) = Unit {0}
-IsOfEndpoint (step.Finish endpoint vector count) = Unit {0}
-IsOfEndpoint (step.Quit endpoint pasid) = Unit {0}
-IsOfEndpoint other = IsOfTranslations other
-
--- any step of spaces and frames, or of an endpoint
-abbrev pub IsOfSpaces : Step → Type 0
-IsOfSpaces step.Space = Unit {0}
-IsOfSpaces (step.DropSpace space) = Unit {0}
-IsOfSpaces (step.Map space page write) = Unit {0}
-IsOfSpaces (step.Unmap space page count) = Unit {0}
-IsOfSpaces (step.UnmapRange space page order) = Unit {0}
-IsOfSpaces (step.Look frame) = Unit {0}
-IsOfSpaces other = IsOfEndpoint other
+-- an endpoint asks for a page, by a translation request or a page request, or begins to use one
+abbrev pub IsForPages : Step → Type 0
+IsForPages (step.Ask endpoint pasid page) = Unit {0}
+IsForPages (step.BeginUse endpoint pasid page write) = Unit {0}
+IsForPages (step.Fault endpoint pasid page read write group last) = Unit {0}
+IsForPages _ = ⊥
 
 -- a binding that a reset cut off
 abbrev pub IsCutOff : Option BindingWire → Type 0

@@ -4,15 +4,16 @@ ghost use Rattle.std.specs.Prelude.{◌≢◌, Err};
 ghost use Rattle.sva_step.specs.declared.refusals.Refusal.TheVariants as refusal;
 ghost use Rattle.sva_labels.specs.Sound.{IsSound};
 ghost use Rattle.sva_host_state.specs.Steps.{ByLabels};
-ghost use Rattle.sva_host.specs.Applied.{AsksNoJobTable, IsOfEndpoint, IsOfSpaces, IsOfTranslations, TakesNoMemory};
+ghost use Rattle.sva_host.specs.Applied.{AsksNoJobTable, IsForPages, TakesNoMemory};
 
 use sva_endpoint::Fault;
 use sva_host_state::HostState;
 use sva_step::{Answer, Refusal, Step};
 
-/// Takes a step by which an endpoint asks for a translation, uses one, or lets go of one.
-fn apply_of_translations(state: &mut HostState, step: &Step) -> Result<Answer, Refusal>
-    requires { IsOfTranslations step.now }
+/// Takes a step by which an endpoint asks for a page, or uses one. It stands apart since all eighteen steps in one `match` make
+/// a function of some seventy lines.
+fn apply_for_pages(state: &mut HostState, step: &Step) -> Result<Answer, Refusal>
+    requires { IsForPages step.now }
     ensures step { ByLabels state.old step.now result state.new }
     ensures memory { TakesNoMemory state.old step.now → result ≢ Err refusal.OutOfMemory }
 {
@@ -28,23 +29,6 @@ fn apply_of_translations(state: &mut HostState, step: &Step) -> Result<Answer, R
             page,
             write,
         } => sva_host_endpoints::begin_use(state, endpoint, pasid, page, write),
-        Step::EndUse { endpoint, slot } => sva_host_endpoints::end_use(state, endpoint, slot),
-        Step::Evict {
-            endpoint,
-            pasid,
-            page,
-        } => sva_host_endpoints::evict(state, endpoint, pasid, page),
-        _ => unreachable!(),
-    }
-}
-
-/// Takes a step of an endpoint.
-fn apply_at_endpoint(state: &mut HostState, step: &Step) -> Result<Answer, Refusal>
-    requires { IsOfEndpoint step.now }
-    ensures step { ByLabels state.old step.now result state.new }
-    ensures memory { TakesNoMemory state.old step.now → result ≢ Err refusal.OutOfMemory }
-{
-    match *step {
         Step::Fault {
             endpoint,
             pasid,
@@ -64,20 +48,14 @@ fn apply_at_endpoint(state: &mut HostState, step: &Step) -> Result<Answer, Refus
             };
             sva_host_endpoints::fault(state, endpoint, &fault)
         }
-        Step::Finish {
-            endpoint,
-            vector,
-            count,
-        } => sva_host_endpoints::finish(state, endpoint, vector, count),
-        Step::Quit { endpoint, pasid } => sva_host_endpoints::quit(state, endpoint, pasid),
-        _ => apply_of_translations(state, step),
+        _ => unreachable!(),
     }
 }
 
-/// Takes a step of spaces and frames, or of an endpoint.
-fn apply_to_spaces(state: &mut HostState, step: &Step) -> Result<Answer, Refusal>
+/// Takes a step that asks neither groups nor jobs nor hands. A refused step changes nothing.
+pub(crate) fn apply_at_host(state: &mut HostState, step: &Step) -> Result<Answer, Refusal>
     requires sound { IsSound state.old }
-    requires spaces { IsOfSpaces step.now }
+    requires apart { AsksNoJobTable step.now }
     ensures step { ByLabels state.old step.now result state.new }
     ensures memory { TakesNoMemory state.old step.now → result ≢ Err refusal.OutOfMemory }
 {
@@ -90,23 +68,23 @@ fn apply_to_spaces(state: &mut HostState, step: &Step) -> Result<Answer, Refusal
             state, space, page, order,
         ),
         Step::Look { frame } => sva_host_spaces::look(state, frame),
-        _ => apply_at_endpoint(state, step),
-    }
-}
-
-/// Takes a step that asks neither groups nor jobs nor hands. A refused step changes nothing.
-pub(crate) fn apply_at_host(state: &mut HostState, step: &Step) -> Result<Answer, Refusal>
-    requires sound { IsSound state.old }
-    requires apart { AsksNoJobTable step.now }
-    ensures step { ByLabels state.old step.now result state.new }
-    ensures memory { TakesNoMemory state.old step.now → result ≢ Err refusal.OutOfMemory }
-{
-    match *step {
         Step::Bind { endpoint, space } => sva_host_bindings::bind(state, endpoint, space),
         Step::Unbind { binding } => sva_host_bindings::unbind(state, binding),
         Step::Bearer { pasid } => sva_host_bindings::bearer(state, pasid),
         Step::Pump { endpoint } => sva_host_link::pump(state, endpoint),
         Step::Deliver { message } => sva_host_link::deliver(state, message),
-        _ => apply_to_spaces(state, step),
+        Step::EndUse { endpoint, slot } => sva_host_endpoints::end_use(state, endpoint, slot),
+        Step::Evict {
+            endpoint,
+            pasid,
+            page,
+        } => sva_host_endpoints::evict(state, endpoint, pasid, page),
+        Step::Finish {
+            endpoint,
+            vector,
+            count,
+        } => sva_host_endpoints::finish(state, endpoint, vector, count),
+        Step::Quit { endpoint, pasid } => sva_host_endpoints::quit(state, endpoint, pasid),
+        _ => apply_for_pages(state, step),
     }
 }

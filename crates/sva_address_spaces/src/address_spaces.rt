@@ -111,7 +111,6 @@ impl AddressSpaces {
         ensures step { Steps (step.Look frame) self.now result self.now }
         ensures memory { result ≢ Err refusal.OutOfMemory }
     {
-        let _spaces = &self.spaces;
         if frame >= self.pool.len() as u64 {
             return Err(Refusal::NoFrame);
         }

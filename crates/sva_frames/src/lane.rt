@@ -59,7 +59,6 @@ impl Lane {
     pub(crate) fn has_room(&self, target: Option<Target>) -> bool
         ensures { IsTrue result ↔ IfSome target (HasRoom self.now) }
     {
-        let _cells = &self.cells;
         match target {
             Some(target) => self.heads.has_place(target),
             None => true,
@@ -124,7 +123,6 @@ impl Lane {
         ensures none { IfNone result ((frame : ℕ) (target : Target) → slice_get self.now frame ≡ Some (Some target) → ⊥) }
         ensures some { IfSome result (λ target. (frame : ℕ) × (slice_get self.now frame ≡ Some (Some target))) }
     {
-        let _cells = &self.cells;
         self.heads.any()
     }
 

@@ -147,7 +147,6 @@ impl Ledger {
     pub(crate) fn first_free(&self) -> Option<usize>
         ensures { result ≡ position is_free_stage self.now }
     {
-        let _stages = &self.stages;
         self.free.lowest()
     }
 

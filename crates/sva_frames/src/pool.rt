@@ -116,7 +116,6 @@ impl FramePool {
         ensures { self.new ≡ after self.old (Give frame) }
     {
         let Frame { number } = frame;
-        let _lanes = &self.lanes;
         self.ledger.set(number as usize, Stage::Free);
     }
 
@@ -138,7 +137,6 @@ impl FramePool {
         ensures { IsTrue result ↔ HaveRoom self.now waits.now }
     {
         let targets = &waits.targets;
-        let _ledger = &self.ledger;
         for unit in 0..UNITS {
             if !self.lanes[unit].has_room(targets[unit]) {
                 return false;
@@ -188,7 +186,6 @@ impl FramePool {
         requires { number < length self.now }
         ensures { option_map place_of (slice_get self.now number) ≡ Some result }
     {
-        let _lanes = &self.lanes;
         self.ledger.get(number as usize).place()
     }
 
@@ -198,7 +195,6 @@ impl FramePool {
         ensures mapped { result.mapped ≡ count_by is_mapped self.now }
         ensures withheld { result.withheld ≡ count_by is_withheld self.now }
     {
-        let _lanes = &self.lanes;
         self.ledger.counts()
     }
 
@@ -207,7 +203,6 @@ impl FramePool {
         ensures len { result ≡ length self.now }
         ensures few { length self.now < 2 ^ 32 }
     {
-        let _lanes = &self.lanes;
         self.ledger.len()
     }
 

@@ -50,12 +50,7 @@ pub(crate) fn request_arrives(
         return Ok(Answer::Dropped);
     }
     let found = translation(host, endpoint, pasid, page);
-    send(
-        &mut host.in_flight,
-        endpoint,
-        completion(tag, page, found),
-        1,
-    )?;
+    send(&mut host.in_flight, endpoint, completion(tag, found), 1)?;
     let _taken = host.in_flight.deliver(message);
     Ok(Answer::Completion)
 }

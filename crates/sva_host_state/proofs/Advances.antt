@@ -30,7 +30,8 @@ use Rattle.sva_host_state.specs.Inner.{part_seen, wire_of, IsHostState}
 use Rattle.sva_host_state.specs.Stages.{IsIn, IsSeenIn, MovesTo, Goes}
 use Rattle.sva_host_state.specs.Steps.{Does, ByLabels, PortFor}
 use Rattle.sva_host_state.proofs.Bound.{number_is, home_there, stage_there, kind_in}
-use Rattle.sva_host_state.proofs.Deciding.{IsOther, AreOther, AreClear, all_clear, given, refused_by}
+use Rattle.sva_endpoint.proofs.CallFacts.{given}
+use Rattle.sva_host_state.proofs.Deciding.{IsOther, AreOther, AreClear, all_clear, refused_by}
 use Rattle.sva_host_state.proofs.Ports.{IsPort}
 use Rattle.sva_host_state.proofs.Refusing.{refuses, allows, accepts, is_other, spent, left_over, not_spent}
 use Rattle.sva_host_state.proofs.Units.{with_unit_seen}

@@ -1,5 +1,5 @@
 -- What a permitted call says, and what lasts over a list of permitted calls.
-use Rattle.std.proofs.Common.{◌≡◌, ◌<◌, List, [], ◌∷◌, length, get_or, Bool, true, false, cond, Some, None, Result, Err, refl, ap}
+use Rattle.std.proofs.Common.{◌≡◌, ◌<◌, List, [], ◌∷◌, length, get_or, Bool, true, false, cond, Some, None, Result, Ok, Err, refl, ap}
 use Rattle.std.specs.Prelude.{is_ok, is_none, position, nat_lt}
 use Rattle.std.specs.List.{list_any, position_or_len}
 use Rattle.std.proofs.lemmas.Bool.{or_parts}
@@ -22,6 +22,16 @@ are_clear {A} (cause ∷ causes) answer ok = by cause.0 refl ok (λ later. are_c
         → (is_ok (unless_refused causes answer) ≡ true → AreClear causes) → AreClear (cause ∷ causes)
     by true is given rest = absurd (cc)
     by false is given rest = (is, rest given)
+
+-- where no cause holds the answer is given
+pub given : {A : Type 0} (answer other : A) (causes : List (Bool × Refusal)) → unless_refused causes answer ≡ Ok other → answer ≡ other
+given {A} answer other [] is = let same : answer ≡ other = cc in same
+given {A} answer other (cause ∷ causes) is = by (given answer other causes) cause.0 is
+  where
+    by : (unless_refused causes answer ≡ Ok other → answer ≡ other) → (b : Bool)
+        → cond {A = Result A Refusal} b (Err cause.1) (unless_refused causes answer) ≡ Ok other → answer ≡ other
+    by rest true is = absurd (cc)
+    by rest false is = rest is
 
 -- the lowest place that passes is there, and passes
 pub lowest : {X : Type 0} (test : X → Bool) (xs : List X) (d : X) → is_none (position test xs) ≡ false

@@ -1,4 +1,5 @@
 pub mod CallFacts
+pub mod Permits
 pub mod TagLaws
 pub mod WaitLaws
 pub mod NoteLaws

@@ -1,6 +1,7 @@
--- What an endpoint may do, and what each step changes. A step is refused by the first cause in its list that holds.
-use Rattle.std.specs.Prelude.{ℕ, ◌^◌, Bool, true, false, List, [], ◌∷◌, map, position, slice_set, Option, Some, None, Result, is_none, unwrap_or}
-use Rattle.std.specs.Prelude.{◌==◌, ◌&&◌, ◌||◌, not, nat_lt}
+-- What an endpoint may do, and what each step changes. A step is refused by the first cause in its list that holds. What the test of
+-- a step gives is what its call takes, at tables of which the test gives the same still.
+use Rattle.std.specs.Prelude.{◌≡◌, ℕ, ◌<◌, ◌^◌, Bool, true, false, List, [], ◌∷◌, map, position, slice_set, Option, Some, None, Result, Ok}
+use Rattle.std.specs.Prelude.{is_none, unwrap_or, if◌then◌else◌, ◌==◌, ◌&&◌, ◌||◌, not, nat_lt}
 use Rattle.std.specs.List.{list_any, position_or_len}
 use Rattle.std.specs.FinMap.{get, remove}
 use Rattle.sva_step.specs.Limits
@@ -9,14 +10,12 @@ use Rattle.sva_step.specs.declared.refusals.Refusal.TheVariants.{PageRange, NotS
 use Rattle.sva_step.specs.declared.refusals.Refusal.TheVariants.{NoSuchGroup, PriDisabled, NotPending, InUse, BadCount, NotStopping, Busy}
 use Rattle.sva_step.specs.declared.answers.Answer.{Answer}
 use Rattle.sva_step.specs.declared.answers.Answer.TheVariants.{Ended, Dead}
-use Rattle.sva_model.specs.Acts.{count_field}
 use Rattle.sva_model.specs.Refusals.{Cause, unless_refused}
-use Rattle.sva_msg.specs.declared.messages.Kind.{Kind}
-use Rattle.sva_msg.specs.declared.messages.Kind.TheVariants.{Request, Invalidated, PageRequest, Marker}
 use Rattle.sva_tables.specs.declared.pasid_states.PasidState.{PasidState}
 use Rattle.sva_tables.specs.declared.pasid_states.PasidState.TheVariants.{Off}
 use Rattle.sva_cache.specs.declared.cached.Translation.{Translation}
 use Rattle.sva_tables.specs.declared.request_tags.RequestTag.TheVariants.{Out}
+use Rattle.sva_tables.specs.declared.use_slots.Use.{Use}
 use Rattle.sva_tables.specs.declared.use_slots.UseSlot.{UseSlot}
 use Rattle.sva_tables.specs.declared.use_slots.UseSlot.TheVariants.{Free as FreeSlot, Running, Dead as DeadUse}
 use Rattle.sva_tables.specs.declared.groups.GroupPlace.{GroupPlace}
@@ -25,6 +24,7 @@ use Rattle.sva_endpoint.specs.declared.permitted.Using.{Using}
 use Rattle.sva_endpoint.specs.declared.permitted.Fault.{Fault}
 use Rattle.sva_endpoint.specs.declared.permitted.Faulting.{Faulting}
 use Rattle.sva_endpoint.specs.declared.permitted.Finishing.{Finishing}
+use Rattle.sva_endpoint.specs.declared.permitted.Quitting.{Quitting}
 use Rattle.sva_tables.specs.PasidStates.{state_of, with_state, is_on, is_stopping, is_off}
 use Rattle.sva_tables.specs.RequestTags.{is_free as is_free_tag, asks_under}
 use Rattle.sva_tables.specs.UseSlots.{is_free as is_free_slot, slot_at, runs_under}
@@ -49,9 +49,11 @@ refusals_of_ask tables pasid page =
 
 -- the translation request to be sent, with its tag; or why there is none
 abbrev pub asking : Tables → ℕ → ℕ → Result Asking Refusal
-asking tables pasid page =
-    unless_refused (refusals_of_ask tables pasid page)
-    (record { tag = lowest_tag tables; kind = Request (lowest_tag tables) pasid page })
+asking tables pasid page = unless_refused (refusals_of_ask tables pasid page) (record { tag = lowest_tag tables; pasid = pasid; page = page })
+
+-- the request may be sent of these tables: the test gives it
+abbrev pub MayAsk : Tables → Asking → Type 0
+MayAsk tables permitted = (asking tables permitted.pasid permitted.page ≡ Ok permitted) × (permitted.tag < Limits.request_tags)
 
 -- the request is out: its tag stays taken until its completion, or a reset, comes
 abbrev pub after_ask : Tables → ℕ → ℕ → Tables
@@ -74,20 +76,23 @@ refusals_of_use tables pasid page write =
     (is_beyond page, PageRange) ∷ (not (is_on (state_of tables.pasids pasid)), NotStarted) ∷ (is_none (get tables.cache (pasid, page)), NotHeld)
     ∷ (write && not (translation_at tables pasid page).write, ReadOnly) ∷ (is_none (position is_free_slot tables.uses), NoUseSlot) ∷ []
 
--- the slot of a use that may begin, and the frame to which the held translation leads; or why none may
+-- a use of the held translation: it has the write flag of that, whatever the step asked
+abbrev pub use_of : Tables → ℕ → ℕ → Use
+use_of tables pasid page =
+    record { pasid = pasid; page = page; frame = (translation_at tables pasid page).frame; write = (translation_at tables pasid page).write }
+
+-- a use that may begin, with its slot; or why none may
 abbrev pub using : Tables → ℕ → ℕ → Bool → Result Using Refusal
 using tables pasid page write =
-    unless_refused (refusals_of_use tables pasid page write)
-    (record { slot = lowest_slot tables; frame = (translation_at tables pasid page).frame })
+    unless_refused (refusals_of_use tables pasid page write) (record { slot = lowest_slot tables; begun = use_of tables pasid page })
 
--- a use has the write flag of its translation, whatever the step asked
+-- the use may begin at these tables: the test gives it, at least where only reading is asked
+abbrev pub MayBeginUse : Tables → Using → Type 0
+MayBeginUse tables permitted = (using tables permitted.begun.pasid permitted.begun.page false ≡ Ok permitted) × (permitted.slot < Limits.use_slots)
+
+-- the use runs in the lowest free slot
 abbrev pub after_begin_use : Tables → ℕ → ℕ → Tables
-after_begin_use tables pasid page =
-    let translation = translation_at tables pasid page in
-    record tables {
-      uses = slice_set tables.uses (lowest_slot tables)
-          (Running (record { pasid = pasid; page = page; frame = translation.frame; write = translation.write }));
-    }
+after_begin_use tables pasid page = record tables { uses = slice_set tables.uses (lowest_slot tables) (Running (use_of tables pasid page)) }
 
 -- what the end of a use is answered: `dead` where a reset has ended it before
 abbrev pub end_of : UseSlot → Answer
@@ -146,22 +151,37 @@ refusals_of_fault tables fault =
     ∷ (not (nat_lt (outstanding tables.groups) Limits.page_requests), NoCredit)
     ∷ (not (is_of_group tables fault.pasid fault.group), NoSuchGroup) ∷ (not tables.enabled, PriDisabled) ∷ []
 
--- the page request to be sent, with its group index (PCI Express Base 5.0, section 10.4.1); or why there is none
+-- the page request to be sent, with its group index (PCI Express Base 5.0, section 10.4.1), and whether it begins a group; or why there is none
 abbrev pub faulting : Tables → Fault → Result Faulting Refusal
 faulting tables fault =
     unless_refused (refusals_of_fault tables fault)
     (record {
-      index = index_for tables fault.group;
-      kind = PageRequest (record {
+      begins = is_none fault.group;
+      request = record {
         pasid = fault.pasid;
         index = index_for tables fault.group;
         page = fault.page;
         read = fault.read;
-        write =
-            fault.write;
+        write = fault.write;
         last = fault.last;
-      });
+      };
     })
+
+-- what was asked for by a page request that the test has given
+abbrev pub fault_of : Faulting → Fault
+fault_of permitted =
+    record {
+      pasid = permitted.request.pasid;
+      page = permitted.request.page;
+      read = permitted.request.read;
+      write = permitted.request.write;
+      group = if permitted.begins then None else Some permitted.request.index;
+      last = permitted.request.last;
+    }
+
+-- the page request may be sent of these tables: the test gives it
+abbrev pub MayFault : Tables → Faulting → Type 0
+MayFault tables permitted = (faulting tables (fault_of permitted) ≡ Ok permitted) × (permitted.request.index < Limits.groups)
 
 -- the group of the request once that is sent: with the bit L set it is finished, and awaits its response
 abbrev pub group_after : Tables → Fault → Option ℕ → GroupPlace
@@ -181,11 +201,13 @@ refusals_of_finish tables vector count =
     ((vector == 0) || not (are_pending vector tables.taken), NotPending) ∷ (is_one_waiting vector tables.taken, InUse)
     ∷ ((count == 0) || nat_lt Limits.most_completions count, BadCount) ∷ []
 
--- the Invalidate Completion to be sent, and how many times; each bears the same vector and count. Or why there is none
+-- the vector of the Invalidate Completions to be sent, and how many; or why there is none
 abbrev pub finishing : Tables → ℕ → ℕ → Result Finishing Refusal
-finishing tables vector count =
-    unless_refused (refusals_of_finish tables vector count)
-    (record { count = count; kind = Invalidated vector (count_field count) })
+finishing tables vector count = unless_refused (refusals_of_finish tables vector count) (record { vector = vector; count = count })
+
+-- the invalidations may be completed at these tables: the test gives it
+abbrev pub MayFinish : Tables → Finishing → Type 0
+MayFinish tables permitted = finishing tables permitted.vector permitted.count ≡ Ok permitted
 
 -- what the vector names is completed, so that the endpoint has no taken invalidation under those ITags any more
 abbrev pub after_finish : Tables → ℕ → Tables
@@ -201,10 +223,14 @@ is_busy tables pasid = list_any (is_collecting pasid) tables.groups || (list_any
 abbrev pub refusals_of_quit : Tables → ℕ → List Cause
 refusals_of_quit tables pasid = (not (is_stopping (state_of tables.pasids pasid)), NotStopping) ∷ (is_busy tables pasid, Busy) ∷ []
 
--- the marker to be sent, by which the endpoint says that no request follows under the PASID (Stop Marker: PCI Express Base 5.0,
+-- the PASID of the marker to be sent, by which the endpoint says that no request follows under it (Stop Marker: PCI Express Base 5.0,
 -- section 10.4.1); or why there is none
-abbrev pub quitting : Tables → ℕ → Result Kind Refusal
-quitting tables pasid = unless_refused (refusals_of_quit tables pasid) (Marker pasid)
+abbrev pub quitting : Tables → ℕ → Result Quitting Refusal
+quitting tables pasid = unless_refused (refusals_of_quit tables pasid) (record { pasid = pasid })
+
+-- the PASID may be quit at these tables: the test gives it
+abbrev pub MayQuit : Tables → Quitting → Type 0
+MayQuit tables permitted = quitting tables permitted.pasid ≡ Ok permitted
 
 -- the PASID is off, and its groups that await their response are stale
 abbrev pub after_quit : Tables → ℕ → Tables

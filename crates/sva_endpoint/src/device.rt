@@ -1,19 +1,21 @@
 //! The endpoint, and each of its steps.
 
-ghost use Rattle.std.specs.Prelude.{◌≡◌, Ok, IsOk};
+ghost use Rattle.std.specs.Prelude.{◌≡◌, IsOk, IfOk};
 ghost use Rattle.sva_endpoint.specs.Tables.{fresh};
-ghost use Rattle.sva_endpoint.specs.Steps.{asking, after_ask, lowest_tag, using, after_begin_use, ending, after_end_use, evicting, after_evict};
-ghost use Rattle.sva_endpoint.specs.Steps.{may_send, faulting, after_fault, index_for, finishing, after_finish, quitting, after_quit};
+ghost use Rattle.sva_endpoint.specs.Steps.{asking, MayAsk, after_ask, using, MayBeginUse, after_begin_use};
+ghost use Rattle.sva_endpoint.specs.Steps.{ending, after_end_use, evicting, after_evict};
+ghost use Rattle.sva_endpoint.specs.Steps.{may_send, faulting, MayFault, fault_of, after_fault};
+ghost use Rattle.sva_endpoint.specs.Steps.{finishing, MayFinish, after_finish, quitting, MayQuit, after_quit};
 ghost use Rattle.sva_endpoint.specs.Deliveries.{answer_to, after_receive, answer_to_completion, after_completion, after_invalidate};
 ghost use Rattle.sva_endpoint.specs.Deliveries.{answer_to_response, after_response};
 ghost use Rattle.sva_tables.specs.RequestTags.{request_at};
 ghost use Rattle.sva_tables.specs.Groups.{group_at};
 
-use crate::permitted::{Asking, Fault, Faulting, Finishing, Received, Using};
+use crate::permitted::{Asking, Fault, Faulting, Finishing, Quitting, Received, Using};
 use std::marker::Model;
 use sva_cache::{Cache, Extent, Invalidation, Translation};
 use sva_itags::Count;
-use sva_msg::{Code, CountField, Kind, Message};
+use sva_msg::{Code, Kind, Message, PageRequest};
 use sva_step::{Answer, MOST_COMPLETIONS, PAGE_REQUESTS, PAGES, Refusal};
 use sva_tables::{
     GroupPlace, GroupTable, PasidState, PasidStates, RequestTag, RequestTags, Taken, TakenTable,
@@ -22,9 +24,10 @@ use sva_tables::{
 
 /// An endpoint with address translation services, page requests and PASIDs (PCI Express Base 5.0, sections 10.2 to
 /// 10.5). It is seen as its tables, by labels. No call takes memory. Each step has a test, which changes nothing and
-/// gives the first refusal that holds, or the label and the message of the step; its yes is the step's condition. That
-/// an answer to a request that an invalidation covered is thrown away, and that a completion waits for the uses that
-/// the invalidation covered, are this project's own rules.
+/// gives the first refusal that holds, or what the step takes: its label and its message. The step's condition is that
+/// the test would give the same still, so that nothing is searched twice. That an answer to a request that an
+/// invalidation covered is thrown away, and that a completion waits for the uses that the invalidation covered, are this
+/// project's own rules.
 #[derive(Drop)]
 pub struct Endpoint {
     pasids: PasidStates,
@@ -76,7 +79,8 @@ impl Endpoint {
     /// `PageRange` for a page from 2^36 on, `NotStarted` for a PASID that isn't on (one outside 1 to 32 never is), or
     /// `NoTag` where 32 requests are out.
     pub fn may_ask(&self, pasid: u64, page: u64) -> Result<Asking, Refusal>
-        ensures { result ≡ asking self.now pasid page }
+        ensures answer { result ≡ asking self.now pasid page }
+        ensures may { IfOk result (MayAsk self.now) }
     {
         if page >= PAGES {
             return Err(Refusal::PageRange);
@@ -87,32 +91,29 @@ impl Endpoint {
         let Some(tag) = self.tags.lowest_free() else {
             return Err(Refusal::NoTag);
         };
-        let pasid = self.pasids.label(pasid);
         Ok(Asking {
             tag,
-            kind: Kind::Request { tag, pasid, page },
+            pasid: self.pasids.label(pasid),
+            page,
         })
     }
 
-    /// Asks for a translation of this page, and gives the tag of the request: the lowest free one, 0 to 31.
-    pub fn ask(&mut self, pasid: u64, page: u64) -> u8
-        requires { IsOk (asking self.old pasid page) }
-        ensures tag { result ≡ lowest_tag self.old }
-        ensures after { self.new ≡ after_ask self.old pasid page }
+    /// Asks for a translation, by the request that the test gave: its tag is taken.
+    pub fn ask(&mut self, permitted: Asking)
+        requires { MayAsk self.old permitted }
+        ensures { self.new ≡ after_ask self.old permitted.pasid permitted.page }
     {
-        let Some(tag) = self.tags.lowest_free() else {
-            unreachable!()
-        };
-        self.tags.take(tag, self.pasids.label(pasid), page);
-        tag
+        let Asking { tag, pasid, page } = permitted;
+        self.tags.take(tag, pasid, page);
     }
 
     /// Tells whether the cached translation of this page may be used, to write or only to read (PCI Express Base 5.0,
-    /// section 10.2.3): the slot and the frame, or `PageRange` for a page from 2^36 on, `NotStarted` for a PASID that isn't
-    /// on (one outside 1 to 32 never is), `NotHeld` where no translation is cached, `ReadOnly` where it doesn't allow
-    /// writing that is asked, or `NoUseSlot` where 16 slots are taken.
+    /// section 10.2.3): the use, with the slot and the frame, or `PageRange` for a page from 2^36 on, `NotStarted` for a
+    /// PASID that isn't on (one outside 1 to 32 never is), `NotHeld` where no translation is cached, `ReadOnly` where it
+    /// doesn't allow writing that is asked, or `NoUseSlot` where 16 slots are taken.
     pub fn may_begin_use(&self, pasid: u64, page: u64, write: bool) -> Result<Using, Refusal>
-        ensures { result ≡ using self.now pasid page write }
+        ensures answer { result ≡ using self.now pasid page write }
+        ensures may { IfOk result (MayBeginUse self.now) }
     {
         if page >= PAGES {
             return Err(Refusal::PageRange);
@@ -131,34 +132,21 @@ impl Endpoint {
         };
         Ok(Using {
             slot,
-            frame: translation.frame,
+            begun: Use {
+                pasid: self.pasids.label(pasid),
+                page,
+                frame: translation.frame,
+                write: translation.write,
+            },
         })
     }
 
-    /// Begins a use of the cached translation of this page, and gives its slot, the lowest free one of 0 to 15, and its
-    /// frame. The use may write where the translation allows it, whatever was asked.
-    pub fn begin_use(&mut self, pasid: u64, page: u64, write: bool) -> Using
-        requires { IsOk (using self.old pasid page write) }
-        ensures begun { using self.old pasid page write ≡ Ok result }
-        ensures after { self.new ≡ after_begin_use self.old pasid page }
+    /// Begins the use that the test gave, in its slot.
+    pub fn begin_use(&mut self, permitted: Using)
+        requires { MayBeginUse self.old permitted }
+        ensures { self.new ≡ after_begin_use self.old permitted.begun.pasid permitted.begun.page }
     {
-        let Some(translation) = self.cache.get(pasid, page) else {
-            unreachable!()
-        };
-        let Some(slot) = self.uses.lowest_free() else {
-            unreachable!()
-        };
-        let Translation { frame, write } = translation;
-        self.uses.begin(
-            slot,
-            Use {
-                pasid: self.pasids.label(pasid),
-                page,
-                frame,
-                write,
-            },
-        );
-        Using { slot, frame }
+        self.uses.begin(permitted.slot, permitted.begun);
     }
 
     /// Tells whether the slot is taken: `Ended` for a use that runs, `Dead` for one that a reset ended (this project's own
@@ -209,7 +197,8 @@ impl Endpoint {
     /// (one outside 1 to 32 is off); `NoCredit` where 32 page requests are outstanding (section 10.5.2); `NoSuchGroup`
     /// where no unfinished group of the PASID has the index; or `PriDisabled` after a response failure.
     pub fn may_fault(&self, fault: &Fault) -> Result<Faulting, Refusal>
-        ensures { result ≡ faulting self.now fault.now }
+        ensures answer { result ≡ faulting self.now fault.now }
+        ensures may { IfOk result (MayFault self.now) }
     {
         if fault.page >= PAGES {
             return Err(Refusal::PageRange);
@@ -230,33 +219,27 @@ impl Endpoint {
         if !self.enabled {
             return Err(Refusal::PriDisabled);
         }
-        let request = fault.request(self.pasids.label(fault.pasid), index);
         Ok(Faulting {
-            index,
-            kind: Kind::PageRequest(request),
+            begins: fault.group.is_none(),
+            request: fault.request(self.pasids.label(fault.pasid), index),
         })
     }
 
-    /// Sends this page request, and gives the index of its group, 0 to 31: for a new group the lowest free one.
-    pub fn fault(&mut self, fault: &Fault) -> u8
-        requires { IsOk (faulting self.old fault.now) }
-        ensures index { result ≡ index_for self.old fault.now.group }
-        ensures after { self.new ≡ after_fault self.old fault.now }
+    /// Sends the page request that the test gave: it begins a group, or goes on with one.
+    pub fn fault(&mut self, permitted: Faulting)
+        requires { MayFault self.old permitted }
+        ensures { self.new ≡ after_fault self.old (fault_of permitted) }
     {
-        match fault.group {
-            None => {
-                let index = self.groups.lowest_free();
-                self.groups
-                    .begin(index, self.pasids.label(fault.pasid), fault.last);
-                index
-            }
-            Some(index) => {
-                let Some(index) = self.groups.unfinished(index, fault.pasid) else {
-                    unreachable!()
-                };
-                self.groups.extend(index, fault.last);
-                index
-            }
+        let PageRequest {
+            pasid,
+            index,
+            last,
+            ..
+        } = permitted.request;
+        if permitted.begins {
+            self.groups.begin(index, pasid, last);
+        } else {
+            self.groups.extend(index, last);
         }
     }
 
@@ -265,7 +248,8 @@ impl Endpoint {
     /// invalidation; `InUse` where one of them waits for a use that it noted (this project's own rule); or `BadCount` for a
     /// count that isn't 1 to 8.
     pub fn may_finish(&self, vector: u32, count: u64) -> Result<Finishing, Refusal>
-        ensures { result ≡ finishing self.now vector count }
+        ensures answer { result ≡ finishing self.now vector count }
+        ensures may { IfOk result (MayFinish self.now) }
     {
         if vector == 0 || !self.taken.are_pending(vector) {
             return Err(Refusal::NotPending);
@@ -277,29 +261,24 @@ impl Endpoint {
             return Err(Refusal::BadCount);
         }
         let count = Count::new(count as u8);
-        let field = CountField::new(count.field());
-        Ok(Finishing {
-            count,
-            kind: Kind::Invalidated {
-                vector,
-                count: field,
-            },
-        })
+        Ok(Finishing { vector, count })
     }
 
-    /// Completes the invalidations that the vector names, bit T for ITag T. What is left doesn't depend on the count.
-    pub fn finish(&mut self, vector: u32, count: u64)
-        requires { IsOk (finishing self.old vector count) }
-        ensures { self.new ≡ after_finish self.old vector }
+    /// Completes the invalidations that the test's vector names. What is left doesn't depend on how many completions
+    /// are sent.
+    pub fn finish(&mut self, permitted: Finishing)
+        requires { MayFinish self.old permitted }
+        ensures { self.new ≡ after_finish self.old permitted.vector }
     {
-        self.taken.complete(vector);
+        self.taken.complete(permitted.vector);
     }
 
     /// Tells whether this PASID may be quit: the Stop Marker (PCI Express Base 5.0, section 10.4.1), or `NotStopping` for
     /// one that isn't stopping (one outside 1 to 32 never is), or `Busy` where a group of it is unfinished, a request of it
     /// is out, doomed or not, or a use of it runs.
-    pub fn may_quit(&self, pasid: u64) -> Result<Kind, Refusal>
-        ensures { result ≡ quitting self.now pasid }
+    pub fn may_quit(&self, pasid: u64) -> Result<Quitting, Refusal>
+        ensures answer { result ≡ quitting self.now pasid }
+        ensures may { IfOk result (MayQuit self.now) }
     {
         if !self.pasids.state_of(pasid).is_stopping() {
             return Err(Refusal::NotStopping);
@@ -310,21 +289,20 @@ impl Endpoint {
         {
             return Err(Refusal::Busy);
         }
-        Ok(Kind::Marker {
+        Ok(Quitting {
             pasid: self.pasids.label(pasid),
         })
     }
 
-    /// Stops using this PASID, which is off then. Its groups that are out become stale: they keep their indexes and their
-    /// requests until their responses come (PCI Express Base 5.0, sections 6.20 and 10.4.1; that they keep their indexes is
-    /// this project's own rule).
-    pub fn quit(&mut self, pasid: u64)
-        requires { IsOk (quitting self.old pasid) }
-        ensures { self.new ≡ after_quit self.old pasid }
+    /// Stops using the PASID that the test gave, which is off then. Its groups that are out become stale: they keep their
+    /// indexes and their requests until their responses come (PCI Express Base 5.0, sections 6.20 and 10.4.1; that they keep
+    /// their indexes is this project's own rule).
+    pub fn quit(&mut self, permitted: Quitting)
+        requires { MayQuit self.old permitted }
+        ensures { self.new ≡ after_quit self.old permitted.pasid }
     {
-        let pasid = self.pasids.label(pasid);
-        self.pasids.set(pasid, PasidState::Off);
-        self.groups.make_stale(pasid);
+        self.pasids.set(permitted.pasid, PasidState::Off);
+        self.groups.make_stale(permitted.pasid);
     }
 
     /// Takes a message from the host, and answers what came of it. Whose message it is was looked at before. By kind, with

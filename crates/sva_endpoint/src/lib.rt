@@ -8,6 +8,6 @@ mod permitted;
 
 pub use device::Endpoint;
 pub use laws::endpoint_laws;
-pub use permitted::{Asking, Fault, Faulting, Finishing, Received, Using};
+pub use permitted::{Asking, Fault, Faulting, Finishing, Quitting, Received, Using};
 pub use sva_cache::{Cache, CacheKey, Extent, Invalidation, Ticks, Translation};
 pub use sva_tables::{GroupPlace, PasidState, RequestTag, Taken, Use, UseSlot};

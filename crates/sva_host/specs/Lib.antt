@@ -2,4 +2,3 @@ pub use Rattle.sva_host_state.specs.Steps
 pub mod Seen
 pub mod Inner
 pub mod Applied
-pub mod Advancing

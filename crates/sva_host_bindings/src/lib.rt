@@ -4,10 +4,8 @@
 
 mod advancing;
 mod bindings;
-mod stage_reading;
 mod unbinding;
 
 pub use advancing::advance;
 pub use bindings::{bearer, bind};
-pub use stage_reading::open_drain;
 pub use unbinding::unbind;

@@ -15,9 +15,9 @@ pub fn ask(host: &mut HostState, endpoint: u64, pasid: u64, page: u64) -> Result
 {
     let at = port(host, endpoint)?;
     let asking = host.ports[at].device.may_ask(pasid, page)?;
-    send(&mut host.in_flight, endpoint, asking.kind, 1)?;
-    let tag = host.ports[at].device.ask(pasid, page);
-    Ok(Answer::Tag { tag })
+    send(&mut host.in_flight, endpoint, asking.kind(), 1)?;
+    host.ports[at].device.ask(asking);
+    Ok(Answer::Tag { tag: asking.tag })
 }
 
 /// An endpoint begins a use of the translation of this page that it holds, to write or only to read.
@@ -32,11 +32,11 @@ pub fn begin_use(
     ensures memory { result ≢ Err refusal.OutOfMemory }
 {
     let at = port(host, endpoint)?;
-    let _may = host.ports[at].device.may_begin_use(pasid, page, write)?;
-    let begun = host.ports[at].device.begin_use(pasid, page, write);
+    let using = host.ports[at].device.may_begin_use(pasid, page, write)?;
+    host.ports[at].device.begin_use(using);
     Ok(Answer::Use {
-        slot: begun.slot,
-        frame: begun.frame,
+        slot: using.slot,
+        frame: using.begun.frame,
     })
 }
 
@@ -70,9 +70,11 @@ pub fn fault(host: &mut HostState, endpoint: u64, fault: &Fault) -> Result<Answe
 {
     let at = port(host, endpoint)?;
     let faulting = host.ports[at].device.may_fault(fault)?;
-    send(&mut host.in_flight, endpoint, faulting.kind, 1)?;
-    let group = host.ports[at].device.fault(fault);
-    Ok(Answer::Group { group })
+    send(&mut host.in_flight, endpoint, faulting.kind(), 1)?;
+    host.ports[at].device.fault(faulting);
+    Ok(Answer::Group {
+        group: faulting.request.index,
+    })
 }
 
 /// An endpoint completes the invalidations that this vector names, bit T for ITag T, by so many completions, 1 to 8.
@@ -90,10 +92,10 @@ pub fn finish(
     send(
         &mut host.in_flight,
         endpoint,
-        finishing.kind,
+        finishing.kind(),
         u64::from(copies),
     )?;
-    host.ports[at].device.finish(vector, count);
+    host.ports[at].device.finish(finishing);
     Ok(Answer::Sent { count: copies })
 }
 
@@ -102,8 +104,8 @@ pub fn quit(host: &mut HostState, endpoint: u64, pasid: u64) -> Result<Answer, R
     ensures { ByLabels host.old (step.Quit endpoint pasid) result host.new }
 {
     let at = port(host, endpoint)?;
-    let marker = host.ports[at].device.may_quit(pasid)?;
-    send(&mut host.in_flight, endpoint, marker, 1)?;
-    host.ports[at].device.quit(pasid);
+    let quitting = host.ports[at].device.may_quit(pasid)?;
+    send(&mut host.in_flight, endpoint, quitting.kind(), 1)?;
+    host.ports[at].device.quit(quitting);
     Ok(Answer::Marker)
 }

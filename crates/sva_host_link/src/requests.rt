@@ -52,12 +52,7 @@ pub(crate) fn request_arrives(
         return Ok(Answer::Dropped);
     }
     let found = translation(host, endpoint, pasid, page);
-    send(
-        &mut host.in_flight,
-        endpoint,
-        completion(tag, page, found),
-        1,
-    )?;
+    send(&mut host.in_flight, endpoint, completion(tag, found), 1)?;
     host.in_flight.deliver_found(flight);
     Ok(Answer::Completion)
 }

@@ -1,4 +1,3 @@
 pub use Rattle.sva_host_state.specs.Steps
 pub use Rattle.sva_host_state.specs.Arriving
 pub use Rattle.sva_host_state.specs.Replying
-pub use Rattle.sva_host_state.specs.StageReading

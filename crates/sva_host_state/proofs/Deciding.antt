@@ -56,17 +56,6 @@ passed {A = A} a b (cause ∷ causes) more r is = go (passed a b causes more r) 
         none wrong = cc
     go rest false is = rest is
 
-pub given : {A : Type 0} (a b : A) (causes : List Cause) → unless_refused causes a ≡ Ok b → a ≡ b
-given {A = A} a b [] is = let same : a ≡ b = cc in same
-given {A = A} a b (cause ∷ causes) is = go (given a b causes) cause.0 is
-  where
-    go : (unless_refused causes a ≡ Ok b → a ≡ b) → (c : Bool) → (if c then Err cause.1 else unless_refused causes a) ≡ Ok b → a ≡ b
-    go rest true is = absurd (none is)
-      where
-        none : ◌≡◌ {A = Result A Refusal} (Err cause.1) (Ok b) → ⊥
-        none wrong = cc
-    go rest false is = rest is
-
 -- at an endpoint that is there the further causes decide
 pub at_endpoint : (w : Wire) (e : ℕ) (causes others : List Cause) (r : outcomes.Result) → nat_lt e (length w.parts) ≡ true → causes ≡ others
     → checked (no_such_endpoint w e ∷ causes) r ≡ checked others r

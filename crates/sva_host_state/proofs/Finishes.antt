@@ -16,9 +16,11 @@ use Rattle.sva_labels.specs.Causes.{numbers_spent}
 use Rattle.sva_labels.specs.Host.{Decision, checked, decide_of}
 use Rattle.sva_labels.specs.Moves.{Move, sent_copies, with_device, without_named}
 use Rattle.sva_labels.specs.Outcomes.{by_one, result_of}
+use Rattle.sva_msg.specs.declared.messages.Kind.{Kind}
 use Rattle.sva_msg.specs.declared.messages.Kind.TheVariants.{Invalidated}
 use Rattle.sva_msg.specs.Bag.{InFlight}
 use Rattle.sva_endpoint.specs.declared.permitted.Finishing.{Finishing}
+use Rattle.sva_endpoint.specs.Tables.{Tables}
 use Rattle.sva_endpoint.specs.Steps.{refusals_of_finish, finishing, after_finish}
 use Rattle.sva_parts_by_labels.specs.Device.{device_seen}
 use Rattle.sva_parts_by_labels.specs.Flights.{FlightsAreSeen}
@@ -27,7 +29,8 @@ use Rattle.sva_host_state.specs.declared.host_state.HostState.TheInside.{Inside 
 use Rattle.sva_host_state.specs.declared.host_state.Port.{Port}
 use Rattle.sva_host_state.specs.Inner.{wire_of}
 use Rattle.sva_host_state.specs.Steps.{Does, ByLabels, Sends}
-use Rattle.sva_host_state.proofs.Deciding.{refused_by, passed, given, at_endpoint}
+use Rattle.sva_endpoint.proofs.CallFacts.{given}
+use Rattle.sva_host_state.proofs.Deciding.{refused_by, passed, at_endpoint}
 use Rattle.sva_host_state.proofs.Ports.{IsPort, with_tables, with_tables_seen}
 use Rattle.sva_host_state.proofs.Sent.{sent_decided}
 use Rattle.sva_host_state.proofs.Devices.{device_there, unsent_done}
@@ -67,27 +70,32 @@ may host e v n port a fits is allows =
     ∙ passed _ a (refusals_of_finish port.device v n) (numbers_spent host.in_flight.next n ∷ []) (by_one (answer.Sent n) (Move.Finish e v n)) (sym allows)
 
 -- the completions that are to be sent
-pub sending : (host : HostState) (v n : ℕ) (port : Port) (a : Finishing) → Ok a ≡ finishing port.device v n
-    → record { count = n; kind = Invalidated v (count_field n) } ≡ a
-sending host v n port a allows = given _ a (refusals_of_finish port.device v n) (sym allows)
+pub sending : (tables : Tables) (v n : ℕ) (a : Finishing) → Ok a ≡ finishing tables v n → record { vector = v; count = n } ≡ a
+sending tables v n a allows = given _ a (refusals_of_finish tables v n) (sym allows)
 
-pub finish_unsent : (host : HostState) (e v n : ℕ) (port : Port) (a : Finishing) (bag : InFlight) (x : Refusal) (m : ℕ) → m ≡ a.count → v < 2 ^ 32
+-- what they leave is told by their own vector
+pub left_by_finish : (before after : Tables) (v n : ℕ) (a : Finishing) (tables : Tables) → Ok a ≡ finishing tables v n → after ≡ after_finish before a.vector
+    → after ≡ after_finish before v
+left_by_finish before after v n a tables allows is = is ∙ ap (λ (b : Finishing). after_finish before b.vector) (sym (sending tables v n a allows))
+
+pub finish_unsent : (host : HostState) (e v n : ℕ) (port : Port) (a : Finishing) (kind : Kind) (bag : InFlight) (x : Refusal) (m : ℕ) → m ≡ a.count
+    → v < 2 ^ 32
     → IsPort host e port → Ok a ≡ finishing port.device v n
-    → Sends host.in_flight e a.kind m (Err x) bag
+    → Sends host.in_flight e kind m (Err x) bag
     → ByLabels (wire_of host) (step.Finish e v n) (Err x) (wire_of (record host { in_flight = bag }))
-finish_unsent host e v n port a bag x m many fits is allows sends =
-    unsent_done host (step.Finish e v n) e a.kind n bag x _ (may host e v n port a fits is allows)
-    (subst (λ (k : ℕ). Sends host.in_flight e a.kind k (Err x) bag) (many ∙ sym (ap (λ (f : Finishing). f.count) (sending host v n port a allows))) sends)
+finish_unsent host e v n port a kind bag x m many fits is allows sends =
+    unsent_done host (step.Finish e v n) e kind n bag x _ (may host e v n port a fits is allows)
+    (subst (λ (k : ℕ). Sends host.in_flight e kind k (Err x) bag) (many ∙ sym (ap (λ (f : Finishing). f.count) (sending port.device v n a allows))) sends)
 
-pub finish_done : (host : HostState) (e v n : ℕ) (port : Port) (a : Finishing) (bag : InFlight) (m : ℕ) → m ≡ a.count → v < 2 ^ 32
+pub finish_done : (host : HostState) (e v n : ℕ) (port : Port) (a : Finishing) (kind : Kind) (bag : InFlight) (m : ℕ) → m ≡ a.count → v < 2 ^ 32
     → FlightsAreSeen host.in_flight → IsPort host e port
-    → Ok a ≡ finishing port.device v n → Sends host.in_flight e a.kind m (Ok tt) bag
+    → Ok a ≡ finishing port.device v n → kind ≡ Invalidated a.vector (count_field a.count) → Sends host.in_flight e kind m (Ok tt) bag
     → ByLabels (wire_of host) (step.Finish e v n) (Ok (answer.Sent a.count))
     (wire_of (record (with_tables host e port (after_finish port.device v)) { in_flight = bag }))
-finish_done host e v n port a bag m many fits flights is allows sends =
+finish_done host e v n port a kind bag m many fits flights is allows said sends =
     subst (λ (f : Finishing). ByLabels (wire_of host) (step.Finish e v n) (Ok (answer.Sent f.count))
     (wire_of (record (with_tables host e port (after_finish port.device v)) { in_flight = bag })))
-    (sending host v n port a allows)
+    (sending port.device v n a allows)
     (subst (λ (c : Decision). Does c (wire_of host) (Ok (answer.Sent n))
     (wire_of (record (with_tables host e port (after_finish port.device v)) { in_flight = bag })))
     (sym (may host e v n port a fits is allows
@@ -95,8 +103,10 @@ finish_done host e v n port a bag m many fits flights is allows sends =
     (refl, after))
   where
     sent : Sends host.in_flight e (Invalidated v (count_field n)) n (Ok tt) bag
-    sent = subst (λ (f : Finishing). Sends host.in_flight e f.kind f.count (Ok tt) bag) (sym (sending host v n port a allows))
-        (subst (λ (k : ℕ). Sends host.in_flight e a.kind k (Ok tt) bag) many sends)
+    sent = subst (λ (f : Finishing). Sends host.in_flight e (Invalidated f.vector (count_field f.count)) f.count (Ok tt) bag)
+        (sym (sending port.device v n a allows))
+        (subst (λ (k : ℕ). Sends host.in_flight e (Invalidated a.vector (count_field a.count)) k (Ok tt) bag) many
+        (subst (λ (k : Kind). Sends host.in_flight e k m (Ok tt) bag) said sends))
 
     left : DeviceWire
     left = record (device_of (wire_of host) e) { taken = without_named v (device_of (wire_of host) e).taken }

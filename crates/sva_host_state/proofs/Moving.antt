@@ -1,13 +1,17 @@
 -- A stage that is taken out of its place, and another one that is put there; and a place that goes.
 use Rattle.std.proofs.Common.{◌≡◌, refl, ap, sym, ◌∙◌, subst, ℕ, Bool, true, false}
-use Rattle.std.specs.Prelude.{cond, not, Option, Some, None, List, [], ◌∷◌}
-use Rattle.sva_pasid.specs.Places.{is_of, with_stage, without}
+use Rattle.std.specs.Prelude.{cond, not, Option, Some, None, IsSomeAnd, List, [], ◌∷◌}
+use Rattle.sva_model.specs.Wire.{StageWire, UnitWire}
+use Rattle.sva_model.specs.Wire.StageWire.{StoppingWire, DrainingWire, InvalidatingWire}
+use Rattle.sva_labels.specs.Finding.{is_wait_done}
+use Rattle.sva_pasid.specs.States.{Wait, done_wait}
+use Rattle.sva_pasid.specs.Places.{is_of, stage_of, with_stage, without}
 use Rattle.sva_pasid.specs.declared.places.TableEntry.{TableEntry}
 use Rattle.sva_pasid.specs.declared.stages.Stage.{Stage}
 use Rattle.sva_parts_by_labels.specs.Bindings.{stage_seen, bindings_seen}
 use Rattle.sva_parts_by_labels.proofs.Bindings.{bindings_are_seen}
 use Rattle.sva_host_state.specs.Inner.{AreStaged}
-use Rattle.sva_host_state.specs.Stages.{MovesTo, Goes}
+use Rattle.sva_host_state.specs.Stages.{IsSeenIn, MovesTo, MovesIf, Goes, told_by}
 use Rattle.sva_host_state.proofs.Staged.{put_staged, left_staged}
 
 -- the second one stays
@@ -51,3 +55,61 @@ goes b places hand after taken left =
       seen = ap bindings_seen is ∙ (bindings_are_seen places).1.released b;
       staged = λ staged. subst AreStaged (sym is) (left_staged places b staged);
     }
+
+-- A state that was told, or not, that its wait is done.
+
+pub told_cookie : (u : UnitWire) (w : Wait) → (told_by u w).cookie ≡ w.cookie
+told_cookie u w = go (is_wait_done u w.cookie)
+  where
+    go : (done : Bool) → (cond done (done_wait w) w).cookie ≡ w.cookie
+    go true = refl
+    go false = refl
+
+pub told_waited : (u : UnitWire) (w : Wait) → is_wait_done u w.cookie ≡ true → (told_by u w).waited ≡ true
+told_waited u w is = ap (λ (done : Bool). (cond done (done_wait w) w).waited) is
+
+-- A stage that stands in a place, and whether it moved on.
+
+pub seen_here : (s : StageWire) (n : ℕ) (places : List TableEntry) (o : Option Stage) (stage : Stage) → o ≡ stage_of n places → o ≡ Some stage
+    → stage_seen stage ≡ s → IsSeenIn s n places
+seen_here s n places o stage found is same =
+    subst (λ (p : Option Stage). IsSomeAnd p (λ (x : Stage). stage_seen x ≡ s)) (sym is ∙ found) same
+
+-- A move that is due isn't refused by the state itself.
+
+-- one stage stands in a place
+pub seen_once : (s t : StageWire) (n : ℕ) (places : List TableEntry) → IsSeenIn s n places → IsSeenIn t n places → s ≡ t
+seen_once s t n places one other = go (stage_of n places) one other
+  where
+    go : (o : Option Stage) → IsSomeAnd o (λ (stage : Stage). stage_seen stage ≡ s) → IsSomeAnd o (λ (stage : Stage). stage_seen stage ≡ t) → s ≡ t
+    go None one other = absurd one
+    go (Some stage) one other = sym one ∙ other
+
+pub marked_not_noted : (noted : Bool) (n : ℕ) (places : List TableEntry) → IsSeenIn (StoppingWire noted) n places → IsSeenIn (StoppingWire true) n places
+    → noted ≡ true
+marked_not_noted noted n places one other = is (seen_once (StoppingWire noted) (StoppingWire true) n places one other)
+  where
+    is : StoppingWire noted ≡ StoppingWire true → noted ≡ true
+    is same = let marked : noted ≡ true = cc in marked
+
+pub draining_cookie : (a b n : ℕ) (places : List TableEntry) → IsSeenIn (DrainingWire a) n places → IsSeenIn (DrainingWire b) n places → a ≡ b
+draining_cookie a b n places one other = is (seen_once (DrainingWire a) (DrainingWire b) n places one other)
+  where
+    is : DrainingWire a ≡ DrainingWire b → a ≡ b
+    is same = let cookie : a ≡ b = cc in cookie
+
+pub invalidating_cookie : (a b n : ℕ) (places : List TableEntry) → IsSeenIn (InvalidatingWire a) n places → IsSeenIn (InvalidatingWire b) n places → a ≡ b
+invalidating_cookie a b n places one other = is (seen_once (InvalidatingWire a) (InvalidatingWire b) n places one other)
+  where
+    is : InvalidatingWire a ≡ InvalidatingWire b → a ≡ b
+    is same = let cookie : a ≡ b = cc in cookie
+
+pub moved_on : (moves : Bool) (stage : StageWire) (n : ℕ) (before after : List TableEntry) → MovesIf moves stage n before after → moves ≡ true
+    → MovesTo stage n before after
+moved_on moves stage n before after is due = subst (λ (b : Bool). MovesIf b stage n before after) due is
+
+-- whatever it does, each stage stands in its place
+pub if_staged : (moves : Bool) (stage : StageWire) (n : ℕ) (before after : List TableEntry) → MovesIf moves stage n before after → AreStaged before
+    → AreStaged after
+if_staged true stage n before after is = is.staged
+if_staged false stage n before after is = is.2.staged

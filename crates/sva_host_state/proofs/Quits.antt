@@ -17,13 +17,16 @@ use Rattle.sva_labels.specs.Outcomes.{by_one, result_of}
 use Rattle.sva_msg.specs.declared.messages.Kind.{Kind}
 use Rattle.sva_msg.specs.declared.messages.Kind.TheVariants.{Marker}
 use Rattle.sva_msg.specs.Bag.{InFlight}
+use Rattle.sva_endpoint.specs.declared.permitted.Quitting.{Quitting}
+use Rattle.sva_endpoint.specs.Tables.{Tables}
 use Rattle.sva_endpoint.specs.Steps.{refusals_of_quit, quitting, after_quit}
 use Rattle.sva_parts_by_labels.proofs.Groups.{quit_is_seen}
 use Rattle.sva_host_state.specs.declared.host_state.HostState.TheInside.{Inside as HostState}
 use Rattle.sva_host_state.specs.declared.host_state.Port.{Port}
 use Rattle.sva_host_state.specs.Inner.{wire_of}
 use Rattle.sva_host_state.specs.Steps.{Does, ByLabels, Sends}
-use Rattle.sva_host_state.proofs.Deciding.{refused_by, passed, given, at_endpoint}
+use Rattle.sva_endpoint.proofs.CallFacts.{given}
+use Rattle.sva_host_state.proofs.Deciding.{refused_by, passed, at_endpoint}
 use Rattle.sva_host_state.proofs.Ports.{IsPort, with_tables}
 use Rattle.sva_host_state.proofs.Devices.{device_there, unsent_done, sent_done}
 
@@ -49,27 +52,36 @@ quit_refused host e t port x is refuses =
     (refused_by _ (refusals_of_quit port.device t) (numbers_spent host.in_flight.next 1 ∷ []) (result_of (wire_of host) (step.Quit e t))
     (wire_of host) x (tt, (tt, tt)) (sym refuses))
 
-may : (host : HostState) (e t : ℕ) (port : Port) (a : Kind) → IsPort host e port → Ok a ≡ quitting port.device t
+may : (host : HostState) (e t : ℕ) (port : Port) (a : Quitting) → IsPort host e port → Ok a ≡ quitting port.device t
     → decide_of (wire_of host) (step.Quit e t) ≡ checked (numbers_spent host.in_flight.next 1 ∷ []) (by_one answer.Marker (Move.Quit e t))
 may host e t port a is allows =
     decided host e t port is
     ∙ passed _ a (refusals_of_quit port.device t) (numbers_spent host.in_flight.next 1 ∷ []) (result_of (wire_of host) (step.Quit e t)) (sym allows)
 
-pub quit_unsent : (host : HostState) (e t : ℕ) (port : Port) (a : Kind) (bag : InFlight) (x : Refusal) → IsPort host e port → Ok a ≡ quitting port.device t
-    → Sends host.in_flight e a 1 (Err x) bag
-    → ByLabels (wire_of host) (step.Quit e t) (Err x) (wire_of (record host { in_flight = bag }))
-quit_unsent host e t port a bag x is allows sends =
-    unsent_done host (step.Quit e t) e a 1 bag x _ (may host e t port a is allows) sends
+-- the PASID is the one that was asked for
+same_pasid : (tables : Tables) (t : ℕ) (a : Quitting) → Ok a ≡ quitting tables t → a.pasid ≡ t
+same_pasid tables t a allows = ap (λ (b : Quitting). b.pasid) (sym (given (record { pasid = t }) a (refusals_of_quit tables t) (sym allows)))
 
-pub quit_done : (host : HostState) (e t : ℕ) (port : Port) (a : Kind) (bag : InFlight) → IsPort host e port → Ok a ≡ quitting port.device t
-    → Sends host.in_flight e a 1 (Ok tt) bag
+pub left_by_quit : (before after : Tables) (t : ℕ) (a : Quitting) (tables : Tables) → Ok a ≡ quitting tables t → after ≡ after_quit before a.pasid
+    → after ≡ after_quit before t
+left_by_quit before after t a tables allows is = is ∙ ap (after_quit before) (same_pasid tables t a allows)
+
+pub quit_unsent : (host : HostState) (e t : ℕ) (port : Port) (a : Quitting) (kind : Kind) (bag : InFlight) (x : Refusal) → IsPort host e port
+    → Ok a ≡ quitting port.device t
+    → Sends host.in_flight e kind 1 (Err x) bag
+    → ByLabels (wire_of host) (step.Quit e t) (Err x) (wire_of (record host { in_flight = bag }))
+quit_unsent host e t port a kind bag x is allows sends =
+    unsent_done host (step.Quit e t) e kind 1 bag x _ (may host e t port a is allows) sends
+
+pub quit_done : (host : HostState) (e t : ℕ) (port : Port) (a : Quitting) (kind : Kind) (bag : InFlight) → IsPort host e port
+    → Ok a ≡ quitting port.device t → kind ≡ Marker a.pasid
+    → Sends host.in_flight e kind 1 (Ok tt) bag
     → ByLabels (wire_of host) (step.Quit e t) (Ok answer.Marker)
     (wire_of (record (with_tables host e port (after_quit port.device t)) { in_flight = bag }))
-quit_done host e t port a bag is allows sends =
-    let same = given (Marker t) a (refusals_of_quit port.device t) (sym allows) in
+quit_done host e t port a kind bag is allows said sends =
     sent_done host (step.Quit e t) e port (after_quit port.device t) (Marker t) bag answer.Marker (Move.Quit e t) _ is
     (may host e t port a is allows)
-    (subst (λ (k : Kind). Sends host.in_flight e k 1 (Ok tt) bag) (sym same) sends)
+    (subst (λ (k : Kind). Sends host.in_flight e k 1 (Ok tt) bag) (said ∙ ap Marker (same_pasid port.device t a allows)) sends)
     refl
     ((quit_is_seen port.device t is.sound).after
     ∙ ap (λ (d : DeviceWire). with_pasid t DeviceState.Off (record d { groups = map (stale_of t) d.groups })) (sym (device_there host e port is)))

@@ -28,7 +28,8 @@ use Rattle.sva_host_state.specs.Stages.{IsIn, IsSeenIn, MovesTo}
 use Rattle.sva_host_state.specs.Steps.{Does, ByLabels, Sends}
 use Rattle.sva_host_state.specs.Unbinding.{is_lost, ending_by, ending_of, MayUnbind}
 use Rattle.sva_host_state.proofs.Bound.{number_is, stage_there, kind_in}
-use Rattle.sva_host_state.proofs.Deciding.{IsOther, AreOther, all_clear, given, passed, refused_by}
+use Rattle.sva_endpoint.proofs.CallFacts.{given}
+use Rattle.sva_host_state.proofs.Deciding.{IsOther, AreOther, all_clear, passed, refused_by}
 use Rattle.sva_host_state.proofs.Refusing.{refuses, allows, is_other, spent, left_over}
 use Rattle.sva_host_state.proofs.Sent.{sent_seen}
 pub use Rattle.sva_host_state.proofs.NeverForMemory.{not_for_memory as not_memory}

@@ -18,7 +18,7 @@ use Rattle.sva_labels.specs.Outcomes.{by_one, label, begin_result, end_answer, r
 use Rattle.sva_tables.specs.UseSlots.{slot_at}
 use Rattle.sva_endpoint.specs.declared.permitted.Using.{Using}
 use Rattle.sva_endpoint.specs.Tables.{Tables}
-use Rattle.sva_endpoint.specs.Steps.{refusals_of_use, using, lowest_slot, translation_at, after_begin_use, refusals_of_end, end_of, ending}
+use Rattle.sva_endpoint.specs.Steps.{refusals_of_use, using, use_of, lowest_slot, after_begin_use, refusals_of_end, end_of, ending}
 use Rattle.sva_endpoint.specs.Steps.{after_end_use, refusals_of_evict, evicting, after_evict}
 use Rattle.sva_parts_by_labels.specs.DeviceLaws.{found_at}
 use Rattle.sva_parts_by_labels.proofs.Uses.{use_is_seen, end_is_seen, evict_is_seen}
@@ -26,7 +26,8 @@ use Rattle.sva_host_state.specs.declared.host_state.HostState.TheInside.{Inside 
 use Rattle.sva_host_state.specs.declared.host_state.Port.{Port}
 use Rattle.sva_host_state.specs.Inner.{wire_of}
 use Rattle.sva_host_state.specs.Steps.{Does, ByLabels}
-use Rattle.sva_host_state.proofs.Deciding.{IsOther, refused_by, passed, given, all_clear, at_endpoint}
+use Rattle.sva_endpoint.proofs.CallFacts.{given}
+use Rattle.sva_host_state.proofs.Deciding.{IsOther, refused_by, passed, all_clear, at_endpoint}
 use Rattle.sva_host_state.proofs.Refusing.{is_other}
 use Rattle.sva_host_state.proofs.Ports.{IsPort, with_tables}
 use Rattle.sva_host_state.proofs.Devices.{device_there, device_done}
@@ -61,14 +62,27 @@ use_refused host e t q x port r is refuses =
     (refused_by _ (refusals_of_use port.device t q x) [] (result_of (wire_of host) (step.BeginUse e t q x)) (wire_of host) r
     (tt, (tt, (tt, (tt, (tt, tt))))) (sym refuses))
 
+-- the use that the test gives
+permitted : Tables → (t q : ℕ) → Using
+permitted tables t q = record { slot = lowest_slot tables; begun = use_of tables t q }
+
+-- what the use leaves is told by its own PASID and page
+pub left_by_use : (before after : Tables) (t q : ℕ) (x : Bool) (a : Using) (tables : Tables) → Ok a ≡ using tables t q x
+    → after ≡ after_begin_use before a.begun.pasid a.begun.page
+    → after ≡ after_begin_use before t q
+unfolding permitted
+left_by_use before after t q x a tables allows is =
+    is
+    ∙ ap (λ (b : Using). after_begin_use before b.begun.pasid b.begun.page) (sym (given (permitted tables t q) a (refusals_of_use tables t q x) (sym allows)))
+
 pub use_done : (host : HostState) (e t q : ℕ) (x : Bool) (port : Port) (a : Using) → IsPort host e port → Ok a ≡ using port.device t q x
-    → ByLabels (wire_of host) (step.BeginUse e t q x) (Ok (answer.Use a.slot a.frame))
+    → ByLabels (wire_of host) (step.BeginUse e t q x) (Ok (answer.Use a.slot a.begun.frame))
     (wire_of (with_tables host e port (after_begin_use port.device t q)))
-unfolding uses
+unfolding uses permitted
 use_done host e t q x port a is allows =
     let device = device_there host e port is in
     let seen = use_is_seen port.device t q x is.sound in
-    let begun : Using = record { slot = lowest_slot port.device; frame = (translation_at port.device t q).frame } in
+    let begun : Using = permitted port.device t q in
     let same : begun ≡ a = given begun a (refusals_of_use port.device t q x) (sym allows) in
     let clear = all_clear begun a (uses (device_of (wire_of host) e) t q x)
     (ap (λ (cs : List Cause). unless_refused cs begun) (uses_seen host e t q x port is) ∙ sym allows) in
@@ -77,7 +91,7 @@ use_done host e t q x port a is allows =
     let found = ap (λ (d : DeviceWire). cached d t q) device ∙ seen.found (ap (λ (d : DeviceWire). is_none (cached d t q)) (sym device) ∙ clear.1.1.0) in
     let n = lowest_slot port.device in
     let y = found_at port.device t q in
-    subst (λ (b : Using). ByLabels (wire_of host) (step.BeginUse e t q x) (Ok (answer.Use b.slot b.frame))
+    subst (λ (b : Using). ByLabels (wire_of host) (step.BeginUse e t q x) (Ok (answer.Use b.slot b.begun.frame))
     (wire_of (with_tables host e port (after_begin_use port.device t q)))) same
     (device_done host (step.BeginUse e t q x) e port (after_begin_use port.device t q) (answer.Use n y.frame) (Move.Begin e n y) _ is
     (use_decided host e t q x port is
@@ -162,8 +176,8 @@ evict_done host e t q port is allows =
 -- None of the causes is want of memory.
 
 pub use_other : (s : Tables) (t q : ℕ) (x : Bool) (r : Refusal) → Err r ≡ using s t q x → IsOther r
-use_other s t q x r refuses =
-    is_other (record { slot = lowest_slot s; frame = (translation_at s t q).frame }) (refusals_of_use s t q x) r (tt, (tt, (tt, (tt, (tt, tt))))) refuses
+unfolding permitted
+use_other s t q x r refuses = is_other (permitted s t q) (refusals_of_use s t q x) r (tt, (tt, (tt, (tt, (tt, tt))))) refuses
 
 pub end_other : (s : Tables) (slot : ℕ) (r : Refusal) → Err r ≡ ending s slot → IsOther r
 end_other s slot r refuses = is_other (end_of (slot_at s.uses slot)) (refusals_of_end s slot) r (tt, tt) refuses

@@ -11,4 +11,3 @@ pub mod Stages
 pub mod Unbinding
 pub mod Replying
 pub mod Advancing
-pub mod StageReading

@@ -1,7 +1,9 @@
 -- The stages of bindings in their places: which one stands there, and what a move of it leaves.
-use Rattle.std.specs.Prelude.{◌≡◌, ℕ, IsSomeAnd, List}
-use Rattle.sva_model.specs.Wire.{StageWire}
+use Rattle.std.specs.Prelude.{◌≡◌, ℕ, Bool, true, false, if◌then◌else◌, IsSomeAnd, List}
+use Rattle.sva_model.specs.Wire.{StageWire, UnitWire}
+use Rattle.sva_labels.specs.Finding.{is_wait_done}
 use Rattle.sva_labels.specs.Moves.{with_stage, without_binding}
+use Rattle.sva_pasid.specs.States.{Wait, done_wait}
 use Rattle.sva_pasid.specs.Moves.{Kind, kind_of_stage}
 use Rattle.sva_pasid.specs.Places.{stage_of}
 use Rattle.sva_pasid.specs.declared.places.TableEntry.{TableEntry}
@@ -21,6 +23,15 @@ IsSeenIn seen binding places = IsSomeAnd (stage_of binding places) (λ (stage : 
 pub record MovesTo (stage : StageWire) (binding : ℕ) (before after : List TableEntry) : Type 0 where
   pub seen : bindings_seen after ≡ with_stage binding stage (bindings_seen before)
   pub staged : AreStaged before → AreStaged after
+
+-- a state that waits is told that its wait is done, where its unit has done it
+abbrev pub told_by : UnitWire → Wait → Wait
+told_by unit wait = if is_wait_done unit wait.cookie then done_wait wait else wait
+
+-- a binding is at another stage where its state moves on, else at the one that it was at, and nothing else has changed
+abbrev pub MovesIf : Bool → StageWire → (binding : ℕ) → List TableEntry → List TableEntry → Type 0
+MovesIf true stage binding before after = MovesTo stage binding before after
+MovesIf false stage binding before after = (own : StageWire) × IsSeenIn own binding before × MovesTo own binding before after
 
 -- a binding is gone, and nothing else has changed
 pub record Goes (binding : ℕ) (before after : List TableEntry) : Type 0 where

@@ -15,7 +15,7 @@ pub enum Course {
     /// Its unit invalidates the PASID at its endpoint.
     Invalidate { endpoint: u64, pasid: u32 },
     /// Its endpoint holds nothing of it any longer.
-    Settle,
+    Settle { endpoint: u64 },
     /// It is over.
     Release,
 }
@@ -32,19 +32,22 @@ pub fn next_course(place: &TableEntry) -> Course
             endpoint: place.endpoint,
             pasid: place.pasid,
         },
-        Some(Stage::Invalidating(_)) => Course::Settle,
+        Some(Stage::Invalidating(_)) => Course::Settle {
+            endpoint: place.endpoint,
+        },
         _ => Course::Release,
     }
 }
 
-/// Whether what the binding waits for has come: the marker, or at this unit a wait.
-pub fn is_due(unit: &RemappingUnit, stage: &Option<Stage>) -> bool
-    ensures { result ≡ is_due unit.now.unit (stage_or_quiet stage.now) }
+/// Whether what the binding waits for has come: the marker, or at this unit a wait. `groups_open` tells whether a group of page
+/// requests of the binding isn't answered, which holds it up while it is drained.
+pub fn is_due(unit: &RemappingUnit, stage: &Option<Stage>, groups_open: bool) -> bool
+    ensures { result ≡ is_due unit.now.unit groups_open (stage_or_quiet stage.now) }
 {
     match stage {
         Some(Stage::Live(_)) => false,
         Some(Stage::Stopping(stopping)) => stopping.is_marked(),
-        Some(Stage::Draining(draining)) => unit.is_wait_done(draining.cookie()),
+        Some(Stage::Draining(draining)) => unit.is_wait_done(draining.cookie()) && !groups_open,
         Some(Stage::Invalidating(invalidating)) => unit.is_wait_done(invalidating.cookie()),
         Some(Stage::Quiet(_)) => true,
         Some(Stage::Lost(_)) => false,

@@ -20,6 +20,6 @@ pub use host_state::{HostState, Port};
 pub use replying::{Response, answer_of, code_by};
 pub use requests::completion;
 pub use sending::send;
-pub use stage_reading::{is_draining, is_live, is_lost, is_quiet};
+pub use stage_reading::{is_live, is_lost, is_quiet};
 pub use unbinding::Ending;
 pub use unmapping::Plan;

@@ -4,7 +4,6 @@ ghost use Rattle.std.specs.Prelude.{◌≡◌};
 ghost use Rattle.sva_labels.specs.Finding.{is_before_invalidating, is_live};
 ghost use Rattle.sva_parts_by_labels.specs.Bindings.{stage_or_quiet};
 ghost use Rattle.sva_host_state.specs.Advancing.{is_quiet};
-ghost use Rattle.sva_host_state.specs.StageReading.{is_draining};
 ghost use Rattle.sva_host_state.specs.Unbinding.{is_lost};
 
 use sva_pasid::Stage;
@@ -28,13 +27,6 @@ pub fn is_quiet(stage: &Option<Stage>) -> bool
     ensures { result ≡ is_quiet (stage_or_quiet stage.now) }
 {
     matches!(stage, Some(Stage::Quiet(_)) | None)
-}
-
-/// Whether the page requests of the binding are being drained.
-pub fn is_draining(stage: &Option<Stage>) -> bool
-    ensures { result ≡ is_draining (stage_or_quiet stage.now) }
-{
-    matches!(stage, Some(Stage::Draining(_)))
 }
 
 /// Whether the binding is in use yet, is being stopped or is being drained.

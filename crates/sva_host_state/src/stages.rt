@@ -1,11 +1,13 @@
 //! The moves of a binding's stage, each taken out of its place in the table and put back there.
 
-ghost use Rattle.std.specs.Prelude.{true, false};
+ghost use Rattle.std.specs.Prelude.{◌≡◌, ℕ, true, false, not};
 ghost use Rattle.sva_model.specs.Wire.StageWire.{StoppingWire, DrainingWire, InvalidatingWire, QuietWire};
+ghost use Rattle.sva_labels.specs.Finding.{is_wait_done};
 ghost use Rattle.sva_pasid.specs.Moves.{Kind as kind};
-ghost use Rattle.sva_host_state.specs.Stages.{IsIn, IsSeenIn, MovesTo, Goes};
+ghost use Rattle.sva_host_state.specs.Stages.{IsIn, IsSeenIn, MovesTo, MovesIf, Goes, told_by};
 
-use sva_pasid::{Stage, Table};
+use sva_iommu::RemappingUnit;
+use sva_pasid::{Draining, Invalidating, Stage, Table};
 
 /// The space of a binding that is in use is taken back from its endpoint: the stop is sent.
 pub fn stop(bindings: &mut Table, binding: u64)
@@ -40,45 +42,100 @@ pub fn mark(bindings: &mut Table, binding: u64)
     }
 }
 
-/// A binding whose marker is noted waits for the drain of its page requests, by the wait with this cookie.
-pub fn drain(bindings: &mut Table, binding: u64, cookie: u64)
-    requires { IsSeenIn (StoppingWire true) binding bindings.old }
-    ensures { MovesTo (DrainingWire cookie) binding bindings.old bindings.new }
+/// A binding whose marker is noted waits for the drain of its page requests, by the wait with this cookie. Tells whether it
+/// is noted: else the binding stays as it is.
+pub fn drain(bindings: &mut Table, binding: u64, cookie: u64) -> bool
+    requires { IsIn kind.stopping binding bindings.old }
+    ensures noted { IsSeenIn (StoppingWire result) binding bindings.old }
+    ensures moves { MovesIf result (DrainingWire cookie) binding bindings.old bindings.new }
 {
     match bindings.take(binding) {
         Some(Stage::Stopping(stopping)) => match stopping.drain(cookie) {
-            Ok(draining) => bindings.put(binding, Stage::Draining(draining)),
-            Err(_stopping) => unreachable!(),
+            Ok(draining) => {
+                bindings.put(binding, Stage::Draining(draining));
+                true
+            }
+            Err(stopping) => {
+                bindings.put(binding, Stage::Stopping(stopping));
+                false
+            }
         },
         _other => unreachable!(),
     }
 }
 
-/// A binding whose page requests are drained waits for the invalidation of its PASID, by the wait with this cookie.
-pub fn invalidate(bindings: &mut Table, binding: u64, cookie: u64)
+/// A binding whose page requests are drained waits for the invalidation of its PASID, by the wait with this cookie. Tells
+/// whether it goes on: where this unit hasn't done its wait, or a group of it is open, it stays as it is.
+pub fn invalidate(
+    bindings: &mut Table,
+    unit: &RemappingUnit,
+    binding: u64,
+    cookie: u64,
+    groups_open: bool,
+) -> bool
     requires { IsIn kind.draining binding bindings.old }
-    ensures { MovesTo (InvalidatingWire cookie) binding bindings.old bindings.new }
+    ensures due { (own : ℕ) → IsSeenIn (DrainingWire own) binding bindings.old → is_wait_done unit.now.unit own ≡ true → result ≡ not groups_open }
+    ensures moves { MovesIf result (InvalidatingWire cookie) binding bindings.old bindings.new }
 {
     match bindings.take(binding) {
-        Some(Stage::Draining(draining)) => match draining.waited().invalidate(cookie, false) {
-            Ok(invalidating) => bindings.put(binding, Stage::Invalidating(invalidating)),
-            Err(_draining) => unreachable!(),
+        Some(Stage::Draining(draining)) => match drained(draining, unit).invalidate(
+            cookie,
+            groups_open,
+        ) {
+            Ok(invalidating) => {
+                bindings.put(binding, Stage::Invalidating(invalidating));
+                true
+            }
+            Err(draining) => {
+                bindings.put(binding, Stage::Draining(draining));
+                false
+            }
         },
         _other => unreachable!(),
     }
 }
 
-/// A binding whose PASID is invalidated has nothing left to wait for.
-pub fn settle(bindings: &mut Table, binding: u64)
+/// The state is told that its wait is done, where this unit has done it.
+fn drained(draining: Draining, unit: &RemappingUnit) -> Draining
+    ensures { result ≡ told_by unit.now.unit draining }
+{
+    if unit.is_wait_done(draining.cookie()) {
+        draining.waited()
+    } else {
+        draining
+    }
+}
+
+/// A binding whose PASID is invalidated has nothing left to wait for. Tells whether it goes on: where this unit hasn't done
+/// its wait, it stays as it is.
+pub fn settle(bindings: &mut Table, unit: &RemappingUnit, binding: u64) -> bool
     requires { IsIn kind.invalidating binding bindings.old }
-    ensures { MovesTo QuietWire binding bindings.old bindings.new }
+    ensures due { (own : ℕ) → IsSeenIn (InvalidatingWire own) binding bindings.old → is_wait_done unit.now.unit own ≡ true → result ≡ true }
+    ensures moves { MovesIf result QuietWire binding bindings.old bindings.new }
 {
     match bindings.take(binding) {
-        Some(Stage::Invalidating(invalidating)) => match invalidating.waited().quiet() {
-            Ok(quiet) => bindings.put(binding, Stage::Quiet(quiet)),
-            Err(_invalidating) => unreachable!(),
+        Some(Stage::Invalidating(invalidating)) => match invalidated(invalidating, unit).quiet() {
+            Ok(quiet) => {
+                bindings.put(binding, Stage::Quiet(quiet));
+                true
+            }
+            Err(invalidating) => {
+                bindings.put(binding, Stage::Invalidating(invalidating));
+                false
+            }
         },
         _other => unreachable!(),
+    }
+}
+
+/// The state is told that its wait is done, where this unit has done it.
+fn invalidated(invalidating: Invalidating, unit: &RemappingUnit) -> Invalidating
+    ensures { result ≡ told_by unit.now.unit invalidating }
+{
+    if unit.is_wait_done(invalidating.cookie()) {
+        invalidating.waited()
+    } else {
+        invalidating
     }
 }
 

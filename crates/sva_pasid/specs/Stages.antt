@@ -1,5 +1,5 @@
 -- The stage of a binding: the two numbers that it keeps from its beginning to its release, and what a reset makes of it.
-use Rattle.std.specs.Prelude.{⊤}
+use Rattle.std.specs.Prelude.{⊤, Result, Ok, Err}
 use Rattle.sva_pasid.specs.States.{Numbers, numbers_of_stop, numbers_of_wait}
 use Rattle.sva_pasid.specs.declared.stages.Stage.{Stage}
 use Rattle.sva_pasid.specs.declared.stages.Stage.TheVariants.{Live, Stopping, Draining, Invalidating, Quiet, Lost}
@@ -27,3 +27,8 @@ reset_of (Draining wait) = Quiet (numbers_of_wait wait)
 reset_of (Invalidating wait) = Quiet (numbers_of_wait wait)
 reset_of (Quiet numbers) = Quiet numbers
 reset_of (Lost numbers) = Lost numbers
+
+-- the stage at which a reset leaves a binding: Quiet, or Lost
+abbrev pub at_reset : Result Numbers Numbers → Stage
+at_reset (Ok numbers) = Quiet numbers
+at_reset (Err numbers) = Lost numbers

@@ -15,7 +15,7 @@ pub enum Stage {
 }
 
 impl Stage {
-    ghost use Rattle.sva_pasid.specs.Stages.{numbers_of, reset_of};
+    ghost use Rattle.sva_pasid.specs.Stages.{numbers_of, reset_of, at_reset};
 
     /// The number of the binding.
     pub fn binding(&self) -> u64
@@ -49,13 +49,9 @@ impl Stage {
     pub(crate) fn by_reset(self) -> Stage
         ensures { result ≡ reset_of self }
     {
-        match self {
-            Stage::Live(live) => Stage::Lost(live.lost()),
-            Stage::Stopping(stopping) => Stage::Quiet(stopping.by_reset()),
-            Stage::Draining(draining) => Stage::Quiet(draining.by_reset()),
-            Stage::Invalidating(invalidating) => Stage::Quiet(invalidating.by_reset()),
-            Stage::Quiet(quiet) => Stage::Quiet(quiet),
-            Stage::Lost(lost) => Stage::Lost(lost),
+        match self.reset() {
+            Ok(quiet) => Stage::Quiet(quiet),
+            Err(lost) => Stage::Lost(lost),
         }
     }
 
@@ -63,14 +59,24 @@ impl Stage {
     pub(crate) fn release_by_reset(self) -> Released
         ensures { result ≡ numbers_of self }
     {
-        let quiet = match self {
-            Stage::Live(live) => live.lost().quiet(),
-            Stage::Stopping(stopping) => stopping.by_reset(),
-            Stage::Draining(draining) => draining.by_reset(),
-            Stage::Invalidating(invalidating) => invalidating.by_reset(),
-            Stage::Quiet(quiet) => quiet,
-            Stage::Lost(lost) => lost.quiet(),
-        };
-        quiet.release()
+        match self.reset() {
+            Ok(quiet) => quiet.release(),
+            Err(lost) => lost.quiet().release(),
+        }
+    }
+
+    /// What a function level reset leaves: `Quiet`, or `Lost` where the binding was in use and wasn't unbound yet.
+    fn reset(self) -> Result<Quiet, Lost>
+        ensures stage { at_reset result ≡ reset_of self }
+        ensures numbers { numbers_of (at_reset result) ≡ numbers_of self }
+    {
+        match self {
+            Stage::Live(live) => Err(live.lost()),
+            Stage::Stopping(stopping) => Ok(stopping.by_reset()),
+            Stage::Draining(draining) => Ok(draining.by_reset()),
+            Stage::Invalidating(invalidating) => Ok(invalidating.by_reset()),
+            Stage::Quiet(quiet) => Ok(quiet),
+            Stage::Lost(lost) => Err(lost),
+        }
     }
 }

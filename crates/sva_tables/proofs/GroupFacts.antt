@@ -6,6 +6,7 @@ use Rattle.std.specs.Prelude.{nat_lt}
 use Rattle.std.proofs.lemmas.List.Sums.{sum_by-cons}
 use Rattle.std.proofs.lemmas.List.Quantifiers.{position-Some}
 use Rattle.std.proofs.lemmas.Bool.{ltb-false}
+use Rattle.std.proofs.lemmas.Bool.Decides.{nat_tests}
 use Rattle.std.proofs.Math.ListN.{length-set}
 use Rattle.arrayvec.specs.ArrayVec.{ArrayVec, with_items}
 use Rattle.arrayvec.proofs.ArrayVecLemmas.{items-with_items}
@@ -90,6 +91,16 @@ requests_of-free Free is = refl
 requests_of-free (Collecting pasid requests) is = absurd (cc)
 requests_of-free (Out pasid requests) is = absurd (cc)
 requests_of-free (Stale pasid requests) is = absurd (cc)
+
+-- a lowest free index that is one of the table's is found there
+pub lowest_found : (groups : List GroupPlace) (i : ℕ) → i ≡ position_or_len is_free groups → i < length groups → position is_free groups ≡ Some i
+lowest_found groups i is within =
+    let at = position_or_len is_free groups in
+    let there : nat_lt at (length groups) ≡ true = ap (λ (k : ℕ). nat_lt k (length groups)) (sym is) ∙ true_if i (length groups) within in
+    ap (λ (b : Bool). cond b (Some at) None) there ∙ ap (λ (k : ℕ). Some k) (sym is)
+  where
+    true_if : (a b : ℕ) → a < b → nat_lt a b ≡ true
+    true_if a b less = grind (arith, nat_tests)
 
 -- the lowest free index has no requests
 pub requests_of-lowest : (groups : List GroupPlace) (i : ℕ) → position is_free groups ≡ Some i → requests_of (get_or groups i Free) ≡ 0

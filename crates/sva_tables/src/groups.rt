@@ -1,7 +1,7 @@
 //! The page request groups of an endpoint, by their indexes.
 
 ghost use Rattle.std.specs.Prelude.{◌≡◌, ◌<◌, ◌≤◌, IfSome, Some, None, if◌then◌else◌, map, position, slice_set, length};
-ghost use Rattle.std.specs.List.{list_any};
+ghost use Rattle.std.specs.List.{list_any, position_or_len};
 ghost use Rattle.sva_tables.specs.Groups.{stale_of};
 
 use arrayvec::ArrayVec;
@@ -193,7 +193,7 @@ impl GroupTable {
     /// Begins a group of this PASID, 1 to 32, under the lowest free index, 0 to 31, with its first request, which may be its
     /// last. Fewer than 32 requests have to be outstanding.
     pub fn begin(&mut self, index: u8, pasid: u32, last: bool)
-        requires lowest { position is_free self.old ≡ Some index }
+        requires lowest { index ≡ position_or_len is_free self.old }
         requires within { index < 32 }
         requires credit { outstanding_of self.old < 32 }
         ensures { self.new ≡ slice_set self.old index (group_of pasid 1 last) }

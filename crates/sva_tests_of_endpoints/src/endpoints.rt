@@ -2,8 +2,7 @@
 
 use crate::asserted::holds;
 use std::process::Abort;
-use sva_endpoint::{Asking, Endpoint, Fault, Faulting, Finishing, Using};
-use sva_itags::Count;
+use sva_endpoint::{Endpoint, Fault};
 use sva_msg::{Code, CountField, Kind, Message, PageRequest, Scope};
 use sva_step::{Answer, Refusal};
 
@@ -67,7 +66,7 @@ enum Call {
     /// The pages from 0 on, so many, are held with frame 9.
     HoldEach(u64),
     /// A page, whether it is to be written, and the slot and the frame of the use.
-    Use(u64, bool, Using),
+    Use(u64, bool, u8, u32),
     /// So many reads of page 16, which has frame 3, in the slots from 0 on.
     UseEach(u8),
     /// A slot, and whether its use was dead.
@@ -152,17 +151,17 @@ fn refusal(endpoint: &Endpoint, asked: Try) -> Option<Refusal> {
 
 /// The tag of a request for a page, if it may be sent, and as the test of the step said it.
 fn ask(endpoint: &mut Endpoint, page: u64) -> Option<u8> {
-    let asking = endpoint.may_ask(1, page);
-    if asking.is_err() {
+    let Ok(asking) = endpoint.may_ask(1, page) else {
         return None;
-    }
-    let tag = endpoint.ask(1, page);
+    };
+    endpoint.ask(asking);
+    let tag = asking.tag;
     let kind = Kind::Request {
         tag,
         pasid: 1,
         page,
     };
-    if asking == Ok(Asking { tag, kind }) {
+    if asking.kind() == kind {
         Some(tag)
     } else {
         None
@@ -199,14 +198,17 @@ fn hold_each(endpoint: &mut Endpoint, pages: u64) -> bool {
 }
 
 /// Whether a use may begin, and does, in this slot and with this frame.
-fn begins(endpoint: &mut Endpoint, page: u64, write: bool, begun: Using) -> bool {
-    let using = endpoint.may_begin_use(1, page, write);
-    using.is_ok() && endpoint.begin_use(1, page, write) == begun && using == Ok(begun)
+fn begins(endpoint: &mut Endpoint, page: u64, write: bool, slot: u8, frame: u32) -> bool {
+    let Ok(using) = endpoint.may_begin_use(1, page, write) else {
+        return false;
+    };
+    endpoint.begin_use(using);
+    using.slot == slot && using.begun.page == page && using.begun.frame == frame
 }
 
 fn begin_each(endpoint: &mut Endpoint, uses: u8) -> bool {
     for slot in 0..uses {
-        if !begins(endpoint, 16, false, Using { slot, frame: 3 }) {
+        if !begins(endpoint, 16, false, slot, 3) {
             return false;
         }
     }
@@ -241,11 +243,11 @@ fn send(endpoint: &mut Endpoint, page: u64, group: Option<u64>, last: bool) -> O
         group,
         last,
     };
-    let faulting = endpoint.may_fault(&fault);
-    if faulting.is_err() {
+    let Ok(faulting) = endpoint.may_fault(&fault) else {
         return None;
-    }
-    let index = endpoint.fault(&fault);
+    };
+    endpoint.fault(faulting);
+    let index = faulting.request.index;
     let request = PageRequest {
         pasid: 1,
         index,
@@ -254,8 +256,7 @@ fn send(endpoint: &mut Endpoint, page: u64, group: Option<u64>, last: bool) -> O
         write: false,
         last,
     };
-    let kind = Kind::PageRequest(request);
-    if faulting == Ok(Faulting { index, kind }) {
+    if faulting.kind() == Kind::PageRequest(request) {
         Some(index)
     } else {
         None
@@ -284,26 +285,26 @@ fn group_each(endpoint: &mut Endpoint, groups: u8) -> bool {
 
 /// Completes what the vector names by so many completions, if it may, and as the test of the step said it.
 fn finishes(endpoint: &mut Endpoint, vector: u32, count: u8, field: u8) -> bool {
-    let finishing = endpoint.may_finish(vector, u64::from(count));
-    if finishing.is_err() || count == 0 || count > 8 || field > 7 {
+    let Ok(finishing) = endpoint.may_finish(vector, u64::from(count)) else {
+        return false;
+    };
+    if field > 7 {
         return false;
     }
-    endpoint.finish(vector, u64::from(count));
+    endpoint.finish(finishing);
     let kind = Kind::Invalidated {
         vector,
         count: CountField::new(field),
     };
-    let count = Count::new(count);
-    finishing == Ok(Finishing { count, kind })
+    finishing.count.get() == count && finishing.kind() == kind
 }
 
 fn quits(endpoint: &mut Endpoint) -> bool {
-    let quitting = endpoint.may_quit(1);
-    if quitting.is_err() {
+    let Ok(quitting) = endpoint.may_quit(1) else {
         return false;
-    }
-    endpoint.quit(1);
-    quitting == Ok(Kind::Marker { pasid: 1 })
+    };
+    endpoint.quit(quitting);
+    quitting.kind() == Kind::Marker { pasid: 1 }
 }
 
 /// Makes a call of requests, or another one, and tells whether it answers as it has to.
@@ -322,7 +323,7 @@ fn answers(endpoint: &mut Endpoint, call: Call) -> bool {
 
 fn answers_other(endpoint: &mut Endpoint, call: Call) -> bool {
     match call {
-        Call::Use(page, write, begun) => begins(endpoint, page, write, begun),
+        Call::Use(page, write, slot, frame) => begins(endpoint, page, write, slot, frame),
         Call::UseEach(uses) => begin_each(endpoint, uses),
         Call::End(slot, is_dead) => ends(endpoint, slot, is_dead),
         Call::Evict(page) => evicts(endpoint, page),
@@ -370,7 +371,7 @@ const SIXTY_FOUR_PAGES: [Call; 10] = [
     Call::Refused(Try::Use(64, false), Refusal::NotHeld),
     Call::Ask(5, 0),
     Call::Tell(Down::Completion(0, 77, true, true), Told::Held),
-    Call::Use(5, true, Using { slot: 0, frame: 77 }),
+    Call::Use(5, true, 0, 77),
     Call::Evict(63),
     Call::Refused(Try::Evict(63), Refusal::NotHeld),
     Call::Hold(64, 6),
@@ -385,7 +386,7 @@ const SIXTEEN_SLOTS: [Call; 9] = [
     Call::End(4, false),
     Call::Refused(Try::End(4), Refusal::NoSuchUse),
     Call::Refused(Try::End(16), Refusal::NoSuchUse),
-    Call::Use(16, false, Using { slot: 4, frame: 3 }),
+    Call::Use(16, false, 4, 3),
 ];
 
 const THIRTY_TWO_REQUESTS: [Call; 6] = [
@@ -424,19 +425,19 @@ const TWO_ANSWERS: [Call; 5] = [
     Call::Ask(16, 1),
     Call::Tell(Down::Completion(1, 1, true, true), Told::Held),
     Call::Tell(Down::Completion(0, 0, true, true), Told::Held),
-    Call::Use(16, true, Using { slot: 0, frame: 0 }),
+    Call::Use(16, true, 0, 0),
 ];
 
 /// A use that begins in the same slot afterwards isn't waited for.
 const USE_AND_INVALIDATION: [Call; 11] = [
     Call::Hold(16, 3),
-    Call::Use(16, true, Using { slot: 0, frame: 3 }),
+    Call::Use(16, true, 0, 3),
     Call::Tell(PAGE_16, Told::Taken),
     Call::Refused(Try::Use(16, false), Refusal::NotHeld),
     Call::Refused(Try::Finish(1, 0), Refusal::InUse),
     Call::End(0, false),
     Call::Hold(16, 4),
-    Call::Use(16, true, Using { slot: 0, frame: 4 }),
+    Call::Use(16, true, 0, 4),
     Call::Refused(Try::Finish(1, 0), Refusal::BadCount),
     Call::Refused(Try::Finish(1, 9), Refusal::BadCount),
     Call::Finish(1, 8, 0),
@@ -470,14 +471,14 @@ const RANGE_OF_PAGES: [Call; 6] = [
         Told::Taken,
     ),
     Call::Refused(Try::Use(70, false), Refusal::NotHeld),
-    Call::Use(72, false, Using { slot: 0, frame: 2 }),
+    Call::Use(72, false, 0, 2),
     Call::Finish(1, 1, 1),
 ];
 
 /// Neither the request nor the group of before the reset has its tag or index any more.
 const RESET: [Call; 16] = [
     Call::Hold(16, 3),
-    Call::Use(16, true, Using { slot: 0, frame: 3 }),
+    Call::Use(16, true, 0, 3),
     Call::Ask(17, 0),
     Call::Send(32, None, true, 0),
     Call::Tell(Down::Invalidate(0, 1, PAGE_18), Told::Taken),
@@ -489,9 +490,9 @@ const RESET: [Call; 16] = [
     Call::Ask(17, 0),
     Call::Send(32, None, true, 0),
     Call::Hold(16, 5),
-    Call::Use(16, true, Using { slot: 1, frame: 5 }),
+    Call::Use(16, true, 1, 5),
     Call::End(0, true),
-    Call::Use(16, true, Using { slot: 0, frame: 5 }),
+    Call::Use(16, true, 0, 5),
 ];
 
 const QUIT: [Call; 13] = [

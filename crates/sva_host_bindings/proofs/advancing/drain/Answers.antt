@@ -1,13 +1,15 @@
-use Rattle.std.proofs.Common.{◌≡◌, ℕ, refl, ap, ◌∙◌, arith}
-use Rattle.std.specs.Prelude.{true, [], ◌∷◌, List, length, slice_index_or}
+use Rattle.std.proofs.Common.{◌≡◌, ℕ, refl, ap, sym, ◌∙◌, arith}
+use Rattle.std.specs.Prelude.{true, false, [], ◌∷◌, List, length, slice_index_or}
 use Rattle.sva_model.specs.Wire.{Wire, UnitWire}
-use Rattle.sva_model.specs.Wire.StageWire.{DrainingWire}
+use Rattle.sva_model.specs.Wire.StageWire.{StoppingWire, DrainingWire}
 use Rattle.sva_model.specs.Wire.Descriptor.{WaitDescriptor}
 use Rattle.sva_labels.specs.Finding.{has_room}
 use Rattle.sva_labels.specs.Moves.{with_descriptors}
 use Rattle.sva_iommu.specs.Seen.{UnitSeen, with_unit}
 use Rattle.sva_host_state.specs.declared.host_state.Port.{Port}
 use Rattle.sva_host_state.proofs.Advances.{drains, home_is, port_for, seen_there, submitted}
+use Rattle.sva_host_state.proofs.Bound.{kind_in}
+use Rattle.sva_host_state.proofs.Moving.{marked_not_noted, moved_on, if_staged}
 use Rattle.sva_host_state.proofs.Ports.{port_found}
 use Rattle.sva_host_state.proofs.TakenOut.{parts_seen, unit_there}
 use Rattle.sva_host_state.proofs.Units.{unit_rewritten, with_unit_host}
@@ -15,23 +17,23 @@ use Rattle.sva_host_bindings.proofs.advancing.drain.Goals as goal
 
 pub bounds-deref_mut-endpoint : goal.bounds-deref_mut-endpoint
 bounds-deref_mut-endpoint c =
-    let is = drains c.args.host.now c.args.binding c.args.endpoint c.requires.may in
-    let there = home_is c.args.host.now c.args.binding c.args.endpoint _ _ _ _ c.requires.sound is in
+    let is = drains c.args.host.now c.requires.may.0 c.args.binding c.args.endpoint c.requires.may.1 c.requires.may.0 in
+    let there = home_is c.args.host.now _ c.args.binding c.args.endpoint _ _ _ _ c.requires.sound is in
     let long = parts_seen c.host.inside c.args.host.now c.host.view_is in
     let same = ap (λ (ports : List Port). length ports) c.deref_mut.ensures.value in
     omega (arith, there, long, same)
 
 pub offset_bounds-deref_mut-endpoint : goal.offset_bounds-deref_mut-endpoint
 offset_bounds-deref_mut-endpoint c =
-    let is = drains c.args.host.now c.args.binding c.args.endpoint c.requires.may in
-    let there = home_is c.args.host.now c.args.binding c.args.endpoint _ _ _ _ c.requires.sound is in
+    let is = drains c.args.host.now c.requires.may.0 c.args.binding c.args.endpoint c.requires.may.1 c.requires.may.0 in
+    let there = home_is c.args.host.now _ c.args.binding c.args.endpoint _ _ _ _ c.requires.sound is in
     let long = parts_seen c.host.inside c.args.host.now c.host.view_is in
     omega (arith, there, c.requires.sound.few_parts)
 
 pub submit_drain-requires-clause-opened : goal.submit_drain-requires-clause-opened
 submit_drain-requires-clause-opened c =
-    let is = drains c.args.host.now c.args.binding c.args.endpoint c.requires.may in
-    let there = home_is c.args.host.now c.args.binding c.args.endpoint _ _ _ _ c.requires.sound is in
+    let is = drains c.args.host.now c.requires.may.0 c.args.binding c.args.endpoint c.requires.may.1 c.requires.may.0 in
+    let there = home_is c.args.host.now _ c.args.binding c.args.endpoint _ _ _ _ c.requires.sound is in
     let long = parts_seen c.host.inside c.args.host.now c.host.view_is in
     let unit = unit_there c.host.inside c.args.host.now c.args.endpoint c.deref_mut.result.now c.index-deref_mut-endpoint.result c.host.view_is
     (omega (arith, there, long)) c.deref_mut.ensures.value in
@@ -39,8 +41,8 @@ submit_drain-requires-clause-opened c =
 
 pub submit_drain-requires-clause-room : goal.submit_drain-requires-clause-room
 submit_drain-requires-clause-room c =
-    let is = drains c.args.host.now c.args.binding c.args.endpoint c.requires.may in
-    let there = home_is c.args.host.now c.args.binding c.args.endpoint _ _ _ _ c.requires.sound is in
+    let is = drains c.args.host.now c.requires.may.0 c.args.binding c.args.endpoint c.requires.may.1 c.requires.may.0 in
+    let there = home_is c.args.host.now _ c.args.binding c.args.endpoint _ _ _ _ c.requires.sound is in
     let long = parts_seen c.host.inside c.args.host.now c.host.view_is in
     let unit = unit_there c.host.inside c.args.host.now c.args.endpoint c.deref_mut.result.now c.index-deref_mut-endpoint.result c.host.view_is
     (omega (arith, there, long)) c.deref_mut.ensures.value in
@@ -48,8 +50,8 @@ submit_drain-requires-clause-room c =
 
 pub submit_drain-requires-clause-later : goal.submit_drain-requires-clause-later
 submit_drain-requires-clause-later c =
-    let is = drains c.args.host.now c.args.binding c.args.endpoint c.requires.may in
-    let there = home_is c.args.host.now c.args.binding c.args.endpoint _ _ _ _ c.requires.sound is in
+    let is = drains c.args.host.now c.requires.may.0 c.args.binding c.args.endpoint c.requires.may.1 c.requires.may.0 in
+    let there = home_is c.args.host.now _ c.args.binding c.args.endpoint _ _ _ _ c.requires.sound is in
     let long = parts_seen c.host.inside c.args.host.now c.host.view_is in
     let unit = unit_there c.host.inside c.args.host.now c.args.endpoint c.deref_mut.result.now c.index-deref_mut-endpoint.result c.host.view_is
     (omega (arith, there, long)) c.deref_mut.ensures.value in
@@ -60,19 +62,35 @@ submit_drain-requires-clause-later c =
 
 pub submit_drain-requires-clause-number : goal.submit_drain-requires-clause-number
 submit_drain-requires-clause-number c =
-    let is = drains c.args.host.now c.args.binding c.args.endpoint c.requires.may in
+    let is = drains c.args.host.now c.requires.may.0 c.args.binding c.args.endpoint c.requires.may.1 c.requires.may.0 in
     let next : c.host.inside.next_cookie ≡ c.args.host.now.next_cookie = ap (λ (w : Wire). w.next_cookie) c.host.view_is in
     omega (arith, is.cookies, next)
 
 pub drain-requires : goal.drain-requires
 drain-requires c =
-    let is = drains c.args.host.now c.args.binding c.args.endpoint c.requires.may in
-    seen_there c.host.inside c.args.host.now c.args.binding c.args.endpoint _ _ _ _ c.host.invariant c.host.view_is is
+    let is = drains c.args.host.now c.requires.may.0 c.args.binding c.args.endpoint c.requires.may.1 c.requires.may.0 in
+    kind_in (StoppingWire true) c.args.binding c.host.inside.bindings
+    (seen_there c.host.inside c.args.host.now _ c.args.binding c.args.endpoint _ _ _ _ c.host.invariant c.host.view_is is)
+
+-- the marker is noted: the state itself doesn't refuse
+pub returns-then-not-drain-clause-step : goal.returns-then-not-drain-clause-step
+returns-then-not-drain-clause-step c h =
+    let is = drains c.args.host.now c.requires.may.0 c.args.binding c.args.endpoint c.requires.may.1 c.requires.may.0 in
+    let seen = seen_there c.host.inside c.args.host.now _ c.args.binding c.args.endpoint _ _ _ _ c.host.invariant c.host.view_is is in
+    let wrong : false ≡ true = sym c.if-not-drain.true ∙ marked_not_noted c.drain.result c.args.binding c.host.inside.bindings c.drain.ensures.noted seen in
+    absurd (cc)
 
 pub invariant_of-host : goal.invariant_of-host
 invariant_of-host c =
-    let is = drains c.args.host.now c.args.binding c.args.endpoint c.requires.may in
-    let for = port_for c.args.host.now c.args.binding c.args.endpoint _ _ _ _ c.requires.sound is in
+    record {
+      sound = c.host.invariant.sound;
+      staged = if_staged c.drain.result _ c.args.binding c.host.inside.bindings c.drain.new.bindings c.drain.ensures.moves c.host.invariant.staged;
+    }
+
+pub invariant_of-host-2 : goal.invariant_of-host-2
+invariant_of-host-2 c =
+    let is = drains c.args.host.now c.requires.may.0 c.args.binding c.args.endpoint c.requires.may.1 c.requires.may.0 in
+    let for = port_for c.args.host.now _ c.args.binding c.args.endpoint _ _ _ _ c.requires.sound is in
     let port = port_found c.host.inside c.args.host.now c.args.endpoint c.args.endpoint c.deref_mut.result.now c.index-deref_mut-endpoint.result
     c.host.invariant c.host.view_is for c.deref_mut.ensures.value in
     let change = λ (u : UnitSeen). with_unit u (with_descriptors u.unit (WaitDescriptor c.host.inside.next_cookie true ∷ [])
@@ -82,12 +100,12 @@ invariant_of-host c =
     c.deref_mut.ensures.value c.deref_mut.ensures.value c.submit_drain.ensures in
     with_unit_host c.host.inside _ c.args.endpoint (slice_index_or c.deref_mut.result.now c.args.endpoint c.index-deref_mut-endpoint.result) _
     c.host.invariant port.sound written
-    (c.drain.ensures.staged c.host.invariant.staged)
+    (if_staged c.drain.result _ c.args.binding c.host.inside.bindings c.drain.new.bindings c.drain.ensures.moves c.host.invariant.staged)
 
-pub returns : goal.returns
-returns c =
-    let is = drains c.args.host.now c.args.binding c.args.endpoint c.requires.may in
-    let for = port_for c.args.host.now c.args.binding c.args.endpoint _ _ _ _ c.requires.sound is in
+pub returns-clause-step : goal.returns-clause-step
+returns-clause-step c h =
+    let is = drains c.args.host.now c.requires.may.0 c.args.binding c.args.endpoint c.requires.may.1 h in
+    let for = port_for c.args.host.now _ c.args.binding c.args.endpoint _ _ _ _ c.requires.sound is in
     let port = port_found c.host.inside c.args.host.now c.args.endpoint c.args.endpoint c.deref_mut.result.now c.index-deref_mut-endpoint.result
     c.host.invariant c.host.view_is for c.deref_mut.ensures.value in
     let change = λ (u : UnitSeen). with_unit u (with_descriptors u.unit (WaitDescriptor c.host.inside.next_cookie true ∷ [])
@@ -95,6 +113,6 @@ returns c =
     let written = unit_rewritten c.host.inside c.args.host.now c.args.endpoint c.args.endpoint c.deref_mut.result.now c.deref_mut.result.now
     c.index-deref_mut-endpoint.result c.index-deref_mut-endpoint.result c.submit_drain.new.self change c.host.view_is for
     c.deref_mut.ensures.value c.deref_mut.ensures.value c.submit_drain.ensures in
-    submitted c.host.inside c.args.host.now c.args.binding c.args.endpoint _ _ _ _ (λ (k : ℕ). WaitDescriptor k true ∷ []) DrainingWire
+    submitted c.host.inside c.args.host.now h c.args.binding c.args.endpoint _ _ _ _ (λ (k : ℕ). WaitDescriptor k true ∷ []) DrainingWire
     (slice_index_or c.deref_mut.result.now c.args.endpoint c.index-deref_mut-endpoint.result) _ c.drain.new.bindings c.host.view_is is port written
-    c.drain.ensures (λ w. refl)
+    (moved_on c.drain.result _ c.args.binding c.host.inside.bindings c.drain.new.bindings c.drain.ensures.moves c.if-not-drain.false) (λ w. refl)

@@ -1,14 +1,15 @@
-use Rattle.std.proofs.Common.{◌≡◌, ℕ, refl, ap, ◌∙◌, arith}
-use Rattle.std.specs.Prelude.{false, [], ◌∷◌, List, length, slice_index_or}
+use Rattle.std.proofs.Common.{◌≡◌, ℕ, refl, ap, sym, ◌∙◌, arith}
+use Rattle.std.specs.Prelude.{true, false, not, [], ◌∷◌, List, length, slice_index_or}
 use Rattle.sva_model.specs.Wire.{Wire, UnitWire}
 use Rattle.sva_model.specs.Wire.StageWire.{DrainingWire, InvalidatingWire}
 use Rattle.sva_model.specs.Wire.Descriptor.{PasidDescriptor, WaitDescriptor}
-use Rattle.sva_labels.specs.Finding.{has_room}
+use Rattle.sva_labels.specs.Finding.{has_room, is_wait_done}
 use Rattle.sva_labels.specs.Moves.{with_descriptors}
 use Rattle.sva_iommu.specs.Seen.{UnitSeen, with_unit}
 use Rattle.sva_host_state.specs.declared.host_state.Port.{Port}
 use Rattle.sva_host_state.proofs.Advances.{invalidates, home_is, port_for, seen_there, submitted}
 use Rattle.sva_host_state.proofs.Bound.{kind_in}
+use Rattle.sva_host_state.proofs.Moving.{moved_on, if_staged}
 use Rattle.sva_host_state.proofs.Ports.{port_found}
 use Rattle.sva_host_state.proofs.TakenOut.{parts_seen, unit_there}
 use Rattle.sva_host_state.proofs.Units.{unit_rewritten, with_unit_host}
@@ -16,23 +17,26 @@ use Rattle.sva_host_bindings.proofs.advancing.invalidate.Goals as goal
 
 pub bounds-deref_mut-endpoint : goal.bounds-deref_mut-endpoint
 bounds-deref_mut-endpoint c =
-    let (cookie, is) = invalidates c.args.host.now c.args.binding c.args.endpoint c.args.pasid c.requires.may in
-    let there = home_is c.args.host.now c.args.binding c.args.endpoint _ _ _ _ c.requires.sound is in
+    let all = invalidates c.args.host.now c.args.groups_open c.args.binding c.args.endpoint c.args.pasid c.requires.may in
+    let is = all.submits in
+    let there = home_is c.args.host.now _ c.args.binding c.args.endpoint _ _ _ _ c.requires.sound is in
     let long = parts_seen c.host.inside c.args.host.now c.host.view_is in
     let same = ap (λ (ports : List Port). length ports) c.deref_mut.ensures.value in
     omega (arith, there, long, same)
 
 pub offset_bounds-deref_mut-endpoint : goal.offset_bounds-deref_mut-endpoint
 offset_bounds-deref_mut-endpoint c =
-    let (cookie, is) = invalidates c.args.host.now c.args.binding c.args.endpoint c.args.pasid c.requires.may in
-    let there = home_is c.args.host.now c.args.binding c.args.endpoint _ _ _ _ c.requires.sound is in
+    let all = invalidates c.args.host.now c.args.groups_open c.args.binding c.args.endpoint c.args.pasid c.requires.may in
+    let is = all.submits in
+    let there = home_is c.args.host.now _ c.args.binding c.args.endpoint _ _ _ _ c.requires.sound is in
     let long = parts_seen c.host.inside c.args.host.now c.host.view_is in
     omega (arith, there, c.requires.sound.few_parts)
 
 pub submit_pasid-requires-clause-opened : goal.submit_pasid-requires-clause-opened
 submit_pasid-requires-clause-opened c =
-    let (cookie, is) = invalidates c.args.host.now c.args.binding c.args.endpoint c.args.pasid c.requires.may in
-    let there = home_is c.args.host.now c.args.binding c.args.endpoint _ _ _ _ c.requires.sound is in
+    let all = invalidates c.args.host.now c.args.groups_open c.args.binding c.args.endpoint c.args.pasid c.requires.may in
+    let is = all.submits in
+    let there = home_is c.args.host.now _ c.args.binding c.args.endpoint _ _ _ _ c.requires.sound is in
     let long = parts_seen c.host.inside c.args.host.now c.host.view_is in
     let unit = unit_there c.host.inside c.args.host.now c.args.endpoint c.deref_mut.result.now c.index-deref_mut-endpoint.result c.host.view_is
     (omega (arith, there, long)) c.deref_mut.ensures.value in
@@ -40,8 +44,9 @@ submit_pasid-requires-clause-opened c =
 
 pub submit_pasid-requires-clause-room : goal.submit_pasid-requires-clause-room
 submit_pasid-requires-clause-room c =
-    let (cookie, is) = invalidates c.args.host.now c.args.binding c.args.endpoint c.args.pasid c.requires.may in
-    let there = home_is c.args.host.now c.args.binding c.args.endpoint _ _ _ _ c.requires.sound is in
+    let all = invalidates c.args.host.now c.args.groups_open c.args.binding c.args.endpoint c.args.pasid c.requires.may in
+    let is = all.submits in
+    let there = home_is c.args.host.now _ c.args.binding c.args.endpoint _ _ _ _ c.requires.sound is in
     let long = parts_seen c.host.inside c.args.host.now c.host.view_is in
     let unit = unit_there c.host.inside c.args.host.now c.args.endpoint c.deref_mut.result.now c.index-deref_mut-endpoint.result c.host.view_is
     (omega (arith, there, long)) c.deref_mut.ensures.value in
@@ -49,8 +54,9 @@ submit_pasid-requires-clause-room c =
 
 pub submit_pasid-requires-clause-later : goal.submit_pasid-requires-clause-later
 submit_pasid-requires-clause-later c =
-    let (cookie, is) = invalidates c.args.host.now c.args.binding c.args.endpoint c.args.pasid c.requires.may in
-    let there = home_is c.args.host.now c.args.binding c.args.endpoint _ _ _ _ c.requires.sound is in
+    let all = invalidates c.args.host.now c.args.groups_open c.args.binding c.args.endpoint c.args.pasid c.requires.may in
+    let is = all.submits in
+    let there = home_is c.args.host.now _ c.args.binding c.args.endpoint _ _ _ _ c.requires.sound is in
     let long = parts_seen c.host.inside c.args.host.now c.host.view_is in
     let unit = unit_there c.host.inside c.args.host.now c.args.endpoint c.deref_mut.result.now c.index-deref_mut-endpoint.result c.host.view_is
     (omega (arith, there, long)) c.deref_mut.ensures.value in
@@ -61,20 +67,60 @@ submit_pasid-requires-clause-later c =
 
 pub submit_pasid-requires-clause-number : goal.submit_pasid-requires-clause-number
 submit_pasid-requires-clause-number c =
-    let (cookie, is) = invalidates c.args.host.now c.args.binding c.args.endpoint c.args.pasid c.requires.may in
+    let all = invalidates c.args.host.now c.args.groups_open c.args.binding c.args.endpoint c.args.pasid c.requires.may in
+    let is = all.submits in
     let next : c.host.inside.next_cookie ≡ c.args.host.now.next_cookie = ap (λ (w : Wire). w.next_cookie) c.host.view_is in
     omega (arith, is.cookies, next)
 
 pub invalidate-requires : goal.invalidate-requires
 invalidate-requires c =
-    let (cookie, is) = invalidates c.args.host.now c.args.binding c.args.endpoint c.args.pasid c.requires.may in
-    kind_in (DrainingWire cookie) c.args.binding c.host.inside.bindings
-    (seen_there c.host.inside c.args.host.now c.args.binding c.args.endpoint _ _ _ _ c.host.invariant c.host.view_is is)
+    let all = invalidates c.args.host.now c.args.groups_open c.args.binding c.args.endpoint c.args.pasid c.requires.may in
+    let is = all.submits in
+    kind_in (DrainingWire all.cookie) c.args.binding c.host.inside.bindings
+    (seen_there c.host.inside c.args.host.now _ c.args.binding c.args.endpoint _ _ _ _ c.host.invariant c.host.view_is is)
+
+pub bounds-deref-endpoint : goal.bounds-deref-endpoint
+bounds-deref-endpoint c =
+    let all = invalidates c.args.host.now c.args.groups_open c.args.binding c.args.endpoint c.args.pasid c.requires.may in
+    let is = all.submits in
+    let there = home_is c.args.host.now _ c.args.binding c.args.endpoint _ _ _ _ c.requires.sound is in
+    let long = parts_seen c.host.inside c.args.host.now c.host.view_is in
+    let same = ap (λ (ports : List Port). length ports) c.deref.ensures.0 in
+    omega (arith, there, long, same)
+
+pub offset_bounds-deref-endpoint : goal.offset_bounds-deref-endpoint
+offset_bounds-deref-endpoint c =
+    let all = invalidates c.args.host.now c.args.groups_open c.args.binding c.args.endpoint c.args.pasid c.requires.may in
+    let is = all.submits in
+    let there = home_is c.args.host.now _ c.args.binding c.args.endpoint _ _ _ _ c.requires.sound is in
+    omega (arith, there, c.requires.sound.few_parts)
+
+-- the wait is done and no group is open: the state itself doesn't refuse
+pub returns-then-not-invalidate-clause-step : goal.returns-then-not-invalidate-clause-step
+returns-then-not-invalidate-clause-step c =
+    let all = invalidates c.args.host.now c.args.groups_open c.args.binding c.args.endpoint c.args.pasid c.requires.may in
+    let is = all.submits in
+    let there = home_is c.args.host.now _ c.args.binding c.args.endpoint _ _ _ _ c.requires.sound is in
+    let long = parts_seen c.host.inside c.args.host.now c.host.view_is in
+    let unit = unit_there c.host.inside c.args.host.now c.args.endpoint c.deref.result.now c.index-deref-endpoint.result c.host.view_is
+    (omega (arith, there, long)) c.deref.ensures.0 in
+    let seen = seen_there c.host.inside c.args.host.now _ c.args.binding c.args.endpoint _ _ _ _ c.host.invariant c.host.view_is is in
+    let done = ap (λ (u : UnitWire). is_wait_done u all.cookie) unit ∙ all.is_done in
+    let wrong : false ≡ true = sym c.if-not-invalidate.true ∙ c.invalidate.ensures.due all.cookie seen done ∙ ap not all.closed in
+    absurd (cc)
 
 pub invariant_of-host : goal.invariant_of-host
 invariant_of-host c =
-    let (cookie, is) = invalidates c.args.host.now c.args.binding c.args.endpoint c.args.pasid c.requires.may in
-    let for = port_for c.args.host.now c.args.binding c.args.endpoint _ _ _ _ c.requires.sound is in
+    record {
+      sound = c.host.invariant.sound;
+      staged = if_staged c.invalidate.result _ c.args.binding c.host.inside.bindings c.invalidate.new.bindings c.invalidate.ensures.moves c.host.invariant.staged;
+    }
+
+pub invariant_of-host-2 : goal.invariant_of-host-2
+invariant_of-host-2 c =
+    let all = invalidates c.args.host.now c.args.groups_open c.args.binding c.args.endpoint c.args.pasid c.requires.may in
+    let is = all.submits in
+    let for = port_for c.args.host.now _ c.args.binding c.args.endpoint _ _ _ _ c.requires.sound is in
     let port = port_found c.host.inside c.args.host.now c.args.endpoint c.args.endpoint c.deref_mut.result.now c.index-deref_mut-endpoint.result
     c.host.invariant c.host.view_is for c.deref_mut.ensures.value in
     let change = λ (u : UnitSeen). with_unit u
@@ -84,12 +130,13 @@ invariant_of-host c =
     c.deref_mut.ensures.value c.deref_mut.ensures.value c.submit_pasid.ensures in
     with_unit_host c.host.inside _ c.args.endpoint (slice_index_or c.deref_mut.result.now c.args.endpoint c.index-deref_mut-endpoint.result) _
     c.host.invariant port.sound written
-    (c.invalidate.ensures.staged c.host.invariant.staged)
+    (if_staged c.invalidate.result _ c.args.binding c.host.inside.bindings c.invalidate.new.bindings c.invalidate.ensures.moves c.host.invariant.staged)
 
-pub returns : goal.returns
-returns c =
-    let (cookie, is) = invalidates c.args.host.now c.args.binding c.args.endpoint c.args.pasid c.requires.may in
-    let for = port_for c.args.host.now c.args.binding c.args.endpoint _ _ _ _ c.requires.sound is in
+pub returns-clause-step : goal.returns-clause-step
+returns-clause-step c =
+    let all = invalidates c.args.host.now c.args.groups_open c.args.binding c.args.endpoint c.args.pasid c.requires.may in
+    let is = all.submits in
+    let for = port_for c.args.host.now _ c.args.binding c.args.endpoint _ _ _ _ c.requires.sound is in
     let port = port_found c.host.inside c.args.host.now c.args.endpoint c.args.endpoint c.deref_mut.result.now c.index-deref_mut-endpoint.result
     c.host.invariant c.host.view_is for c.deref_mut.ensures.value in
     let change = λ (u : UnitSeen). with_unit u
@@ -97,7 +144,9 @@ returns c =
     let written = unit_rewritten c.host.inside c.args.host.now c.args.endpoint c.args.endpoint c.deref_mut.result.now c.deref_mut.result.now
     c.index-deref_mut-endpoint.result c.index-deref_mut-endpoint.result c.submit_pasid.new.self change c.host.view_is for
     c.deref_mut.ensures.value c.deref_mut.ensures.value c.submit_pasid.ensures in
-    submitted c.host.inside c.args.host.now c.args.binding c.args.endpoint _ _ _ _ (λ (k : ℕ). PasidDescriptor c.args.pasid ∷ WaitDescriptor k false
+    submitted c.host.inside c.args.host.now _ c.args.binding c.args.endpoint _ _ _ _ (λ (k : ℕ). PasidDescriptor c.args.pasid ∷ WaitDescriptor k false
     ∷ []) InvalidatingWire
     (slice_index_or c.deref_mut.result.now c.args.endpoint c.index-deref_mut-endpoint.result) _ c.invalidate.new.bindings c.host.view_is is port
-    written c.invalidate.ensures (λ w. refl)
+    written
+    (moved_on c.invalidate.result _ c.args.binding c.host.inside.bindings c.invalidate.new.bindings c.invalidate.ensures.moves c.if-not-invalidate.false)
+    (λ w. refl)

@@ -1,16 +1,16 @@
-use Rattle.std.proofs.Common.{sym, ap, ◌∙◌, arith, refl}
+use Rattle.std.proofs.Common.{sym, ap, subst, arith, refl}
 use Rattle.std.specs.Prelude.{is_ok, slice_index_or}
 use Rattle.sva_step.specs.declared.answers.Answer.TheVariants as answer
 use Rattle.sva_step.specs.declared.steps.Step.TheVariants as step
 use Rattle.sva_endpoint.specs.Calls as call
 use Rattle.sva_endpoint.specs.Tables.{Tables}
-use Rattle.sva_endpoint.specs.Steps.{lowest_tag, after_ask, asking}
+use Rattle.sva_endpoint.specs.Steps.{after_ask, MayAsk}
 use Rattle.sva_endpoint.proofs.SoundLaws.{sound_after}
 use Rattle.sva_host_state.specs.declared.host_state.Port.{Port}
 use Rattle.sva_host_state.specs.Inner.{wire_of}
 use Rattle.sva_host_state.proofs.Ports.{port_found, same_port, rewritten, with_tables_host}
 use Rattle.sva_host_state.proofs.Devices.{kept, went, ended}
-use Rattle.sva_host_state.proofs.Asks.{ask_refused, ask_unsent, ask_done}
+use Rattle.sva_host_state.proofs.Asks.{left_by_ask, ask_refused, ask_unsent, ask_done}
 use Rattle.sva_host_endpoints.proofs.Reached.{within, ask_nowhere, none_in}
 use Rattle.sva_host_endpoints.proofs.endpoints.ask.Goals as goal
 
@@ -19,7 +19,7 @@ returns-in_err-asking c =
     let is = port_found c.host.inside _ c.args.endpoint c.in_ok-at.at _ c.index-deref-at.result c.host.invariant c.host.view_is c.in_ok-at.ensures
     c.deref.ensures.0 in
     kept _ _ (step.Ask c.args.endpoint c.args.pasid c.args.page) _ _ c.host.view_is c.from_residual-in_err-asking.ensures
-    (ask_refused c.host.inside c.args.endpoint c.args.pasid c.args.page _ _ is c.in_err-asking.ensures)
+    (ask_refused c.host.inside c.args.endpoint c.args.pasid c.args.page _ _ is c.in_err-asking.ensures.answer)
 
 pub returns-in_err-send : goal.returns-in_err-send
 returns-in_err-send c =
@@ -27,7 +27,8 @@ returns-in_err-send c =
     c.deref.ensures.0 in
     went _ _ (wire_of (record c.host.inside { in_flight = c.send.new.bag })) (step.Ask c.args.endpoint c.args.pasid c.args.page) _ _ c.host.view_is
     c.from_residual-in_err-send.ensures
-    (ask_unsent c.host.inside c.args.endpoint c.args.pasid c.args.page _ c.in_ok-asking.asking _ _ is c.in_ok-asking.ensures c.in_err-send.ensures.sends)
+    (ask_unsent c.host.inside c.args.endpoint c.args.pasid c.args.page _ c.in_ok-asking.asking c.kind.result _ _ is c.in_ok-asking.ensures.answer
+    c.in_err-send.ensures.sends)
 
 pub invariant_of-host-2 : goal.invariant_of-host-2
 invariant_of-host-2 c =
@@ -36,24 +37,25 @@ invariant_of-host-2 c =
     let tables = λ (s : Tables). after_ask s c.args.pasid c.args.page in
     with_tables_host c.host.inside c.args.endpoint (slice_index_or c.deref.result.now c.in_ok-at.at c.index-deref-at.result) _ c.send.new.bag _
     c.host.invariant
-    (sound_after _ (call.Ask c.args.pasid c.args.page) (ap is_ok (sym c.in_ok-asking.ensures)) is.sound)
-    (rewritten c.host.inside _ c.args.endpoint c.in_ok-at.at _ _ c.index-deref-at.result c.index-deref_mut-at.result c.ask-tag.new.self tables
-    c.host.view_is c.in_ok-at.ensures c.deref.ensures.0 c.deref_mut.ensures.value c.ask-tag.ensures.after)
+    (sound_after _ (call.Ask c.args.pasid c.args.page) (ap is_ok (sym c.in_ok-asking.ensures.answer)) is.sound)
+    (rewritten c.host.inside _ c.args.endpoint c.in_ok-at.at _ _ c.index-deref-at.result c.index-deref_mut-at.result c.ask.new.self tables
+    c.host.view_is c.in_ok-at.ensures c.deref.ensures.0 c.deref_mut.ensures.value
+    (left_by_ask (slice_index_or c.deref_mut.result.now c.in_ok-at.at c.index-deref_mut-at.result).device c.ask.new.self c.args.pasid c.args.page c.in_ok-asking.asking
+    (slice_index_or c.deref.result.now c.in_ok-at.at c.index-deref-at.result).device c.in_ok-asking.ensures.answer c.ask.ensures))
 
 pub returns : goal.returns
 returns c =
     let is = port_found c.host.inside _ c.args.endpoint c.in_ok-at.at _ c.index-deref-at.result c.host.invariant c.host.view_is c.in_ok-at.ensures
     c.deref.ensures.0 in
     let tables = λ (s : Tables). after_ask s c.args.pasid c.args.page in
-    ended c.host.inside _ (step.Ask c.args.endpoint c.args.pasid c.args.page) (answer.Tag c.ask-tag.result) _ _ _ c.send.new.bag c.host.view_is
-    (rewritten c.host.inside _ c.args.endpoint c.in_ok-at.at _ _ c.index-deref-at.result c.index-deref_mut-at.result c.ask-tag.new.self tables
-    c.host.view_is c.in_ok-at.ensures c.deref.ensures.0 c.deref_mut.ensures.value c.ask-tag.ensures.after)
-    (ap answer.Tag (c.ask-tag.ensures.tag
-    ∙ ap (λ (p : Port). lowest_tag p.device)
-    (same_port c.host.inside _ c.args.endpoint c.in_ok-at.at _ _ c.index-deref-at.result c.index-deref_mut-at.result c.host.view_is
-    c.in_ok-at.ensures c.deref.ensures.0 c.deref_mut.ensures.value)))
-    (ask_done c.host.inside c.args.endpoint c.args.pasid c.args.page _ c.in_ok-asking.asking c.send.new.bag is c.in_ok-asking.ensures
-    c.in_ok-send.ensures.sends)
+    ended c.host.inside _ (step.Ask c.args.endpoint c.args.pasid c.args.page) (answer.Tag c.in_ok-asking.asking.tag) _ _ _ c.send.new.bag c.host.view_is
+    (rewritten c.host.inside _ c.args.endpoint c.in_ok-at.at _ _ c.index-deref-at.result c.index-deref_mut-at.result c.ask.new.self tables
+    c.host.view_is c.in_ok-at.ensures c.deref.ensures.0 c.deref_mut.ensures.value
+    (left_by_ask (slice_index_or c.deref_mut.result.now c.in_ok-at.at c.index-deref_mut-at.result).device c.ask.new.self c.args.pasid c.args.page c.in_ok-asking.asking
+    (slice_index_or c.deref.result.now c.in_ok-at.at c.index-deref-at.result).device c.in_ok-asking.ensures.answer c.ask.ensures))
+    refl
+    (ask_done c.host.inside c.args.endpoint c.args.pasid c.args.page _ c.in_ok-asking.asking c.kind.result c.send.new.bag is c.in_ok-asking.ensures.answer
+    c.kind.ensures c.in_ok-send.ensures.sends)
 
 pub port-requires : goal.port-requires
 port-requires c = tt
@@ -115,9 +117,10 @@ offset_bounds-deref_mut-at c =
 pub bounds-deref_mut-at : goal.bounds-deref_mut-at
 bounds-deref_mut-at c = within c.host.inside _ c.args.endpoint c.in_ok-at.at _ c.host.invariant c.host.view_is c.in_ok-at.ensures c.deref_mut.ensures.value
 
-pub ask-tag-requires : goal.ask-tag-requires
-ask-tag-requires c =
-    ap (λ (p : Port). is_ok (asking p.device c.args.pasid c.args.page))
+pub ask-requires : goal.ask-requires
+ask-requires c =
+    subst (λ (p : Port). MayAsk p.device c.in_ok-asking.asking)
+    (sym
     (same_port c.host.inside _ c.args.endpoint c.in_ok-at.at _ _ c.index-deref-at.result c.index-deref_mut-at.result c.host.view_is
-    c.in_ok-at.ensures c.deref.ensures.0 c.deref_mut.ensures.value)
-    ∙ ap is_ok (sym c.in_ok-asking.ensures)
+    c.in_ok-at.ensures c.deref.ensures.0 c.deref_mut.ensures.value))
+    c.in_ok-asking.ensures.may

@@ -1,16 +1,16 @@
-use Rattle.std.proofs.Common.{sym, ap, ◌∙◌, arith, refl}
+use Rattle.std.proofs.Common.{sym, ap, subst, arith, refl}
 use Rattle.std.specs.Prelude.{is_ok, slice_index_or}
 use Rattle.sva_step.specs.declared.answers.Answer.TheVariants as answer
 use Rattle.sva_step.specs.declared.steps.Step.TheVariants as step
 use Rattle.sva_endpoint.specs.Calls as call
 use Rattle.sva_endpoint.specs.Tables.{Tables}
-use Rattle.sva_endpoint.specs.Steps.{index_for, after_fault, faulting}
+use Rattle.sva_endpoint.specs.Steps.{after_fault, MayFault}
 use Rattle.sva_endpoint.proofs.SoundLaws.{sound_after}
 use Rattle.sva_host_state.specs.declared.host_state.Port.{Port}
 use Rattle.sva_host_state.specs.Inner.{wire_of}
 use Rattle.sva_host_state.proofs.Ports.{port_found, same_port, rewritten, with_tables_host}
 use Rattle.sva_host_state.proofs.Devices.{kept, went, ended}
-use Rattle.sva_host_state.proofs.Faults.{fault_refused, fault_unsent, fault_done}
+use Rattle.sva_host_state.proofs.Faults.{left_by_fault, fault_refused, fault_unsent, fault_done}
 use Rattle.sva_host_endpoints.proofs.Reached.{within, fault_nowhere, none_in}
 use Rattle.sva_host_endpoints.proofs.endpoints.fault.Goals as goal
 
@@ -20,7 +20,7 @@ returns-in_err-faulting c =
     c.deref.ensures.0 in
     kept _ _ (step.Fault c.args.endpoint c.args.fault.now.pasid c.args.fault.now.page c.args.fault.now.read c.args.fault.now.write
     c.args.fault.now.group c.args.fault.now.last) _ _ c.host.view_is c.from_residual-in_err-faulting.ensures
-    (fault_refused c.host.inside c.args.endpoint c.args.fault.now _ _ is c.in_err-faulting.ensures)
+    (fault_refused c.host.inside c.args.endpoint c.args.fault.now _ _ is c.in_err-faulting.ensures.answer)
 
 pub returns-in_err-send : goal.returns-in_err-send
 returns-in_err-send c =
@@ -29,7 +29,8 @@ returns-in_err-send c =
     went _ _ (wire_of (record c.host.inside { in_flight = c.send.new.bag }))
     (step.Fault c.args.endpoint c.args.fault.now.pasid c.args.fault.now.page c.args.fault.now.read c.args.fault.now.write c.args.fault.now.group
     c.args.fault.now.last) _ _ c.host.view_is c.from_residual-in_err-send.ensures
-    (fault_unsent c.host.inside c.args.endpoint c.args.fault.now _ c.in_ok-faulting.faulting _ _ is c.in_ok-faulting.ensures c.in_err-send.ensures.sends)
+    (fault_unsent c.host.inside c.args.endpoint c.args.fault.now _ c.in_ok-faulting.faulting c.kind.result _ _ is c.in_ok-faulting.ensures.answer
+    c.in_err-send.ensures.sends)
 
 pub invariant_of-host-2 : goal.invariant_of-host-2
 invariant_of-host-2 c =
@@ -38,9 +39,11 @@ invariant_of-host-2 c =
     let tables = λ (s : Tables). after_fault s c.args.fault.now in
     with_tables_host c.host.inside c.args.endpoint (slice_index_or c.deref.result.now c.in_ok-at.at c.index-deref-at.result) _ c.send.new.bag _
     c.host.invariant
-    (sound_after _ (call.SendFault c.args.fault.now) (ap is_ok (sym c.in_ok-faulting.ensures)) is.sound)
-    (rewritten c.host.inside _ c.args.endpoint c.in_ok-at.at _ _ c.index-deref-at.result c.index-deref_mut-at.result c.fault-group.new.self tables
-    c.host.view_is c.in_ok-at.ensures c.deref.ensures.0 c.deref_mut.ensures.value c.fault-group.ensures.after)
+    (sound_after _ (call.SendFault c.args.fault.now) (ap is_ok (sym c.in_ok-faulting.ensures.answer)) is.sound)
+    (rewritten c.host.inside _ c.args.endpoint c.in_ok-at.at _ _ c.index-deref-at.result c.index-deref_mut-at.result c.fault.new.self tables
+    c.host.view_is c.in_ok-at.ensures c.deref.ensures.0 c.deref_mut.ensures.value
+    (left_by_fault (slice_index_or c.deref_mut.result.now c.in_ok-at.at c.index-deref_mut-at.result).device c.fault.new.self c.args.fault.now c.in_ok-faulting.faulting
+    (slice_index_or c.deref.result.now c.in_ok-at.at c.index-deref-at.result).device c.in_ok-faulting.ensures.answer c.fault.ensures))
 
 pub returns : goal.returns
 returns c =
@@ -48,15 +51,14 @@ returns c =
     c.deref.ensures.0 in
     let tables = λ (s : Tables). after_fault s c.args.fault.now in
     ended c.host.inside _ (step.Fault c.args.endpoint c.args.fault.now.pasid c.args.fault.now.page c.args.fault.now.read c.args.fault.now.write
-    c.args.fault.now.group c.args.fault.now.last) (answer.Group c.fault-group.result) _ _ _ c.send.new.bag c.host.view_is
-    (rewritten c.host.inside _ c.args.endpoint c.in_ok-at.at _ _ c.index-deref-at.result c.index-deref_mut-at.result c.fault-group.new.self tables
-    c.host.view_is c.in_ok-at.ensures c.deref.ensures.0 c.deref_mut.ensures.value c.fault-group.ensures.after)
-    (ap answer.Group (c.fault-group.ensures.index
-    ∙ ap (λ (p : Port). index_for p.device c.args.fault.now.group)
-    (same_port c.host.inside _ c.args.endpoint c.in_ok-at.at _ _ c.index-deref-at.result c.index-deref_mut-at.result c.host.view_is
-    c.in_ok-at.ensures c.deref.ensures.0 c.deref_mut.ensures.value)))
-    (fault_done c.host.inside c.args.endpoint c.args.fault.now _ c.in_ok-faulting.faulting c.send.new.bag is c.in_ok-faulting.ensures
-    c.in_ok-send.ensures.sends)
+    c.args.fault.now.group c.args.fault.now.last) (answer.Group c.in_ok-faulting.faulting.request.index) _ _ _ c.send.new.bag c.host.view_is
+    (rewritten c.host.inside _ c.args.endpoint c.in_ok-at.at _ _ c.index-deref-at.result c.index-deref_mut-at.result c.fault.new.self tables
+    c.host.view_is c.in_ok-at.ensures c.deref.ensures.0 c.deref_mut.ensures.value
+    (left_by_fault (slice_index_or c.deref_mut.result.now c.in_ok-at.at c.index-deref_mut-at.result).device c.fault.new.self c.args.fault.now c.in_ok-faulting.faulting
+    (slice_index_or c.deref.result.now c.in_ok-at.at c.index-deref-at.result).device c.in_ok-faulting.ensures.answer c.fault.ensures))
+    refl
+    (fault_done c.host.inside c.args.endpoint c.args.fault.now _ c.in_ok-faulting.faulting c.kind.result c.send.new.bag is c.in_ok-faulting.ensures.answer
+    c.kind.ensures c.in_ok-send.ensures.sends)
 
 pub port-requires : goal.port-requires
 port-requires c = tt
@@ -119,9 +121,10 @@ offset_bounds-deref_mut-at c =
 pub bounds-deref_mut-at : goal.bounds-deref_mut-at
 bounds-deref_mut-at c = within c.host.inside _ c.args.endpoint c.in_ok-at.at _ c.host.invariant c.host.view_is c.in_ok-at.ensures c.deref_mut.ensures.value
 
-pub fault-group-requires : goal.fault-group-requires
-fault-group-requires c =
-    ap (λ (p : Port). is_ok (faulting p.device c.args.fault.now))
+pub fault-requires : goal.fault-requires
+fault-requires c =
+    subst (λ (p : Port). MayFault p.device c.in_ok-faulting.faulting)
+    (sym
     (same_port c.host.inside _ c.args.endpoint c.in_ok-at.at _ _ c.index-deref-at.result c.index-deref_mut-at.result c.host.view_is
-    c.in_ok-at.ensures c.deref.ensures.0 c.deref_mut.ensures.value)
-    ∙ ap is_ok (sym c.in_ok-faulting.ensures)
+    c.in_ok-at.ensures c.deref.ensures.0 c.deref_mut.ensures.value))
+    c.in_ok-faulting.ensures.may

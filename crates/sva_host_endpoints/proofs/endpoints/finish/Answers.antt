@@ -1,17 +1,17 @@
-use Rattle.std.proofs.Common.{sym, ap, ◌∙◌, arith, refl}
+use Rattle.std.proofs.Common.{sym, ap, subst, ◌∙◌, arith, refl}
 use Rattle.std.specs.Prelude.{is_ok, slice_index_or}
 use Rattle.sva_step.specs.declared.answers.Answer.TheVariants as answer
 use Rattle.sva_step.specs.declared.steps.Step.TheVariants as step
 use Rattle.sva_endpoint.specs.Calls as call
 use Rattle.sva_endpoint.specs.Tables.{Tables}
-use Rattle.sva_endpoint.specs.Steps.{after_finish, finishing}
+use Rattle.sva_endpoint.specs.Steps.{after_finish, MayFinish}
 use Rattle.sva_endpoint.proofs.SoundLaws.{sound_after}
 use Rattle.sva_host_state.proofs.Flights.{flight_laws}
 use Rattle.sva_host_state.specs.Inner.{wire_of}
 use Rattle.sva_host_state.specs.declared.host_state.Port.{Port}
 use Rattle.sva_host_state.proofs.Ports.{port_found, rewritten, with_tables_host, same_port}
 use Rattle.sva_host_state.proofs.Devices.{kept, went, ended}
-use Rattle.sva_host_state.proofs.Finishes.{finish_refused, finish_unsent, finish_done}
+use Rattle.sva_host_state.proofs.Finishes.{left_by_finish, finish_refused, finish_unsent, finish_done}
 use Rattle.sva_host_endpoints.proofs.Reached.{within, finish_nowhere, none_in}
 use Rattle.sva_host_endpoints.proofs.endpoints.finish.Goals as goal
 
@@ -20,7 +20,7 @@ returns-in_err-finishing c =
     let is = port_found c.host.inside _ c.args.endpoint c.in_ok-at.at _ c.index-deref-at.result c.host.invariant c.host.view_is c.in_ok-at.ensures
     c.deref.ensures.0 in
     kept _ _ (step.Finish c.args.endpoint c.args.vector c.args.count) _ _ c.host.view_is c.from_residual-in_err-finishing.ensures
-    (finish_refused c.host.inside c.args.endpoint c.args.vector c.args.count _ _ c.ranges.vector.fits is c.in_err-finishing.ensures)
+    (finish_refused c.host.inside c.args.endpoint c.args.vector c.args.count _ _ c.ranges.vector.fits is c.in_err-finishing.ensures.answer)
 
 pub returns-in_err-send : goal.returns-in_err-send
 returns-in_err-send c =
@@ -28,8 +28,8 @@ returns-in_err-send c =
     c.deref.ensures.0 in
     went _ _ (wire_of (record c.host.inside { in_flight = c.send.new.bag })) (step.Finish c.args.endpoint c.args.vector c.args.count) _ _
     c.host.view_is c.from_residual-in_err-send.ensures
-    (finish_unsent c.host.inside c.args.endpoint c.args.vector c.args.count _ c.in_ok-finishing.finishing _ _ _
-    (c.from.ensures ∙ c.get-copies.ensures.value) c.ranges.vector.fits is c.in_ok-finishing.ensures c.in_err-send.ensures.sends)
+    (finish_unsent c.host.inside c.args.endpoint c.args.vector c.args.count _ c.in_ok-finishing.finishing c.kind.result _ _ _
+    (c.from.ensures ∙ c.get-copies.ensures.value) c.ranges.vector.fits is c.in_ok-finishing.ensures.answer c.in_err-send.ensures.sends)
 
 pub invariant_of-host-2 : goal.invariant_of-host-2
 invariant_of-host-2 c =
@@ -38,9 +38,11 @@ invariant_of-host-2 c =
     let tables = λ (s : Tables). after_finish s c.args.vector in
     with_tables_host c.host.inside c.args.endpoint (slice_index_or c.deref.result.now c.in_ok-at.at c.index-deref-at.result) _ c.send.new.bag _
     c.host.invariant
-    (sound_after _ (call.Finish c.args.vector c.args.count) (ap is_ok (sym c.in_ok-finishing.ensures)) is.sound)
+    (sound_after _ (call.Finish c.args.vector c.args.count) (ap is_ok (sym c.in_ok-finishing.ensures.answer)) is.sound)
     (rewritten c.host.inside _ c.args.endpoint c.in_ok-at.at _ _ c.index-deref-at.result c.index-deref_mut-at.result c.finish.new.self tables
-    c.host.view_is c.in_ok-at.ensures c.deref.ensures.0 c.deref_mut.ensures.value c.finish.ensures)
+    c.host.view_is c.in_ok-at.ensures c.deref.ensures.0 c.deref_mut.ensures.value
+    (left_by_finish (slice_index_or c.deref_mut.result.now c.in_ok-at.at c.index-deref_mut-at.result).device c.finish.new.self c.args.vector c.args.count c.in_ok-finishing.finishing
+    (slice_index_or c.deref.result.now c.in_ok-at.at c.index-deref-at.result).device c.in_ok-finishing.ensures.answer c.finish.ensures))
 
 pub returns : goal.returns
 returns c =
@@ -49,11 +51,13 @@ returns c =
     let tables = λ (s : Tables). after_finish s c.args.vector in
     ended c.host.inside _ (step.Finish c.args.endpoint c.args.vector c.args.count) (answer.Sent c.get-copies.result) _ _ _ c.send.new.bag c.host.view_is
     (rewritten c.host.inside _ c.args.endpoint c.in_ok-at.at _ _ c.index-deref-at.result c.index-deref_mut-at.result c.finish.new.self tables
-    c.host.view_is c.in_ok-at.ensures c.deref.ensures.0 c.deref_mut.ensures.value c.finish.ensures)
+    c.host.view_is c.in_ok-at.ensures c.deref.ensures.0 c.deref_mut.ensures.value
+    (left_by_finish (slice_index_or c.deref_mut.result.now c.in_ok-at.at c.index-deref_mut-at.result).device c.finish.new.self c.args.vector c.args.count c.in_ok-finishing.finishing
+    (slice_index_or c.deref.result.now c.in_ok-at.at c.index-deref-at.result).device c.in_ok-finishing.ensures.answer c.finish.ensures))
     (ap answer.Sent c.get-copies.ensures.value)
-    (finish_done c.host.inside c.args.endpoint c.args.vector c.args.count _ c.in_ok-finishing.finishing c.send.new.bag _
+    (finish_done c.host.inside c.args.endpoint c.args.vector c.args.count _ c.in_ok-finishing.finishing c.kind.result c.send.new.bag _
     (c.from.ensures ∙ c.get-copies.ensures.value) c.ranges.vector.fits (flight_laws c.host.inside.in_flight c.in_ok-send.ensures.numbered) is
-    c.in_ok-finishing.ensures c.in_ok-send.ensures.sends)
+    c.in_ok-finishing.ensures.answer c.kind.ensures c.in_ok-send.ensures.sends)
 
 pub port-requires : goal.port-requires
 port-requires c = tt
@@ -111,7 +115,8 @@ bounds-deref_mut-at c = within c.host.inside _ c.args.endpoint c.in_ok-at.at _ c
 
 pub finish-requires : goal.finish-requires
 finish-requires c =
-    ap (λ (p : Port). is_ok (finishing p.device c.args.vector c.args.count))
+    subst (λ (p : Port). MayFinish p.device c.in_ok-finishing.finishing)
+    (sym
     (same_port c.host.inside _ c.args.endpoint c.in_ok-at.at _ _ c.index-deref-at.result c.index-deref_mut-at.result c.host.view_is
-    c.in_ok-at.ensures c.deref.ensures.0 c.deref_mut.ensures.value)
-    ∙ ap is_ok (sym c.in_ok-finishing.ensures)
+    c.in_ok-at.ensures c.deref.ensures.0 c.deref_mut.ensures.value))
+    c.in_ok-finishing.ensures.may

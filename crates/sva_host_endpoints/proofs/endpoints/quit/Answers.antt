@@ -1,25 +1,25 @@
-use Rattle.std.proofs.Common.{sym, ap, refl, ◌∙◌, arith}
+use Rattle.std.proofs.Common.{sym, ap, subst, refl, arith}
 use Rattle.std.specs.Prelude.{is_ok, slice_index_or}
 use Rattle.sva_step.specs.declared.answers.Answer.TheVariants as answer
 use Rattle.sva_step.specs.declared.steps.Step.TheVariants as step
 use Rattle.sva_endpoint.specs.Calls as call
 use Rattle.sva_endpoint.specs.Tables.{Tables}
-use Rattle.sva_endpoint.specs.Steps.{quitting, after_quit}
+use Rattle.sva_endpoint.specs.Steps.{after_quit, MayQuit}
 use Rattle.sva_endpoint.proofs.SoundLaws.{sound_after}
 use Rattle.sva_host_state.specs.declared.host_state.Port.{Port}
 use Rattle.sva_host_state.specs.Inner.{wire_of}
 use Rattle.sva_host_state.proofs.Ports.{port_found, same_port, rewritten, with_tables_host}
 use Rattle.sva_host_state.proofs.Devices.{kept, went, ended}
-use Rattle.sva_host_state.proofs.Quits.{quit_refused, quit_unsent, quit_done}
+use Rattle.sva_host_state.proofs.Quits.{left_by_quit, quit_refused, quit_unsent, quit_done}
 use Rattle.sva_host_endpoints.proofs.Reached.{within, quit_nowhere, none_in}
 use Rattle.sva_host_endpoints.proofs.endpoints.quit.Goals as goal
 
-pub returns-in_err-marker : goal.returns-in_err-marker
-returns-in_err-marker c =
+pub returns-in_err-quitting : goal.returns-in_err-quitting
+returns-in_err-quitting c =
     let is = port_found c.host.inside _ c.args.endpoint c.in_ok-at.at _ c.index-deref-at.result c.host.invariant c.host.view_is c.in_ok-at.ensures
     c.deref.ensures.0 in
-    kept _ _ (step.Quit c.args.endpoint c.args.pasid) _ _ c.host.view_is c.from_residual-in_err-marker.ensures
-    (quit_refused c.host.inside c.args.endpoint c.args.pasid _ _ is c.in_err-marker.ensures)
+    kept _ _ (step.Quit c.args.endpoint c.args.pasid) _ _ c.host.view_is c.from_residual-in_err-quitting.ensures
+    (quit_refused c.host.inside c.args.endpoint c.args.pasid _ _ is c.in_err-quitting.ensures.answer)
 
 pub returns-in_err-send : goal.returns-in_err-send
 returns-in_err-send c =
@@ -27,7 +27,8 @@ returns-in_err-send c =
     c.deref.ensures.0 in
     went _ _ (wire_of (record c.host.inside { in_flight = c.send.new.bag })) (step.Quit c.args.endpoint c.args.pasid) _ _ c.host.view_is
     c.from_residual-in_err-send.ensures
-    (quit_unsent c.host.inside c.args.endpoint c.args.pasid _ c.in_ok-marker.marker _ _ is c.in_ok-marker.ensures c.in_err-send.ensures.sends)
+    (quit_unsent c.host.inside c.args.endpoint c.args.pasid _ c.in_ok-quitting.quitting c.kind.result _ _ is c.in_ok-quitting.ensures.answer
+    c.in_err-send.ensures.sends)
 
 pub invariant_of-host-2 : goal.invariant_of-host-2
 invariant_of-host-2 c =
@@ -36,9 +37,11 @@ invariant_of-host-2 c =
     let tables = λ (s : Tables). after_quit s c.args.pasid in
     with_tables_host c.host.inside c.args.endpoint (slice_index_or c.deref.result.now c.in_ok-at.at c.index-deref-at.result) _ c.send.new.bag _
     c.host.invariant
-    (sound_after _ (call.Quit c.args.pasid) (ap is_ok (sym c.in_ok-marker.ensures)) is.sound)
+    (sound_after _ (call.Quit c.args.pasid) (ap is_ok (sym c.in_ok-quitting.ensures.answer)) is.sound)
     (rewritten c.host.inside _ c.args.endpoint c.in_ok-at.at _ _ c.index-deref-at.result c.index-deref_mut-at.result c.quit.new.self tables
-    c.host.view_is c.in_ok-at.ensures c.deref.ensures.0 c.deref_mut.ensures.value c.quit.ensures)
+    c.host.view_is c.in_ok-at.ensures c.deref.ensures.0 c.deref_mut.ensures.value
+    (left_by_quit (slice_index_or c.deref_mut.result.now c.in_ok-at.at c.index-deref_mut-at.result).device c.quit.new.self c.args.pasid c.in_ok-quitting.quitting
+    (slice_index_or c.deref.result.now c.in_ok-at.at c.index-deref-at.result).device c.in_ok-quitting.ensures.answer c.quit.ensures))
 
 pub returns : goal.returns
 returns c =
@@ -47,9 +50,12 @@ returns c =
     let tables = λ (s : Tables). after_quit s c.args.pasid in
     ended c.host.inside _ (step.Quit c.args.endpoint c.args.pasid) (answer.Marker) _ _ _ c.send.new.bag c.host.view_is
     (rewritten c.host.inside _ c.args.endpoint c.in_ok-at.at _ _ c.index-deref-at.result c.index-deref_mut-at.result c.quit.new.self tables
-    c.host.view_is c.in_ok-at.ensures c.deref.ensures.0 c.deref_mut.ensures.value c.quit.ensures)
+    c.host.view_is c.in_ok-at.ensures c.deref.ensures.0 c.deref_mut.ensures.value
+    (left_by_quit (slice_index_or c.deref_mut.result.now c.in_ok-at.at c.index-deref_mut-at.result).device c.quit.new.self c.args.pasid c.in_ok-quitting.quitting
+    (slice_index_or c.deref.result.now c.in_ok-at.at c.index-deref-at.result).device c.in_ok-quitting.ensures.answer c.quit.ensures))
     (refl)
-    (quit_done c.host.inside c.args.endpoint c.args.pasid _ c.in_ok-marker.marker c.send.new.bag is c.in_ok-marker.ensures c.in_ok-send.ensures.sends)
+    (quit_done c.host.inside c.args.endpoint c.args.pasid _ c.in_ok-quitting.quitting c.kind.result c.send.new.bag is c.in_ok-quitting.ensures.answer
+    c.kind.ensures c.in_ok-send.ensures.sends)
 
 pub port-requires : goal.port-requires
 port-requires c = tt
@@ -79,11 +85,11 @@ bounds-deref-at c = within c.host.inside _ c.args.endpoint c.in_ok-at.at _ c.hos
 pub may_quit-requires : goal.may_quit-requires
 may_quit-requires c = tt
 
-pub branch-marker-requires : goal.branch-marker-requires
-branch-marker-requires c κs = (none_in _, none_in _)
+pub branch-quitting-requires : goal.branch-quitting-requires
+branch-quitting-requires c κs = (none_in _, none_in _)
 
-pub from_residual-requires-in_err-marker : goal.from_residual-requires-in_err-marker
-from_residual-requires-in_err-marker c κs = (none_in _, (none_in _, none_in _))
+pub from_residual-requires-in_err-quitting : goal.from_residual-requires-in_err-quitting
+from_residual-requires-in_err-quitting c κs = (none_in _, (none_in _, none_in _))
 
 pub send-requires-clause-at_least_one : goal.send-requires-clause-at_least_one
 send-requires-clause-at_least_one c = omega arith
@@ -113,6 +119,8 @@ bounds-deref_mut-at c = within c.host.inside _ c.args.endpoint c.in_ok-at.at _ c
 
 pub quit-requires : goal.quit-requires
 quit-requires c =
-    ap (λ (p : Port). is_ok (quitting p.device c.args.pasid))
+    subst (λ (p : Port). MayQuit p.device c.in_ok-quitting.quitting)
+    (sym
     (same_port c.host.inside _ c.args.endpoint c.in_ok-at.at _ _ c.index-deref-at.result c.index-deref_mut-at.result c.host.view_is
-    c.in_ok-at.ensures c.deref.ensures.0 c.deref_mut.ensures.value) ∙ ap is_ok (sym c.in_ok-marker.ensures)
+    c.in_ok-at.ensures c.deref.ensures.0 c.deref_mut.ensures.value))
+    c.in_ok-quitting.ensures.may

@@ -60,6 +60,6 @@ returns-clause-step c =
     (port_there c.host.inside _ c.args.flight.now.number c.args.flight.now.message.endpoint (Request c.args.tag c.args.pasid c.args.page) c.deref.result.now
     c.index-deref-at.result c.host.invariant c.host.view_is c.requires.sound
     c.requires.arriving c.deref.ensures.0)
-    c.requires.arriving (sym c.is_open.ensures ∙ c.if-not-is_open.false) (c.completion.ensures
+    c.requires.arriving (sym c.is_open.ensures ∙ c.if-not-is_open.false) (c.completion.ensures c.args.page
     ∙ ap (completion_of c.args.tag) c.translation-found.ensures) c.in_ok-send.ensures.sends
     c.deliver_found-2.ensures

@@ -3,6 +3,3 @@ use Rattle.sva_host_state.proofs.advancing.is_due.Goals as goal
 
 pub returns-in-Some-Stopping : goal.returns-in-Some-Stopping
 returns-in-Some-Stopping c = search rules
-
-pub returns-in-Some-Draining : goal.returns-in-Some-Draining
-returns-in-Some-Draining c = search rules

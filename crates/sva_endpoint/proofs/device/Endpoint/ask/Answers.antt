@@ -1,5 +1,5 @@
-use Rattle.std.proofs.Common.{rules}
+use Rattle.sva_endpoint.proofs.Permits.{asked}
 use Rattle.sva_endpoint.proofs.device.Endpoint.ask.Goals as goal
 
-pub returns-clause-after : goal.returns-clause-after
-returns-clause-after c = search rules
+pub returns : goal.returns
+returns c = asked _ c.args.self.now c.args.permitted _ c.self.view_is c.requires c.take.ensures

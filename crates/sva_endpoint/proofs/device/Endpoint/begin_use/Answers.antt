@@ -1,5 +1,5 @@
-use Rattle.std.proofs.Common.{rules}
+use Rattle.sva_endpoint.proofs.Permits.{begun}
 use Rattle.sva_endpoint.proofs.device.Endpoint.begin_use.Goals as goal
 
-pub returns-clause-begun : goal.returns-clause-begun
-returns-clause-begun c = search rules
+pub returns : goal.returns
+returns c = begun _ c.args.self.now c.args.permitted _ c.self.view_is c.requires c.begin.ensures

@@ -1,12 +1,14 @@
-use Rattle.std.proofs.Common.{arith}
+use Rattle.std.proofs.Common.{◌<◌, length, arith}
 use Rattle.std.proofs.lemmas.Grind.{common_steps}
-use Rattle.sva_tables.proofs.GroupFacts.{HaveRequests-written, requests_of-group_of, requests_of-lowest}
+use Rattle.sva_tables.proofs.GroupFacts.{HaveRequests-written, lowest_found, requests_of-group_of, requests_of-lowest}
 use Rattle.sva_tables.proofs.groups.GroupTable.begin.Goals as goal
 
 pub invariant_of-self : goal.invariant_of-self
 invariant_of-self c =
     let one = requests_of-group_of c.args.pasid 1 c.args.last in
-    let none = requests_of-lowest c.self.inside.places.items c.args.index (rw c.self.view_is c.requires.lowest) in (
+    let within : c.args.index < length c.self.inside.places.items = omega (arith, c.self.invariant.0, c.requires.within) in
+    let found = lowest_found c.self.inside.places.items c.args.index (rw c.self.view_is c.requires.lowest) within in
+    let none = requests_of-lowest c.self.inside.places.items c.args.index found in (
       grind (arith, common_steps),
       grind (arith, common_steps),
       grind (arith, common_steps),

@@ -1,7 +1,3 @@
-pub mod Tries
-pub mod Ending
-pub mod Turns
-pub mod Working
-pub mod Asking
-pub mod Lacking
+pub mod Rows
+pub mod Running
 pub mod StormLemmas

@@ -1,9 +1,5 @@
-pub mod Ends
-pub mod LoopTokens
-pub mod Plays
 pub mod Lines
-pub mod Jobs
-pub mod Asks
+pub mod Played
+pub mod Roles
 pub mod Lacks
-pub mod Threads
 pub mod Storms

@@ -1,5 +1,5 @@
 -- Which lines of a scenario are whose.
-use Rattle.std.specs.Prelude.{◌≡◌, ℕ, ◌==◌, Bool, true, false, List, [], ◌∷◌, filter}
+use Rattle.std.specs.Prelude.{◌≡◌, ℕ, zero, suc, ◌==◌, Bool, true, false, List, [], ◌∷◌, ◌++◌, filter}
 use Rattle.sva_step.specs.declared.steps.Step.{Step}
 use Rattle.sva_step.specs.declared.steps.Step.TheVariants.{Space, DropSpace, Map, Unmap, UnmapRange, Bind, Unbind, Advance, Pump, Serve, Reset, Take}
 use Rattle.sva_step.specs.declared.steps.Step.TheVariants.{Reply, Ask, BeginUse, EndUse, Evict, Fault, Finish, Quit, Deliver, Look, Bearer}
@@ -42,3 +42,8 @@ is_owner _ _ = false
 -- the lines of one owner, in their order
 abbrev pub lines_of_owner : Owner → List Step → List Step
 lines_of_owner whose steps = filter (λ step. is_owner (owner_of_step step) whose) steps
+
+-- the lines of each of so many endpoints, by their numbers
+unfoldable pub lines_of_endpoints : List Step → (count : ℕ) → List (List Step)
+lines_of_endpoints steps zero = []
+lines_of_endpoints steps (suc count) = lines_of_endpoints steps count ++ lines_of_owner (Endpoint count) steps ∷ []

@@ -1,24 +1,19 @@
-//! The threads that play a scenario on one shared world: a loop for an endpoint, one for a worker, and a storm of all of them, which an
-//! audit of the world's journal ends.
+//! Storms: the threads that play a scenario on one shared world, each by a loop of `sva_loops`, which is passed on, and the audit of the
+//! world's journal that ends them.
 #![tactic(auto)]
 
-mod callbacks;
-mod endings;
-mod hosting;
+mod faults;
+mod line_threads;
 mod lines;
-mod linking;
-mod paging;
+mod plan;
+mod roles;
+mod round_threads;
 mod storming;
-mod thread_states;
 mod threads;
-mod tickets;
-mod using;
 
-pub use callbacks::{Device, Pager};
-pub use endings::{Ended, StormFault};
-pub use paging::fault_loop;
+pub use faults::StormFault;
 pub use storming::storm;
 pub use sva_fabric::{
     Audit, Blanks, Fabric, Lease, Ledgers, Port, Ports, Tokens, UseTicket, ports_of,
 };
-pub use using::endpoint_loop;
+pub use sva_loops::{Device, Ended, Pager, endpoint_loop, fault_loop};

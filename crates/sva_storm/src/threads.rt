@@ -1,430 +1,366 @@
-//! The threads of a storm: who sits where, and how they are started and joined.
+//! The threads of a storm: who calls by which port, and how they are started, joined and taken apart.
 
-ghost use Rattle.std.specs.Prelude.{◌≡◌, ◌+◌, ◌*◌, ◌<◌, ◌≤◌, ◌||◌, ◌++◌, ◌∷◌, [], length, vec_len, vec_capacity, IfOk, OnOk};
-ghost use Rattle.sva_storm.specs.Lines.{lines_of_owner};
-ghost use Rattle.sva_storm.specs.declared.lines.Owner.TheVariants as owner;
-ghost use Rattle.sva_storm.specs.Lacks.{lacks_of, lacks_of_hosts, one_lacks};
-ghost use Rattle.sva_fabric.specs.Audits.{states_of};
+ghost use Rattle.std.specs.Prelude.{◌≡◌, ◌+◌, ◌*◌, ◌<◌, ◌≤◌, false, length, vec_len, vec_capacity, IfOk};
+ghost use Rattle.sva_step.specs.Limits.{Fits};
+ghost use Rattle.sva_fabric.specs.Audits.{new_ports, states_of};
+ghost use Rattle.sva_fabric.specs.Receipts.{new_ports_from};
+ghost use Rattle.sva_storm.specs.Lines.{lines_of_endpoints};
+ghost use Rattle.sva_storm.specs.Played.{AreEach, IsOfEndpoint, IsOfWorker};
+ghost use Rattle.sva_storm.specs.Roles.{AreRoles};
+ghost use Rattle.sva_storm.specs.Lacks.{any_lacks, ArePartsPlayed, one_lacks};
 
-use crate::callbacks::{Device, Pager};
-use crate::hosting::BindingTokens;
-use crate::lines::{Owner, lines_of};
-use crate::thread_states::{HostThreadState, Role, ThreadState};
-use crate::tickets::MOST_TICKETS;
+use crate::line_threads::{EndpointThread, HostThread};
+use crate::lines::Lines;
+use crate::plan::Plan;
+use crate::roles::Roles;
+use crate::round_threads::{LinkThread, ServiceThread, WorkerThread};
 use std::alloc::{AllocError, Global};
+use std::slice::IterMut;
 use std::sync::Wait;
 use std::thread;
-use std::thread::Threads;
+use std::thread::{Scope, Threads};
 use sva_fabric::{Fabric, Ledgers, Port, Ports, Tokens, UseTicket};
-use sva_step::Step;
+use sva_loops::{BindingTokens, Device, MOST_TICKETS, Pager};
 
-/// The states of a storm, with the memory that is wanted once the threads are joined: it is taken before any thread is started.
-pub(crate) struct ThreadStates<C: Ledgers, D, P> {
-    host: [HostThreadState<C>; 1],
-    /// the link's, the service's, those of the endpoints and those of the workers, from the last one on
-    states: Vec<ThreadState<C, D, P>>,
-    endpoint_count: usize,
+/// The threads of a storm, with the memory that is wanted once they are joined: it is taken before any of them is started.
+pub(crate) struct ThreadStates<C: Ledgers, S: Plan, D, P> {
+    host: HostThread<C, S>,
+    link: LinkThread<C, S>,
+    service: ServiceThread<C, S>,
+    /// from the last one on, as those of the workers
+    endpoints: Vec<EndpointThread<C, S, D>>,
+    workers: Vec<WorkerThread<C, S, P>>,
     room: Room<C>,
-    ghost some: { 2 ≤ vec_len states },
-    ghost endpoints: { vec_len states ≤ vec_capacity room.endpoints },
-    ghost workers: { vec_len states ≤ vec_capacity room.workers },
-    ghost tickets: { vec_len states * 16 ≤ vec_capacity room.tickets },
+    ghost endpoint_ports: { vec_len endpoints ≤ vec_capacity room.endpoints },
+    ghost worker_ports: { vec_len workers ≤ vec_capacity room.workers },
+    ghost tickets: { vec_len endpoints * 16 ≤ vec_capacity room.tickets },
 }
 
-/// Room for the ports and tickets of all states.
+/// Room for the ports of the endpoints and of the workers, and for the tickets that are left.
 pub(crate) struct Room<C: Ledgers> {
-    tickets: Vec<UseTicket<C>>,
     endpoints: Vec<Port<C>>,
     workers: Vec<Port<C>>,
-    ghost no_tickets: { vec_len tickets ≡ 0 },
+    tickets: Vec<UseTicket<C>>,
     ghost no_endpoints: { vec_len endpoints ≡ 0 },
     ghost no_workers: { vec_len workers ≡ 0 },
+    ghost no_tickets: { vec_len tickets ≡ 0 },
 }
 
-impl<C: Ledgers> Room<C> {
-    /// Room for so many states.
-    fn new(alloc: Global, count: usize) -> Result<Room<C>, AllocError>
-        requires few { count ≤ 1000 }
-        ensures tickets { IfOk result (λ room. count * 16 ≤ vec_capacity room.tickets) }
-        ensures endpoints { IfOk result (λ room. count ≤ vec_capacity room.endpoints) }
-        ensures workers { IfOk result (λ room. count ≤ vec_capacity room.workers) }
-    {
-        let endpoints = Vec::with_capacity(alloc, count)?;
-        let workers = Vec::with_capacity(alloc, count)?;
-        let tickets = Vec::with_capacity(alloc, count * MOST_TICKETS)?;
-        Ok(Room {
-            tickets,
-            endpoints,
-            workers,
-        })
-    }
-}
-
-impl<C: Ledgers, D: Device + Drop, P: Pager + Drop> ThreadStates<C, D, P> {
-    /// The states of all ports, with the roles of the endpoints and of the workers.
+impl<C: Ledgers, S: Plan, D: Device + Drop, P: Pager + Drop> ThreadStates<C, S, D, P> {
+    /// The threads by the ports of a new world, with their roles and so many turns each.
     pub(crate) fn new(
         alloc: Global,
         ports: Ports<C>,
-        script: Vec<Step>,
-        roles: Vec<Role<D, P>>,
+        roles: Roles<D, P>,
         turns: u64,
-    ) -> Result<ThreadStates<C, D, P>, AllocError>
-        requires roles { length (states_of ports) ≡ 3 + vec_len roles }
-        requires few { vec_len roles ≤ 100 }
-        ensures states { IfOk result (λ states. vec_len states.states ≡ vec_len roles + 2) }
+    ) -> Result<ThreadStates<C, S, D, P>, AllocError>
+        requires fits { Fits C.config }
+        requires ports { states_of ports ≡ new_ports C.config }
+        requires endpoints { vec_len ports.endpoints ≡ C.config.endpoints }
+        requires workers { vec_len ports.workers ≡ C.config.workers }
+        requires roles { AreRoles C.config S.steps roles }
+        requires turns { turns ≡ S.turns }
+        ensures endpoints { IfOk result (λ threads. vec_len threads.endpoints ≡ C.config.endpoints) }
+        ensures workers { IfOk result (λ threads. vec_len threads.workers ≡ C.config.workers) }
     {
-        let (states, room) = reserved(alloc, roles.len() + 2)?;
-        Ok(ThreadStates::filled(alloc, ports, script, roles, turns, states, room))
-    }
-
-    /// The states of all ports, where there is room for them.
-    fn filled(
-        alloc: Global,
-        ports: Ports<C>,
-        script: Vec<Step>,
-        roles: Vec<Role<D, P>>,
-        turns: u64,
-        states: Vec<ThreadState<C, D, P>>,
-        room: Room<C>,
-    ) -> ThreadStates<C, D, P>
-        requires roles { length (states_of ports) ≡ 3 + vec_len roles }
-        requires none { vec_len states ≡ 0 }
-        requires states { vec_len roles + 2 ≤ vec_capacity states }
-        requires endpoints { vec_len roles + 2 ≤ vec_capacity room.endpoints }
-        requires workers { vec_len roles + 2 ≤ vec_capacity room.workers }
-        requires tickets { (vec_len roles + 2) * 16 ≤ vec_capacity room.tickets }
-        ensures states { vec_len result.states ≡ vec_len roles + 2 }
-    {
-        let mut states = states;
+        let count = ports.endpoints.len();
+        let workers = Vec::with_capacity(alloc, ports.workers.len())?;
+        let (endpoints, tickets) = reserved(alloc, count)?;
         let Ports {
             host,
             link,
             service,
+            endpoints: endpoint_ports,
+            workers: worker_ports,
+        } = ports;
+        let (endpoints, endpoint_ports) = endpoint_threads(
+            alloc,
+            endpoint_ports,
+            roles.endpoints,
+            roles.devices,
+            turns,
+            endpoints,
+        );
+        let (workers, worker_ports) = worker_threads(worker_ports, roles.pagers, turns, workers);
+        Ok(ThreadStates {
+            host: HostThread::new(alloc, host, roles.host, turns),
+            link: LinkThread::new(link, turns),
+            service: ServiceThread::new(count as u64, service, turns),
             endpoints,
             workers,
-        } = ports;
-        let endpoint_count = endpoints.len();
-        state_rows(alloc, endpoints, workers, roles, turns, &mut states);
-        let served = Role::Service {
-            endpoints: endpoint_count as u64,
-        };
-        states.push_reserved(ThreadState::new(alloc, service, served, turns));
-        states.push_reserved(ThreadState::new(alloc, link, Role::Link, turns));
-        ThreadStates {
-            host: [HostThreadState::new(alloc, host, script, turns)],
-            states,
-            endpoint_count,
-            room,
-        }
+            room: Room {
+                endpoints: endpoint_ports,
+                workers: worker_ports,
+                tickets,
+            },
+        })
     }
 
-    /// Starts a thread for each state, and joins them. Tells whether each was started.
-    pub(crate) fn run<R: Threads + Wait + Sync>(&mut self, rt: &R, fabric: &Fabric<C>) -> bool
+    /// Starts each thread, and joins those that were started. One that can't be started hasn't run, and its state tells so.
+    pub(crate) fn run<R: Threads + Wait + Sync>(&mut self, rt: &R, fabric: &Fabric<C>)
     where
         C: Send + Sync,
+        S: Send,
         D: Send,
         P: Send,
-        ensures states { vec_len self.new.states ≡ vec_len self.old.states }
-    {
-        let ThreadStates { host, states, .. } = self;
-        run_all(rt, fabric, host.as_mut_slice(), states.as_mut_slice())
-    }
-
-    /// Takes all states apart: their ports in their order, the tokens that are left, and whether a thread wanted memory.
-    pub(crate) fn into_parts(self) -> (Ports<C>, Tokens<C>, bool)
-        ensures lacked { result.2 ≡ (one_lacks (lacks_of self.states.items) || one_lacks (lacks_of_hosts self.host)) }
-        ensures ports { length (states_of result.0) ≡ vec_len self.states + 1 }
+        ensures endpoints { vec_len self.new.endpoints ≡ vec_len self.old.endpoints }
+        ensures workers { vec_len self.new.workers ≡ vec_len self.old.workers }
     {
         let ThreadStates {
             host,
-            states,
-            endpoint_count,
-            room,
-        } = self;
-        let parts = take_all_apart(states, endpoint_count, room);
-        let [host] = host;
-        parts.with_host(host)
-    }
-}
-
-/// What the states but the host's leave: their ports, their tickets, and whether a thread of theirs wanted memory.
-struct PartThreads<C: Ledgers> {
-    link: Port<C>,
-    service: Port<C>,
-    endpoints: Vec<Port<C>>,
-    workers: Vec<Port<C>>,
-    tickets: Vec<UseTicket<C>>,
-    lacked: bool,
-}
-
-impl<C: Ledgers> PartThreads<C> {
-    /// What the host's state leaves beside it: all ports in their order, all tokens, and whether a thread wanted memory.
-    fn with_host(self, host: HostThreadState<C>) -> (Ports<C>, Tokens<C>, bool)
-        ensures lacked { result.2 ≡ (self.lacked || host.out_of_memory) }
-        ensures ports { length (states_of result.0) ≡ 3 + vec_len self.endpoints + vec_len self.workers }
-    {
-        let PartThreads {
             link,
             service,
             endpoints,
             workers,
-            tickets,
-            lacked,
+            ..
         } = self;
-        let (host, BindingTokens { leases, leavings }, host_lacked) = host.leave();
+        let endpoints = endpoints.as_mut_slice();
+        let workers = workers.as_mut_slice();
+        run_all(rt, fabric, host, link, service, endpoints, workers);
+    }
+
+    /// Takes all threads apart: their ports in their order, the tokens that are left, and whether a thread wanted memory.
+    pub(crate) fn into_parts(self) -> (Ports<C>, Tokens<C>, bool)
+        ensures lacking { result.2 ≡ any_lacks self.host self.link self.service self.endpoints.items self.workers.items }
+        ensures played { result.2 ≡ false → ArePartsPlayed C.config S.steps S.turns result.0 }
+        ensures endpoints { vec_len result.0.endpoints ≡ vec_len self.endpoints }
+        ensures workers { vec_len result.0.workers ≡ vec_len self.workers }
+    {
+        let ThreadStates {
+            host,
+            link,
+            service,
+            endpoints,
+            workers,
+            room,
+        } = self;
+        let (host, BindingTokens { leases, leavings }, host_lacks) = host.leave();
+        let (link, link_lacks) = link.leave();
+        let (service, service_lacks) = service.leave();
+        let Room {
+            endpoints: mut endpoint_ports,
+            workers: mut worker_ports,
+            mut tickets,
+        } = room;
+        let endpoint_lacks = leave_endpoints(endpoints, &mut endpoint_ports, &mut tickets);
+        let worker_lacks = leave_workers(workers, &mut worker_ports);
         let ports = Ports {
             host,
             link,
             service,
-            endpoints,
-            workers,
+            endpoints: endpoint_ports,
+            workers: worker_ports,
         };
         let tokens = Tokens {
             leases,
             leavings,
             tickets,
         };
-        (ports, tokens, lacked | host_lacked)
+        let lacking = host_lacks | link_lacks | service_lacks | endpoint_lacks | worker_lacks;
+        (ports, tokens, lacking)
     }
 }
 
-/// The lines of the host, and the roles of the endpoints and of the workers, in this order.
-pub(crate) fn roles_of<D: Drop, P: Drop>(
-    alloc: Global,
-    steps: &[Step],
-    devices: Vec<D>,
-    pagers: Vec<P>,
-) -> Result<(Vec<Step>, Vec<Role<D, P>>), AllocError>
-    ensures script { IfOk result (λ roles. roles.0.items ≡ lines_of_owner owner.Host steps.now) }
-    ensures roles { IfOk result (λ roles. vec_len roles.1 ≡ vec_len devices + vec_len pagers) }
-{
-    let mut roles = Vec::new(alloc);
-    add_endpoints(alloc, steps, devices, &mut roles)?;
-    add_workers(pagers, &mut roles)?;
-    let script = lines_of(alloc, steps, Owner::Host)?;
-    Ok((script, roles))
-}
-
-/// Adds the roles of the endpoints, which come first.
-fn add_endpoints<D: Drop, P: Drop>(
-    alloc: Global,
-    steps: &[Step],
-    devices: Vec<D>,
-    roles: &mut Vec<Role<D, P>>,
-) -> Result<(), AllocError>
-    ensures { OnOk result (vec_len roles.new ≡ vec_len roles.old + vec_len devices) }
-{
-    for device in devices {
-        let script = lines_of(alloc, steps, Owner::Endpoint(roles.len() as u64))?;
-        roles.push(Role::Endpoint { script, device })?;
-    }
-    Ok(())
-}
-
-/// Adds the roles of the workers behind those of the endpoints.
-fn add_workers<D: Drop, P: Drop>(
-    pagers: Vec<P>,
-    roles: &mut Vec<Role<D, P>>,
-) -> Result<(), AllocError>
-    ensures { OnOk result (vec_len roles.new ≡ vec_len roles.old + vec_len pagers) }
-{
-    let endpoints = roles.len();
-    for pager in pagers {
-        let worker = (roles.len() - endpoints) as u64;
-        roles.push(Role::Worker { worker, pager })?;
-    }
-    Ok(())
-}
-
-/// Memory for so many states, and for what they leave.
-fn reserved<C: Ledgers, D: Device + Drop, P: Pager + Drop>(
+/// Memory for the threads of so many endpoints, and for the tickets that they leave.
+fn reserved<C: Ledgers, S: Plan, D>(
     alloc: Global,
     count: usize,
-) -> Result<(Vec<ThreadState<C, D, P>>, Room<C>), AllocError>
+) -> Result<(Vec<EndpointThread<C, S, D>>, Vec<UseTicket<C>>), AllocError>
     requires few { count ≤ 1000 }
-    ensures none { IfOk result (λ r. vec_len r.0 ≡ 0) }
-    ensures states { IfOk result (λ r. count ≤ vec_capacity r.0) }
-    ensures endpoints { IfOk result (λ r. count ≤ vec_capacity r.1.endpoints) }
-    ensures workers { IfOk result (λ r. count ≤ vec_capacity r.1.workers) }
-    ensures tickets { IfOk result (λ r. count * 16 ≤ vec_capacity r.1.tickets) }
+    ensures threads { IfOk result (λ r. (vec_len r.0 ≡ 0) × (count ≤ vec_capacity r.0)) }
+    ensures tickets { IfOk result (λ r. (vec_len r.1 ≡ 0) × (count * 16 ≤ vec_capacity r.1)) }
 {
-    let states = Vec::with_capacity(alloc, count)?;
-    match Room::new(alloc, count) {
-        Ok(room) => Ok((states, room)),
+    let threads = Vec::with_capacity(alloc, count)?;
+    match Vec::with_capacity(alloc, count * MOST_TICKETS) {
+        Ok(tickets) => Ok((threads, tickets)),
         Err(AllocError) => {
-            states.destroy_empty();
+            threads.destroy_empty();
             Err(AllocError)
         }
     }
 }
 
-/// Seats the ports of the workers and of the endpoints, with their roles.
-fn state_rows<C: Ledgers, D: Device + Drop, P: Pager + Drop>(
-    alloc: Global,
-    endpoints: Vec<Port<C>>,
-    workers: Vec<Port<C>>,
-    roles: Vec<Role<D, P>>,
-    turns: u64,
-    states: &mut Vec<ThreadState<C, D, P>>,
-)
-    requires roles { vec_len endpoints + vec_len workers ≡ vec_len roles }
-    requires room { vec_len states.old + vec_len roles ≤ vec_capacity states.old }
-    ensures states { vec_len states.new ≡ vec_len states.old + vec_len roles }
-    ensures room { vec_capacity states.new ≡ vec_capacity states.old }
-{
-    let mut roles = roles;
-    state_row(alloc, workers, &mut roles, turns, states);
-    state_row(alloc, endpoints, &mut roles, turns, states);
-}
-
-/// Seats the ports of a row from its end on, with the roles that stand last.
-fn state_row<C: Ledgers, D: Device + Drop, P: Pager + Drop>(
+/// The threads of the endpoints by their ports, from the last one on, and the room that the ports had.
+fn endpoint_threads<C: Ledgers, S: Plan, D: Device + Drop>(
     alloc: Global,
     ports: Vec<Port<C>>,
-    roles: &mut Vec<Role<D, P>>,
+    lines: Vec<Lines>,
+    devices: Vec<D>,
     turns: u64,
-    states: &mut Vec<ThreadState<C, D, P>>,
-)
-    requires roles { vec_len ports ≤ vec_len roles.old }
-    requires room { vec_len states.old + vec_len ports ≤ vec_capacity states.old }
-    ensures roles { vec_len roles.new + vec_len ports ≡ vec_len roles.old }
-    ensures states { vec_len states.new ≡ vec_len states.old + vec_len ports }
-    ensures room { vec_capacity states.new ≡ vec_capacity states.old }
+    room: Vec<EndpointThread<C, S, D>>,
+) -> (Vec<EndpointThread<C, S, D>>, Vec<Port<C>>)
+    requires count { vec_len ports ≡ C.config.endpoints }
+    requires ports { ports.items ≡ new_ports_from 3 (vec_len ports) }
+    requires lines { lines.items ≡ lines_of_endpoints S.steps (vec_len ports) }
+    requires line_count { vec_len lines ≡ vec_len ports }
+    requires devices { vec_len devices ≡ vec_len ports }
+    requires turns { turns ≡ S.turns }
+    requires none { vec_len room ≡ 0 }
+    requires room { vec_len ports ≤ vec_capacity room }
+    ensures threads { vec_len result.0 ≡ vec_len ports }
+    ensures none { vec_len result.1 ≡ 0 }
+    ensures room { vec_len ports ≤ vec_capacity result.1 }
 {
-    let mut ports = ports;
+    let (mut ports, mut lines, mut devices, mut threads) = (ports, lines, devices, room);
     while let Some(port) = ports.pop() {
-        let Some(role) = roles.pop() else {
+        let (Some(own), Some(device)) = (lines.pop(), devices.pop()) else {
             unreachable!()
         };
-        states.push_reserved(ThreadState::new(alloc, port, role, turns));
+        let endpoint = ports.len() as u64;
+        threads.push_reserved(EndpointThread::new(alloc, endpoint, port, own, device, turns));
     }
+    (threads, ports)
 }
 
-/// Starts a thread for each of these states, and joins them. Tells whether each was started.
+/// The threads of the workers by their ports, from the last one on, and the room that the ports had.
+fn worker_threads<C: Ledgers, S: Plan, P: Pager + Drop>(
+    ports: Vec<Port<C>>,
+    pagers: Vec<P>,
+    turns: u64,
+    room: Vec<WorkerThread<C, S, P>>,
+) -> (Vec<WorkerThread<C, S, P>>, Vec<Port<C>>)
+    requires count { vec_len ports ≡ C.config.workers }
+    requires ports { ports.items ≡ new_ports_from (3 + C.config.endpoints) (vec_len ports) }
+    requires pagers { vec_len pagers ≡ vec_len ports }
+    requires turns { turns ≡ S.turns }
+    requires none { vec_len room ≡ 0 }
+    requires room { vec_len ports ≤ vec_capacity room }
+    ensures threads { vec_len result.0 ≡ vec_len ports }
+    ensures none { vec_len result.1 ≡ 0 }
+    ensures room { vec_len ports ≤ vec_capacity result.1 }
+{
+    let (mut ports, mut pagers, mut threads) = (ports, pagers, room);
+    while let Some(port) = ports.pop() {
+        let Some(pager) = pagers.pop() else {
+            unreachable!()
+        };
+        let worker = ports.len() as u64;
+        threads.push_reserved(WorkerThread::new(worker, port, pager, turns));
+    }
+    (threads, ports)
+}
+
+/// Starts a thread for each, and joins those that were started.
 fn run_all<
     C: Ledgers + Send + Sync,
+    S: Plan + Send,
     R: Threads + Wait + Sync,
     D: Device + Send + Drop,
     P: Pager + Send + Drop,
 >(
     rt: &R,
     fabric: &Fabric<C>,
-    hosts: &mut [HostThreadState<C>],
-    states: &mut [ThreadState<C, D, P>],
-) -> bool {
-    let hosts = hosts.iter_mut();
-    let states = states.iter_mut();
+    host: &mut HostThread<C, S>,
+    link: &mut LinkThread<C, S>,
+    service: &mut ServiceThread<C, S>,
+    endpoints: &mut [EndpointThread<C, S, D>],
+    workers: &mut [WorkerThread<C, S, P>],
+) {
+    let endpoints = endpoints.iter_mut();
+    let workers = workers.iter_mut();
     thread::scope(thread::scope_env(), rt, move |scope| {
-        let mut all = true;
-        for state in states {
-            all &= scope.spawn(move || state.run(rt, fabric)).is_ok();
-        }
-        for host in hosts {
-            all &= scope.spawn(move || host.run(rt, fabric)).is_ok();
-        }
-        all
-    })
+        start_singles(scope, rt, fabric, host, link, service);
+        start_endpoints(scope, rt, fabric, endpoints);
+        start_workers(scope, rt, fabric, workers);
+    });
 }
 
-/// Takes all states apart but the host's.
-fn take_all_apart<C: Ledgers, D: Device + Drop, P: Pager + Drop>(
-    states: Vec<ThreadState<C, D, P>>,
-    endpoint_count: usize,
-    room: Room<C>,
-) -> PartThreads<C>
-    requires some { 2 ≤ vec_len states }
-    requires endpoints { vec_len states ≤ vec_capacity room.endpoints }
-    requires workers { vec_len states ≤ vec_capacity room.workers }
-    requires tickets { vec_len states * 16 ≤ vec_capacity room.tickets }
-    ensures lacked { result.lacked ≡ one_lacks (lacks_of states.items) }
-    ensures ports { vec_len result.endpoints + vec_len result.workers + 2 ≡ vec_len states }
+/// Starts the threads of the host, of the link and of the service.
+fn start_singles<'s, E, C, S, R>(
+    scope: &Scope<'s, E>,
+    rt: &'s R,
+    fabric: &'s Fabric<C>,
+    host: &'s mut HostThread<C, S>,
+    link: &'s mut LinkThread<C, S>,
+    service: &'s mut ServiceThread<C, S>,
+)
+where
+    C: Ledgers + Send + Sync,
+    S: Plan + Send,
+    R: Threads + Wait + Sync,
 {
-    let Room {
-        mut tickets,
-        mut endpoints,
-        mut workers,
-    } = room;
-    let mut states = states;
-    let (link, link_lacked) = leave_last(&mut states, &mut tickets);
-    let (service, service_lacked) = leave_last(&mut states, &mut tickets);
-    let lacked = leave_all(
-        states,
-        endpoint_count,
-        &mut endpoints,
-        &mut workers,
-        &mut tickets,
-    );
-    PartThreads {
-        link,
-        service,
-        endpoints,
-        workers,
-        tickets,
-        lacked: lacked | link_lacked | service_lacked,
+    let _ = scope.spawn(move || host.run(rt, fabric));
+    let _ = scope.spawn(move || link.run(rt, fabric));
+    let _ = scope.spawn(move || service.run(rt, fabric));
+}
+
+/// Starts a thread for each endpoint.
+fn start_endpoints<'s, E, C, S, R, D>(
+    scope: &Scope<'s, E>,
+    rt: &'s R,
+    fabric: &'s Fabric<C>,
+    threads: IterMut<'s, EndpointThread<C, S, D>>,
+)
+where
+    C: Ledgers + Send + Sync,
+    S: Plan + Send,
+    R: Threads + Wait + Sync,
+    D: Device + Send + Drop,
+{
+    for thread in threads {
+        let _ = scope.spawn(move || thread.run(rt, fabric));
     }
 }
 
-/// Takes the last state apart.
-fn leave_last<C: Ledgers, D: Device + Drop, P: Pager + Drop>(
-    states: &mut Vec<ThreadState<C, D, P>>,
-    tickets: &mut Vec<UseTicket<C>>,
-) -> (Port<C>, bool)
-    requires some { 1 ≤ vec_len states.old }
-    requires room { vec_len tickets.old + 16 ≤ vec_capacity tickets.old }
-    ensures lacked { lacks_of states.old.items ≡ lacks_of states.new.items ++ result.1 ∷ [] }
-    ensures less { vec_len states.new + 1 ≡ vec_len states.old }
-    ensures len { vec_len tickets.new ≤ vec_len tickets.old + 16 }
-    ensures room { vec_capacity tickets.new ≡ vec_capacity tickets.old }
+/// Starts a thread for each worker.
+fn start_workers<'s, E, C, S, R, P>(
+    scope: &Scope<'s, E>,
+    rt: &'s R,
+    fabric: &'s Fabric<C>,
+    threads: IterMut<'s, WorkerThread<C, S, P>>,
+)
+where
+    C: Ledgers + Send + Sync,
+    S: Plan + Send,
+    R: Threads + Wait + Sync,
+    P: Pager + Send + Drop,
 {
-    let Some(state) = states.pop() else {
-        unreachable!()
-    };
-    state.leave(tickets)
+    for thread in threads {
+        let _ = scope.spawn(move || thread.run(rt, fabric));
+    }
 }
 
-/// Takes states apart: the ports of so many endpoints, and those of the workers behind them. Tells whether a thread wanted memory.
-fn leave_all<C: Ledgers, D: Device + Drop, P: Pager + Drop>(
-    states: Vec<ThreadState<C, D, P>>,
-    endpoint_count: usize,
-    endpoints: &mut Vec<Port<C>>,
-    workers: &mut Vec<Port<C>>,
+/// Takes the threads of the endpoints apart. Tells whether one of them wanted memory.
+fn leave_endpoints<C: Ledgers, S: Plan, D: Device + Drop>(
+    threads: Vec<EndpointThread<C, S, D>>,
+    ports: &mut Vec<Port<C>>,
     tickets: &mut Vec<UseTicket<C>>,
 ) -> bool
-    requires endpoints { vec_len endpoints.old + vec_len states ≤ vec_capacity endpoints.old }
-    requires workers { vec_len workers.old + vec_len states ≤ vec_capacity workers.old }
-    requires tickets { vec_len tickets.old + vec_len states * 16 ≤ vec_capacity tickets.old }
-    ensures lacked { result ≡ one_lacks (lacks_of states.items) }
-    ensures ports { vec_len endpoints.new + vec_len workers.new ≡ vec_len endpoints.old + vec_len workers.old + vec_len states }
+    requires none { vec_len ports.old ≡ 0 }
+    requires ports { vec_len threads ≤ vec_capacity ports.old }
+    requires tickets { vec_len tickets.old + vec_len threads * 16 ≤ vec_capacity tickets.old }
+    ensures lacking { result ≡ one_lacks threads.items }
+    ensures played { result ≡ false → AreEach (IsOfEndpoint C.config S.steps S.turns) ports.new.items }
+    ensures ports { vec_len ports.new ≡ vec_len threads }
 {
-    let mut states = states;
-    let mut lacked = false;
-    while !states.is_empty() {
-        let (port, out_of_memory) = leave_last(&mut states, tickets);
-        lacked |= out_of_memory;
-        put_port(port, endpoint_count, endpoints, workers);
+    let mut threads = threads;
+    let mut lacking = false;
+    while let Some(thread) = threads.pop() {
+        let (port, lacks) = thread.leave(tickets);
+        lacking |= lacks;
+        ports.push_reserved(port);
     }
-    states.destroy_empty();
-    lacked
+    threads.destroy_empty();
+    lacking
 }
 
-/// Puts a port to those of the endpoints, while these are fewer than so many, and else to those of the workers.
-fn put_port<C: Ledgers>(
-    port: Port<C>,
-    endpoint_count: usize,
-    endpoints: &mut Vec<Port<C>>,
-    workers: &mut Vec<Port<C>>,
-)
-    requires endpoints { vec_len endpoints.old < vec_capacity endpoints.old }
-    requires workers { vec_len workers.old < vec_capacity workers.old }
-    ensures endpoints { vec_len endpoints.new ≤ vec_len endpoints.old + 1 }
-    ensures workers { vec_len workers.new ≤ vec_len workers.old + 1 }
-    ensures one { vec_len endpoints.new + vec_len workers.new ≡ vec_len endpoints.old + vec_len workers.old + 1 }
-    ensures endpoint_room { vec_capacity endpoints.new ≡ vec_capacity endpoints.old }
-    ensures worker_room { vec_capacity workers.new ≡ vec_capacity workers.old }
+/// Takes the threads of the workers apart. Tells whether one of them wanted memory.
+fn leave_workers<C: Ledgers, S: Plan, P: Pager + Drop>(
+    threads: Vec<WorkerThread<C, S, P>>,
+    ports: &mut Vec<Port<C>>,
+) -> bool
+    requires none { vec_len ports.old ≡ 0 }
+    requires ports { vec_len threads ≤ vec_capacity ports.old }
+    ensures lacking { result ≡ one_lacks threads.items }
+    ensures played { result ≡ false → AreEach (IsOfWorker C.config S.turns) ports.new.items }
+    ensures ports { vec_len ports.new ≡ vec_len threads }
 {
-    if endpoints.len() < endpoint_count {
-        endpoints.push_reserved(port);
-    } else {
-        workers.push_reserved(port);
+    let mut threads = threads;
+    let mut lacking = false;
+    while let Some(thread) = threads.pop() {
+        let (port, lacks) = thread.leave();
+        lacking |= lacks;
+        ports.push_reserved(port);
     }
+    lacking
 }

@@ -177,17 +177,31 @@ fn reports_large_texts(rt: HostRuntime) -> Result<(), Fail> {
     Ok(())
 }
 
-/// Ends a run of a reader that never ends, a byte a call, in a fault, with nothing written?
-fn reads_no_further(alloc: Global) -> bool {
-    let ended = driven(alloc, Broken::new(u64::MAX), Slow::new(64));
+/// Did all calls of a reader that never ends, a byte a call, end in a fault, with nothing written?
+fn has_read_no_further(ended: &Ended<Broken, Slow>) -> bool {
     ended.result == Err(DriveFault::Read)
         && (ended.reader.calls(), ended.reader.failures()) == (2_097_152, 0)
         && is_untouched(&ended.writer)
 }
 
+/// Does reading a scenario to be played end so?
+fn hands_out_no_further(alloc: Global) -> bool {
+    let mut reader = Told::new(Broken::new(u64::MAX));
+    let mut writer = Told::new(Slow::new(64));
+    let fault = read_scenario(alloc, &mut reader, &mut writer).err();
+    fault == Some(DriveFault::Read)
+        && (reader.calls(), reader.failures()) == (2_097_152, 0)
+        && is_untouched(&writer)
+}
+
 #[test]
 fn stops_at_a_reader_without_end(rt: HostRuntime) {
-    assert!(rt; reads_no_further(rt.alloc()));
+    let alloc = rt.alloc();
+    let run = driven(alloc, Broken::new(u64::MAX), Slow::new(64));
+    assert!(rt; has_read_no_further(&run));
+    let test = checked(alloc, Broken::new(u64::MAX), Slow::new(64));
+    assert!(rt; has_read_no_further(&test));
+    assert!(rt; hands_out_no_further(alloc));
 }
 
 /// Gives its bytes one a call.

@@ -8,16 +8,18 @@ use sva_fabric::Fabric;
 use sva_step::{Answer, Refusal, Verdict};
 use sva_storm::{Ended, Ledgers, Pager, Port, Ports, Tokens, fault_loop};
 
-/// Says the same of each job, and keeps what it was told of the last one.
+/// Says the same of each job, and keeps what it was told of the last one, and how often it was asked.
 #[derive(Drop)]
 struct Saying {
     verdict: Verdict,
     told: Option<(u64, u8, u32)>,
+    asked: u64,
 }
 
 impl Pager for Saying {
     fn decide(&mut self, binding: u64, group: u8, pages: u32) -> Verdict {
         self.told = Some((binding, group, pages));
+        self.asked = self.asked.wrapping_add(1);
         self.verdict
     }
 }
@@ -154,7 +156,7 @@ fn a_failure(rt: HostRuntime) {
     assert!(rt; plays_alone(&rt, rt.alloc(), Tried::Fails) == (4, 0, 0));
 }
 
-/// The worker has so many turns with a pager that says this. Tells what the pager was told.
+/// The worker has so many turns with a pager that says this of its one job, and is asked once. Tells what the pager was told.
 fn says<C: Ledgers, R: Wait + Abort>(
     rt: &R,
     alloc: Global,
@@ -169,6 +171,7 @@ fn says<C: Ledgers, R: Wait + Abort>(
     let mut pager = Saying {
         verdict,
         told: None,
+        asked: 0,
     };
     let Ended {
         turns_left,
@@ -176,7 +179,7 @@ fn says<C: Ledgers, R: Wait + Abort>(
         tickets,
     } = fault_loop(fabric, rt, alloc, worker, 0, &mut pager, turns);
     tickets.destroy_empty();
-    assert!(rt; (turns_left, out_of_memory) == (0, false));
+    assert!(rt; (turns_left, out_of_memory, pager.asked) == (0, false, 1));
     pager.told
 }
 
@@ -209,4 +212,38 @@ pub(crate) fn refused_success<C: Ledgers, R: Wait + Abort>(
 #[test]
 fn a_success_that_is_refused(rt: HostRuntime) {
     assert!(rt; plays_alone(&rt, rt.alloc(), Tried::RefusedSuccess) == (3, 1, 0));
+}
+
+/// A page that was asked for, and may be mapped.
+const ASKED_FOR: Setting = Setting {
+    mapped: "config 1 4 1\nspace\n",
+    bound: &[(0, 0)],
+    moved: "config 1 4 1\ndeliver 0\nfault 0 1 32 w new last\ndeliver 1\nserve 0\n",
+};
+
+/// A pager's `Invalid` is answered `Invalid`, and the endpoint may ask again then.
+pub(crate) fn invalid<C: Ledgers, R: Wait + Abort>(
+    rt: &R,
+    alloc: Global,
+    fabric: &Fabric<C>,
+    ports: &mut Ports<C>,
+    tokens: &mut Tokens<C>,
+) {
+    set_up(rt, alloc, fabric, ports, &ASKED_FOR, tokens);
+    let Tokens { tickets, .. } = tokens;
+    let Ports { link, workers, .. } = ports;
+    let told = says(rt, alloc, fabric, workers, Verdict::Invalid, 2);
+    assert!(rt; told == Some((0, 0, 1)));
+    for worker in workers.iter() {
+        assert!(rt; worker.calls() == 2);
+        assert!(rt; last_answer(worker) == Some(Ok(Answer::Invalid)));
+    }
+    let _link = sets(rt, alloc, fabric, link, ASKS_AGAIN, tickets);
+}
+
+const ASKS_AGAIN: &str = "config 1 4 1\ndeliver 2\nfault 0 1 32 w new last\n";
+
+#[test]
+fn a_job_that_is_invalid(rt: HostRuntime) {
+    assert!(rt; plays_alone(&rt, rt.alloc(), Tried::Invalid) == (4, 0, 0));
 }

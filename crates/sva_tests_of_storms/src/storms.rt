@@ -7,6 +7,7 @@ use crate::worlds::scenario;
 use std::alloc::Global;
 use std::process::Abort;
 use std::sync::Wait;
+use std::sync::atomic::{AtomicU64, Ordering};
 use std::thread::Threads;
 use sva_step::Verdict;
 use sva_storm::{Audit, Device, Pager, StormFault, storm};
@@ -160,6 +161,61 @@ fn pagers_meet<R: Threads + Wait + Abort + Sync>(
     assert!(rt; pagers.push(marks.second(1_000_000)).is_ok());
     let devices = some(rt, alloc, Plain, scenario.config.endpoints);
     storm(rt, alloc, &scenario, 100_000, devices, pagers)
+}
+
+const APART: &str = "config 2 4 1
+space
+map 0 16 w
+map 0 17 w
+bind 0 0
+bind 1 0
+ask 0 1 16
+ask 1 1 17
+use 0 1 16 w
+use 1 1 17 r
+";
+
+/// Notes what it was told of a use.
+#[derive(Drop)]
+struct Noting<'a> {
+    told: &'a AtomicU64,
+}
+
+impl<'a> Device for Noting<'a> {
+    fn touch(&mut self, frame: u32, write: bool) {
+        self.told.store(noted(frame, write), Ordering::SeqCst);
+    }
+}
+
+/// What is noted of a use. Where none was told of, 0 is.
+fn noted(frame: u32, write: bool) -> u64 {
+    let number = u64::from(frame) * 2 + 2;
+    if write { number + 1 } else { number }
+}
+
+/// A storm in which the device of each endpoint notes its use.
+fn notes<R: Threads + Wait + Abort + Sync>(
+    rt: &R,
+    alloc: Global,
+    one: &AtomicU64,
+    two: &AtomicU64,
+) -> Result<Audit, StormFault> {
+    let scenario = scenario(rt, alloc, APART);
+    assert!(rt; scenario.config.endpoints == 2);
+    let mut devices = Vec::new(alloc);
+    assert!(rt; devices.push(Noting { told: one }).is_ok());
+    assert!(rt; devices.push(Noting { told: two }).is_ok());
+    let pagers = some(rt, alloc, Plain, scenario.config.workers);
+    storm(rt, alloc, &scenario, 100_000, devices, pagers)
+}
+
+/// Each endpoint has its own device: it is told the frame of its own page.
+#[test]
+fn two_devices_apart(rt: HostRuntime) {
+    let (one, two) = (AtomicU64::new(0), AtomicU64::new(0));
+    assert!(rt; frames(&rt, notes(&rt, rt.alloc(), &one, &two)) == 4);
+    assert!(rt; one.load(Ordering::SeqCst) == noted(0, true));
+    assert!(rt; two.load(Ordering::SeqCst) == noted(1, false));
 }
 
 /// How many frames the audit of a storm counts.

@@ -2,7 +2,7 @@
 
 ghost use Rattle.std.specs.Prelude.{◌≡◌, ◌+◌};
 
-use crate::callbacks::{fails, refused_success, seventeen_uses, touches};
+use crate::callbacks::{fails, invalid, refused_success, seventeen_uses, touches};
 use crate::loops::{two_jobs, two_uses};
 use crate::tokens::{job_in_hand, reset_in_use};
 use std::alloc::Global;
@@ -23,6 +23,7 @@ pub(crate) enum Tried {
     Touches,
     SeventeenUses,
     Fails,
+    Invalid,
     RefusedSuccess,
     TwoUses,
     TwoJobs,
@@ -253,6 +254,7 @@ fn played<C: Ledgers + Send + Sync, R: Threads + Wait + Abort + Sync>(
         Tried::Touches => touches(rt, alloc, fabric, &mut ports, &mut tokens),
         Tried::SeventeenUses => seventeen_uses(rt, alloc, fabric, &mut ports, &mut tokens),
         Tried::Fails => fails(rt, alloc, fabric, &mut ports, &mut tokens),
+        Tried::Invalid => invalid(rt, alloc, fabric, &mut ports, &mut tokens),
         Tried::RefusedSuccess => refused_success(rt, alloc, fabric, &mut ports, &mut tokens),
         Tried::TwoUses => two_uses(rt, alloc, fabric, &mut ports, &mut tokens),
         Tried::TwoJobs => two_jobs(rt, alloc, fabric, &mut ports, &mut tokens),

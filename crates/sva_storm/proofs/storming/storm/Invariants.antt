@@ -9,3 +9,7 @@ ghosts-play_all-C-Ledgers g a = record {
   bindings = a.blanks.bindings.name;
   uses = a.blanks.uses.name;
 }
+
+-- the lines of the scenario, and the turns that each thread is given
+abbrev pub ghosts-play_all-S-Plan : goal.ghosts-play_all-S-Plan
+ghosts-play_all-S-Plan g a = record { steps = a.scenario.now.steps; turns = a.turns }

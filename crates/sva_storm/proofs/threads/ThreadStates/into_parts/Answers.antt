@@ -1,12 +1,16 @@
-use Rattle.std.proofs.Common.{◌≡◌, ◌∙◌, length, sym, arith}
-use Rattle.sva_storm.proofs.Lacking.{either, host_lacks}
+use Rattle.sva_storm.proofs.Rows.{neither}
 use Rattle.sva_storm.proofs.threads.ThreadStates.into_parts.Goals as goal
 
-pub returns-clause-ports : goal.returns-clause-ports
-returns-clause-ports g c = omega arith
-
-pub returns-clause-lacked : goal.returns-clause-lacked
-returns-clause-lacked g c =
-    let one : length c.args.self.host ≡ 1 = omega arith in
-    c.with_host.ensures.lacked
-    ∙ either _ _ _ _ c.take_all_apart-parts.ensures.lacked (sym (host_lacks c.args.self.host c.host-1.given.0 one c.host-1.given.1))
+pub returns-clause-played : goal.returns-clause-played
+returns-clause-played g c none =
+    let all = neither _ _ none in
+    let most = neither _ _ all.0 in
+    let three = neither _ _ most.0 in
+    let two = neither _ _ three.0 in
+    record {
+      host = c.leave-host.ensures.played two.0;
+      link = c.leave-link.ensures.played two.1;
+      service = c.leave-service.ensures.played three.1;
+      endpoints = c.leave_endpoints-endpoint_lacks.ensures.played most.1;
+      workers = c.leave_workers-worker_lacks.ensures.played all.1;
+    }

@@ -1,0 +1,81 @@
+//! The threads of the link and of the service.
+
+ghost use Rattle.std.specs.Prelude.{◌≡◌, ◌-◌, ◌≤◌, true};
+ghost use Rattle.sva_step.specs.Steps.{is_plain};
+ghost use Rattle.sva_loops.specs.Asks.{HasDelivered, HasServed, IsAsked, service_at};
+
+use crate::endings::{Spent, Turn};
+use crate::using::turn_of;
+use std::sync::Wait;
+use std::thread::yield_now;
+use sva_fabric::{Fabric, Ledgers, Port};
+use sva_step::Step;
+
+/// Asks a step that needs no token once.
+fn ask<C: Ledgers, R: Wait>(fabric: &Fabric<C>, rt: &R, port: &mut Port<C>, step: &Step) -> Turn
+    requires plain { is_plain step.now ≡ true }
+    ensures asked { IsAsked C.config step.now port.old port.new result }
+{
+    turn_of(fabric.step(rt, port, step))
+}
+
+/// Delivers the messages by their numbers, from 0 on, each tried until it is accepted.
+pub fn link<C: Ledgers, R: Wait>(
+    fabric: &Fabric<C>,
+    rt: &R,
+    port: &mut Port<C>,
+    turns: u64,
+) -> Spent
+    ensures delivered { HasDelivered C.config (turns - result.turns_left) result.turns_left result.out_of_memory port.old port.new }
+    ensures turns { result.turns_left ≤ turns }
+{
+    let mut message = 0;
+    for turn in 0..turns {
+        match ask(fabric, rt, port, &Step::Deliver { message }) {
+            Turn::Accepted => message += 1,
+            Turn::Again => yield_now(),
+            ended => return Spent::by(ended, turns - turn - 1),
+        }
+    }
+    Spent {
+        turns_left: 0,
+        out_of_memory: false,
+    }
+}
+
+/// What the service does in a turn: it pumps and serves each endpoint in turn. A world has one endpoint at least.
+fn service_step(turn: u64, endpoints: u64) -> Step
+    ensures plain { is_plain result ≡ true }
+    ensures step { result ≡ service_at turn endpoints }
+{
+    let endpoint = turn / 2 % endpoints.max(1);
+    if turn % 2 == 0 {
+        Step::Pump { endpoint }
+    } else {
+        Step::Serve { endpoint }
+    }
+}
+
+/// Pumps and serves each of the endpoints in turn.
+pub fn service<C: Ledgers, R: Wait>(
+    fabric: &Fabric<C>,
+    rt: &R,
+    port: &mut Port<C>,
+    endpoints: u64,
+    turns: u64,
+) -> Spent
+    ensures served { HasServed C.config endpoints (turns - result.turns_left) result.turns_left result.out_of_memory port.old port.new }
+    ensures turns { result.turns_left ≤ turns }
+{
+    for turn in 0..turns {
+        match ask(fabric, rt, port, &service_step(turn, endpoints)) {
+            Turn::Accepted => {}
+            Turn::Again => yield_now(),
+            ended => return Spent::by(ended, turns - turn - 1),
+        }
+    }
+    Spent {
+        turns_left: 0,
+        out_of_memory: false,
+    }
+}

@@ -20,7 +20,11 @@ pub(crate) fn counted<C: Ledgers, R: Wait + Abort>(
 }
 
 /// How many frames are free, mapped and withheld, as a port is told.
-fn tells<C: Ledgers, R: Wait + Abort>(rt: &R, fabric: &Fabric<C>, port: &Port<C>) -> (u32, u32, u32) {
+fn tells<C: Ledgers, R: Wait + Abort>(
+    rt: &R,
+    fabric: &Fabric<C>,
+    port: &Port<C>,
+) -> (u32, u32, u32) {
     let Ok(counts) = fabric.counts(rt, port) else {
         panic!(rt; "they are told");
     };

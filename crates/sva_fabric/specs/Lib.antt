@@ -4,3 +4,4 @@ pub mod Audits
 pub mod Once
 pub mod Tokens
 pub mod TokenNumbers
+pub mod FaultTexts

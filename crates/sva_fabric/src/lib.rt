@@ -5,6 +5,7 @@
 mod auditing;
 mod audits;
 mod fabric;
+mod fault_texts;
 mod faults;
 mod gathering;
 mod laws;

@@ -7,7 +7,7 @@ use itoa::Buffer;
 use std::alloc::AllocError;
 
 /// Why a line of a scenario can't be read. In one line the earlier cause of this list comes first.
-#[derive(Clone, Copy, PartialEq, Eq)]
+#[derive(Clone, Copy, Debug, PartialEq, Eq)]
 pub enum Cause {
     /// The first line that isn't skipped doesn't begin with the word `config`, or there is none.
     NoConfig,
@@ -37,7 +37,7 @@ impl Cause {
 }
 
 /// The first line of a scenario that can't be read.
-#[derive(Clone, Copy)]
+#[derive(Clone, Copy, Debug)]
 pub struct LineFault {
     /// The line's number, from 1 on. It is 0 where the text is too large.
     pub line: u64,
@@ -65,7 +65,7 @@ impl LineFault {
 }
 
 /// Why there is no scenario.
-#[derive(Clone, Copy)]
+#[derive(Clone, Copy, Debug)]
 pub enum ParseFault {
     /// A line can't be read.
     Line(LineFault),

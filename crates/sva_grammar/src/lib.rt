@@ -1,6 +1,7 @@
 //! The grammar of scenarios: what config and which steps a text writes, or the first line that can't be read.
 #![tactic(auto)]
 
+mod fault_texts;
 mod faults;
 mod forms;
 mod grammar;

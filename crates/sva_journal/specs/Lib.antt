@@ -5,3 +5,4 @@ pub mod Agreement
 pub mod Suiting
 pub mod Books
 pub mod Receipts
+pub mod FaultTexts

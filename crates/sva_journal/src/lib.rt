@@ -7,6 +7,7 @@ mod blanks;
 mod books;
 mod call_tokens;
 mod comparing;
+mod fault_texts;
 mod journal;
 mod ledgers;
 mod receipts;

@@ -7,6 +7,7 @@ ghost use Rattle.sva_loops.specs.LoopTokens.{has_lease, has_leaving, tokens_of_b
 ghost use Rattle.sva_loops.specs.Plays.{HasPlayed, IsTry, IsTurn};
 
 use crate::endings::{Spent, Turn};
+use crate::spending::spend;
 use crate::using::{turn_after, turn_of};
 use std::sync::Wait;
 use std::thread::yield_now;
@@ -61,23 +62,10 @@ pub fn host<C: Ledgers, R: Wait>(
     ensures turns { result.turns_left ≤ turns }
 {
     let mut accepted = 0;
-    for turn in 0..turns {
-        let Some(line) = script.get(accepted) else {
-            return Spent {
-                turns_left: turns - turn,
-                out_of_memory: false,
-            };
-        };
-        match host_turn(fabric, rt, port, line, tokens) {
-            Turn::Accepted => accepted += 1,
-            Turn::Again => yield_now(),
-            ended => return Spent::by(ended, turns - turn - 1),
-        }
-    }
-    Spent {
-        turns_left: 0,
-        out_of_memory: false,
-    }
+    spend!(
+        turn in turns, line of script.get(accepted) => host_turn(fabric, rt, port, line, tokens),
+        accepted += 1
+    )
 }
 
 /// One try of a line.

@@ -7,6 +7,7 @@ mod endings;
 mod hosting;
 mod linking;
 mod paging;
+mod spending;
 mod tickets;
 mod using;
 

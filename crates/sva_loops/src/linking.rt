@@ -5,6 +5,7 @@ ghost use Rattle.sva_step.specs.Steps.{is_plain};
 ghost use Rattle.sva_loops.specs.Asks.{HasDelivered, HasServed, IsAsked, service_at};
 
 use crate::endings::{Spent, Turn};
+use crate::spending::spend;
 use crate::using::turn_of;
 use std::sync::Wait;
 use std::thread::yield_now;
@@ -30,17 +31,7 @@ pub fn link<C: Ledgers, R: Wait>(
     ensures turns { result.turns_left ≤ turns }
 {
     let mut message = 0;
-    for turn in 0..turns {
-        match ask(fabric, rt, port, &Step::Deliver { message }) {
-            Turn::Accepted => message += 1,
-            Turn::Again => yield_now(),
-            ended => return Spent::by(ended, turns - turn - 1),
-        }
-    }
-    Spent {
-        turns_left: 0,
-        out_of_memory: false,
-    }
+    spend!(turn in turns => ask(fabric, rt, port, &Step::Deliver { message }), message += 1)
 }
 
 /// What the service does in a turn: it pumps and serves each endpoint in turn. A world has one endpoint at least.
@@ -67,15 +58,5 @@ pub fn service<C: Ledgers, R: Wait>(
     ensures served { HasServed C.config endpoints (turns - result.turns_left) result.turns_left result.out_of_memory port.old port.new }
     ensures turns { result.turns_left ≤ turns }
 {
-    for turn in 0..turns {
-        match ask(fabric, rt, port, &service_step(turn, endpoints)) {
-            Turn::Accepted => {}
-            Turn::Again => yield_now(),
-            ended => return Spent::by(ended, turns - turn - 1),
-        }
-    }
-    Spent {
-        turns_left: 0,
-        out_of_memory: false,
-    }
+    spend!(turn in turns => ask(fabric, rt, port, &service_step(turn, endpoints)), {})
 }

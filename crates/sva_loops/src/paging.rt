@@ -5,6 +5,7 @@ ghost use Rattle.sva_loops.specs.Jobs.{HasAnswered, IsJobTurn, is_left, verdict_
 
 use crate::callbacks::Pager;
 use crate::endings::{Ended, Spent, Turn};
+use crate::spending::spend;
 use crate::using::turn_of;
 use std::alloc::Global;
 use std::sync::Wait;
@@ -52,17 +53,7 @@ pub fn answer_jobs<C: Ledgers, R: Wait, P: Pager>(
     ensures answered { HasAnswered C.config worker (turns - result.turns_left) result.turns_left result.out_of_memory port.old port.new }
 {
     let mut decided = None;
-    for turn in 0..turns {
-        match take_turn(fabric, rt, port, worker, pager, &mut decided) {
-            Turn::Accepted => {}
-            Turn::Again => yield_now(),
-            ended => return Spent::by(ended, turns - turn - 1),
-        }
-    }
-    Spent {
-        turns_left: 0,
-        out_of_memory: false,
-    }
+    spend!(turn in turns => take_turn(fabric, rt, port, worker, pager, &mut decided), {})
 }
 
 /// One turn: a job is taken, or the one in hand is answered as was decided.

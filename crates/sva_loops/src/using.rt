@@ -7,6 +7,7 @@ ghost use Rattle.sva_loops.specs.Plays.{HasPlayed, IsTurn, turn_by, turn_after_f
 
 use crate::callbacks::Device;
 use crate::endings::{Ended, Spent, Turn};
+use crate::spending::spend;
 use crate::tickets::{MOST_TICKETS, place_of};
 use std::alloc::Global;
 use std::sync::Wait;
@@ -68,23 +69,10 @@ pub fn play<C: Ledgers, R: Wait, D: Device>(
         };
     }
     let mut accepted = 0;
-    for turn in 0..turns {
-        let Some(line) = script.get(accepted) else {
-            return Spent {
-                turns_left: turns - turn,
-                out_of_memory: false,
-            };
-        };
-        match take_turn(fabric, rt, port, device, line, tickets) {
-            Turn::Accepted => accepted += 1,
-            Turn::Again => yield_now(),
-            ended => return Spent::by(ended, turns - turn - 1),
-        }
-    }
-    Spent {
-        turns_left: 0,
-        out_of_memory: false,
-    }
+    spend!(
+        turn in turns, line of script.get(accepted) => take_turn(fabric, rt, port, device, line, tickets),
+        accepted += 1
+    )
 }
 
 /// One try of a line.

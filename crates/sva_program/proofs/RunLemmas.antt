@@ -64,7 +64,7 @@ nothing_of old text = ([], text, refl, appends_nothing old)
 unwritten_by : (asked : Asked) (text : List ℕ) (old : Option (List ℕ)) → Makes asked text old old (Err Memory)
 unwritten_by Replay text old = (nothing_of old (report_of text), tt)
 unwritten_by Check text old = (nothing_of old (check_of text), tt)
-unwritten_by (Storm turns) text old = lacking_of text old Memory
+unwritten_by (Storm turns) text old = lacking_of text turns old
 
 pub unwritten : (asked : Asked) (input old new : Option (List ℕ)) → new ≡ old → Reports asked input old new (Err Memory)
 unwritten asked None old new e = tt

@@ -41,12 +41,13 @@ Says contents old new text =
     × (old.failures ≤ new.failures)
     × (new.failures ≤ old.failures + 1)
 
--- what a command makes of its input: it has written this text, or a prefix of it after a fault, and ends so. What a storm makes of it
--- depends on its threads: its audit is ok, and then all frames of the config are there; or it is bad
+-- What a command makes of its input: it has written this text, or a prefix of it after a fault, and ends so. What a storm makes of it
+-- depends on its threads: they have played the scenario in so many turns each, and what is written is what the audit of their receipts found,
+-- the sum of its own counts or a bad receipt; where memory lacked, nothing is.
 abbrev pub Makes : Asked → List ℕ → Option (List ℕ) → Option (List ℕ) → Result Outcome DriveFault → Type 0
 Makes Replay input old new ended = Writes old new (report_of input) ended × IfOk ended (λ outcome. outcome ≡ outcome_of input)
 Makes Check input old new ended = Writes old new (check_of input) ended × IfOk ended (λ outcome. outcome ≡ check_outcome_of input)
-Makes (Storm turns) input old new ended = StormsOf input old new ended
+Makes (Storm turns) input old new ended = StormsOf input turns old new ended
 
 -- what a command wrote, where its input is known; after a read fault nothing
 abbrev pub Reports : Asked → Option (List ℕ) → Option (List ℕ) → Option (List ℕ) → Result Outcome DriveFault → Type 0

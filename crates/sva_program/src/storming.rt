@@ -4,7 +4,7 @@ ghost use Rattle.std.specs.Prelude.{◌≡◌, ◌⊎◌, ◌≤◌, vec_len, If
 ghost use Rattle.std.specs.Io.KnownBytes.{IsAtEnd};
 ghost use Rattle.sva_step.specs.Limits.{Fits};
 ghost use Rattle.sva_scenario.specs.declared.reading.TheConstants.{MOST_TURNS};
-ghost use Rattle.sva_scenario.specs.Storms.{StormsOf};
+ghost use Rattle.sva_scenario.specs.Storms.{HasFoundFrames, StormsOf};
 ghost use Rattle.sva_scenario.specs.Streams.{IsNew};
 
 use std::alloc::{AllocError, Global};
@@ -33,8 +33,8 @@ impl Pager for Idle {
 
 /// Reads a scenario to its end, plays it by threads, each of which has so many turns, and writes what the audit says: `audit
 /// ok` and `frames N`, or `audit bad`. A line fault, or a config out of its limits, is written as in a report, and no thread is
-/// started. `Faulted` tells that it isn't `audit ok`. After `Write` or `Memory` a prefix of the text was written, after `Read`
-/// nothing.
+/// started. `Faulted` tells that it isn't `audit ok`. After `Write` a prefix of the text was written, after `Read` nothing; so after
+/// `Memory`, where there was a scenario to be played.
 pub(crate) fn drive_storm<X: Threads + Wait + Sync, R: Read, W: Write>(
     rt: &X,
     alloc: Global,
@@ -45,7 +45,7 @@ pub(crate) fn drive_storm<X: Threads + Wait + Sync, R: Read, W: Write>(
     requires reader { IsNew reader.old }
     requires writer { IsNew writer.old }
     ensures report { IfSome (R.remaining reader.old.inner)
-        (λ input. StormsOf input (W.contents writer.old.inner) (W.contents writer.new.inner) result) }
+        (λ input. StormsOf input turns (W.contents writer.old.inner) (W.contents writer.new.inner) result) }
     ensures end { OnOk result ((reader.new.failures ≡ 0) × IsAtEnd (R.remaining reader.new.inner) × (writer.new.failures ≡ 0)) }
     ensures read { result ≡ Err DriveFault.Read → (writer.new ≡ writer.old)
         × ((reader.new.failures ≡ 1) ⊎ ((reader.new.failures ≡ 0) × (reader.new.calls ≡ MOST_TURNS))) }
@@ -60,8 +60,8 @@ pub(crate) fn drive_storm<X: Threads + Wait + Sync, R: Read, W: Write>(
     report_audit(alloc, found, writer)
 }
 
-/// Plays a scenario by threads: the frames that the audit found, or none where it is bad. A config out of its limits has no storm; it is
-/// told before.
+/// Plays a scenario by threads: the frames that the audit found, the sum of its own counts, or none where it found a bad receipt. A config
+/// out of its limits has no storm; it is told before.
 fn play<X: Threads + Wait + Sync>(
     rt: &X,
     alloc: Global,
@@ -69,7 +69,7 @@ fn play<X: Threads + Wait + Sync>(
     turns: u64,
 ) -> Result<Option<u64>, DriveFault>
     requires { Fits scenario.now.config }
-    ensures frames { IfOk result (λ found. IfSome found (λ frames. frames ≡ scenario.now.config.frames)) }
+    ensures found { IfOk result (λ found. HasFoundFrames scenario.now.config scenario.now.steps turns found) }
     ensures memory { IfErr result (λ fault. fault ≡ DriveFault.Memory) }
 {
     let Ok(devices) = idlers(alloc, scenario.config.endpoints) else {

@@ -82,7 +82,7 @@ fn hand_out<W: Write>(
 }
 
 /// Writes what the audit of a storm says: `audit ok` and `frames N`, N the frames that it found, or `audit bad` where it found none.
-/// `Faulted` tells that it isn't `audit ok`. After `Write` or `Memory` a prefix of the text was written.
+/// `Faulted` tells that it isn't `audit ok`. After `Write` a prefix of the text was written, after `Memory` nothing.
 pub fn report_audit<W: Write>(
     alloc: Global,
     found: Option<u64>,
@@ -92,6 +92,7 @@ pub fn report_audit<W: Write>(
     ensures report { Writes (W.contents writer.old.inner) (W.contents writer.new.inner) (audit_text found) result }
     ensures outcome { IfOk result (λ outcome. outcome ≡ audit_outcome found) }
     ensures told { Tells writer.old writer.new result }
+    ensures memory { result ≡ Err DriveFault.Memory → writer.new ≡ writer.old }
 {
     let mut line = Vec::new(alloc);
     match found {

@@ -1,5 +1,7 @@
--- Rows of ports, lines and threads, from the last one on.
+-- Rows of ports, lines and threads, as they are taken apart: from the last one on.
 use Rattle.std.proofs.Common.{◌≡◌, ◌∙◌, ◌||◌, ℕ, zero, suc, ◌+◌, Bool, true, false, List, [], ◌∷◌, ◌++◌, length, ap, sym, subst, arith, refl, length-append}
+use Rattle.std.proofs.lemmas.Grind.{reverse_onto}
+use Rattle.std.specs.Prelude.{reverse}
 use Rattle.sva_step.specs.declared.limits.Config.{Config}
 use Rattle.sva_step.specs.declared.steps.Step.{Step}
 use Rattle.sva_fabric.specs.Audits.{new_ports}
@@ -80,6 +82,12 @@ new_rows config host link service endpoints workers is count =
 pub each_more : (Is : PortState → Type 0) (ports : List PortState) (port : PortState) → AreEach Is ports → Is port → AreEach Is (ports ++ port ∷ [])
 each_more Is [] port each one = (one, tt)
 each_more Is (p ∷ ports) port each one = (each.0, each_more Is ports port each.1 one)
+
+-- the same ports, turned round
+pub each_reversed : (Is : PortState → Type 0) (ports : List PortState) → AreEach Is ports → AreEach Is (reverse ports)
+each_reversed Is [] each = tt
+each_reversed Is (p ∷ ports) each =
+    subst (λ (ports : List PortState). AreEach Is ports) (sym (reverse_onto ports p [])) (each_more Is (reverse ports) p (each_reversed Is ports each.1) each.0)
 
 in_turn : (a b c : Bool) → (a || (b || c)) ≡ (b || (a || c))
 in_turn true true c = refl

@@ -13,6 +13,6 @@ pub enum StormFault {
     #[error("out of memory")]
     Memory,
     /// The audit found a receipt that doesn't stand in the journal, or calls or tokens that don't add up.
-    #[error("a receipt doesn't stand in the journal")]
+    #[error("{0}")]
     Bad(FirstBadReceipt),
 }

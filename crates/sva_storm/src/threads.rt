@@ -27,7 +27,7 @@ pub(crate) struct ThreadStates<C: Ledgers, S: Plan, D, P> {
     host: HostThread<C, S>,
     link: LinkThread<C, S>,
     service: ServiceThread<C, S>,
-    /// from the last one on, as those of the workers
+    /// by their numbers, as those of the workers
     endpoints: Vec<EndpointThread<C, S, D>>,
     workers: Vec<WorkerThread<C, S, P>>,
     room: Room<C>,
@@ -180,7 +180,8 @@ fn reserved<C: Ledgers, S: Plan, D>(
     }
 }
 
-/// The threads of the endpoints by their ports, from the last one on, and the room that the ports had.
+/// The threads of the endpoints by their ports, in their order, and the room that the ports had. A row of what can't be let go is made and
+/// taken apart from its end, and then turned round.
 fn endpoint_threads<C: Ledgers, S: Plan, D: Device + Drop>(
     alloc: Global,
     ports: Vec<Port<C>>,
@@ -209,10 +210,11 @@ fn endpoint_threads<C: Ledgers, S: Plan, D: Device + Drop>(
         let endpoint = ports.len() as u64;
         threads.push_reserved(EndpointThread::new(alloc, endpoint, port, own, device, turns));
     }
+    threads.as_mut_slice().reverse();
     (threads, ports)
 }
 
-/// The threads of the workers by their ports, from the last one on, and the room that the ports had.
+/// The threads of the workers by their ports, in their order, and the room that the ports had.
 fn worker_threads<C: Ledgers, S: Plan, P: Pager + Drop>(
     ports: Vec<Port<C>>,
     pagers: Vec<P>,
@@ -237,6 +239,7 @@ fn worker_threads<C: Ledgers, S: Plan, P: Pager + Drop>(
         let worker = ports.len() as u64;
         threads.push_reserved(WorkerThread::new(worker, port, pager, turns));
     }
+    threads.as_mut_slice().reverse();
     (threads, ports)
 }
 
@@ -320,7 +323,7 @@ where
     }
 }
 
-/// Takes the threads of the endpoints apart. Tells whether one of them wanted memory.
+/// Takes the threads of the endpoints apart: their ports in their order. Tells whether one of them wanted memory.
 fn leave_endpoints<C: Ledgers, S: Plan, D: Device + Drop>(
     threads: Vec<EndpointThread<C, S, D>>,
     ports: &mut Vec<Port<C>>,
@@ -341,10 +344,11 @@ fn leave_endpoints<C: Ledgers, S: Plan, D: Device + Drop>(
         ports.push_reserved(port);
     }
     threads.destroy_empty();
+    ports.as_mut_slice().reverse();
     lacking
 }
 
-/// Takes the threads of the workers apart. Tells whether one of them wanted memory.
+/// Takes the threads of the workers apart: their ports in their order. Tells whether one of them wanted memory.
 fn leave_workers<C: Ledgers, S: Plan, P: Pager + Drop>(
     threads: Vec<WorkerThread<C, S, P>>,
     ports: &mut Vec<Port<C>>,
@@ -362,5 +366,6 @@ fn leave_workers<C: Ledgers, S: Plan, P: Pager + Drop>(
         lacking |= lacks;
         ports.push_reserved(port);
     }
+    ports.as_mut_slice().reverse();
     lacking
 }

@@ -4,4 +4,4 @@ use Rattle.sva_scenario.specs.declared.streams.DriveFault.TheVariants.{Memory}
 use Rattle.sva_scenario.proofs.storming.judge.Goals as goal
 
 pub returns-clause-judged : goal.returns-clause-judged
-returns-clause-judged g c = judged_lacking (scenario_of c.args.text.now) _ Memory
+returns-clause-judged g c = judged_lacking (scenario_of c.args.text.now) _ Memory (λ wrong. absurd (cc wrong))

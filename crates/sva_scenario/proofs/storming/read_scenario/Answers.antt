@@ -1,6 +1,12 @@
-use Rattle.sva_scenario.proofs.StormLemmas.{kept_judged}
+use Rattle.std.proofs.Common.{ap, Err}
+use Rattle.sva_scenario.proofs.StormLemmas.{judged_unread, kept_judged}
 use Rattle.sva_scenario.proofs.EndLemmas.{ends_well, ends_not_by_reading, ends_by_writing, ends_for_memory}
 use Rattle.sva_scenario.proofs.storming.read_scenario.Goals as goal
+
+pub returns-in_err-text-clause-judged : goal.returns-in_err-text-clause-judged
+returns-in_err-text-clause-judged g c =
+    judged_unread (g.R.Read.remaining c.args.reader.now.inner) (g.W.Write.contents c.args.writer.now.inner) c.in_err-text.field-0.0
+    c.from_residual.result (λ is. c.in_err-text.ensures.write (ap Err is)) c.from_residual.ensures.1
 
 pub returns-clause-judged : goal.returns-clause-judged
 returns-clause-judged g c =

@@ -1,8 +1,9 @@
-use Rattle.std.proofs.Common.{sym, subst, arith, List}
+use Rattle.std.proofs.Common.{◌≡◌, ◌∙◌, ◌++◌, ap, sym, subst, arith, List, length, take, drop}
+use Rattle.std.proofs.Math.Seq.{take-append_seam}
 use Rattle.sva_fabric.specs.Receipts.{PortState}
 use Rattle.sva_storm.specs.Lacks.{one_lacks}
 use Rattle.sva_storm.specs.Played.{AreEach, IsOfEndpoint}
-use Rattle.sva_storm.proofs.Rows.{each_more, lacks_moved, neither}
+use Rattle.sva_storm.proofs.Rows.{each_more, each_reversed, lacks_moved, neither}
 use Rattle.sva_storm.proofs.threads.leave_endpoints.Goals as goal
 
 pub loop-thread-preserved : goal.loop-thread-preserved
@@ -19,3 +20,14 @@ loop-thread-preserved g c =
       room = omega (arith, c.push_reserved.ensures.capacity, kept.room);
       tickets = omega (arith, c.leave-port.ensures.len, c.leave-port.ensures.capacity, c.in-Some.ensures.len, kept.tickets);
     }
+
+pub returns-clause-played : goal.returns-clause-played
+returns-clause-played g c none =
+    let Is = IsOfEndpoint g.C.Ledgers.config g.S.Plan.steps g.S.Plan.turns in
+    let turned = c.reverse.new.self in
+    let rest = drop (length turned) c.loop-thread.ports.items in
+    let count : c.loop-thread.ports.len ≡ length turned = sym (c.reverse.ensures.len ∙ c.as_mut_slice.ensures.len) in
+    let items : take c.loop-thread.ports.len (turned ++ rest) ≡ turned = ap (λ n. take n (turned ++ rest)) count ∙ take-append_seam turned rest in
+    let played = subst (λ (ports : List PortState). AreEach Is ports) (sym c.as_mut_slice.ensures.value) (c.loop-thread.invariant.played none) in
+    subst (λ (ports : List PortState). AreEach Is ports) (sym items)
+    (subst (λ (ports : List PortState). AreEach Is ports) (sym c.reverse.ensures.after) (each_reversed Is _ played))

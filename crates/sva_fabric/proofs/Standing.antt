@@ -5,13 +5,13 @@ use Rattle.std.proofs.lemmas.Option.{slice_get_within}
 use Rattle.sva_frames.specs.declared.pool.Counts.{Counts}
 use Rattle.sva_step.specs.declared.limits.Config.{Config}
 use Rattle.sva_step.specs.declared.steps.Step.{Step}
-use Rattle.sva_journal.specs.declared.journal.Entry.{Entry}
-use Rattle.sva_journal.specs.declared.receipts.Receipt.{Receipt}
-use Rattle.sva_journal.specs.declared.running.Strayed.{Strayed}
-use Rattle.sva_journal.proofs.TokenLemmas.{length_more}
-use Rattle.sva_journal.specs.Journal.{History, IsLegal, CountsOf, entry_of, with_entry}
+use Rattle.sva_core.specs.declared.journal.Entry.{Entry}
+use Rattle.sva_core.specs.declared.receipts.Receipt.{Receipt}
+use Rattle.sva_core.specs.declared.running.Strayed.{Strayed}
+use Rattle.sva_core.proofs.TokenLemmas.{length_more}
+use Rattle.sva_core.specs.Journal.{History, IsLegal, CountsOf, entry_of, with_entry}
 use Rattle.sva_fabric.specs.Receipts.{PortState, AreRising, IsAnswered, IsCounted, IsAstray, last_of}
-use Rattle.sva_journal.specs.Receipts.{Stands, HasStrayed, IsAnsweredAt, entry_told}
+use Rattle.sva_core.specs.Receipts.{Stands, HasStrayed, IsAnsweredAt, entry_told}
 
 get_before : {A : Type 0} (xs ys : List A) (k : ℕ) (x : A) → slice_get xs k ≡ Some x → slice_get (xs ++ ys) k ≡ Some x
 get_before [] ys k x h = absurd (cc)

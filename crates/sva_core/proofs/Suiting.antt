@@ -15,7 +15,8 @@ use Rattle.sva_model.specs.State.Subject.{StartOf, StopOf, FunctionReset, Comple
 use Rattle.sva_model.specs.State.Subject.{MarkerOf, ResetDone}
 use Rattle.sva_model.specs.States.{Place, is_open, is_running, place}
 use Rattle.sva_model.specs.States.Place.{Free, Mapped, Withheld}
-use Rattle.sva_model.specs.Acts.{Act, waits}
+use Rattle.sva_model.specs.Unmappings.{waits}
+use Rattle.sva_model.specs.Acts.{Act}
 use Rattle.sva_model.specs.Words.{any_below, the}
 use Rattle.sva_model.specs.Replies.{response_to, reply_maps}
 use Rattle.sva_model.specs.Labels

@@ -2,7 +2,7 @@
 use Rattle.std.proofs.Common.{◌≡◌, refl, ap, sym, ◌∙◌, ℕ, suc, ◌+◌, ◌*◌, ◌^◌, ◌<◌, Bool, true, false}
 use Rattle.std.specs.Prelude.{nat_lt, if◌then◌else◌, Some, None, List, [], ◌∷◌, ◌++◌, map, filter, drop, length, slice_set, ◌||◌, not}
 use Rattle.sva_model.specs.Words.{tabulate, count_below}
-use Rattle.sva_model.specs.Acts.{disables, scope_of, sent_as, count_field}
+use Rattle.sva_model.specs.StateChanges.{disables, scope_of, sent_as, count_field}
 use Rattle.sva_model.specs.State.PasidState.{Off, On, Ending}
 use Rattle.sva_model.specs.Message.Message.{InvalidateMessage, RequestMessage, InvalidatedMessage, PageRequestMessage, MarkerMessage, ResetDoneMessage}
 use Rattle.sva_model.specs.Wire.{Wire, EndpointWire, DeviceWire, UnitWire, HostGroupWire}

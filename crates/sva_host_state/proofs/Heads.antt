@@ -6,7 +6,7 @@ use Rattle.sva_step.specs.declared.answers.Answer.TheVariants as answer
 use Rattle.sva_step.specs.declared.refusals.Refusal.{Refusal}
 use Rattle.sva_step.specs.declared.refusals.Refusal.TheVariants as refusal
 use Rattle.sva_step.specs.declared.steps.Step.TheVariants as step
-use Rattle.sva_model.specs.Acts.{scope_of}
+use Rattle.sva_model.specs.StateChanges.{scope_of}
 use Rattle.sva_model.specs.Message.Message.{InvalidateMessage}
 use Rattle.sva_model.specs.Refusals.{Cause}
 use Rattle.sva_model.specs.Wire.{Wire, EndpointWire, Descriptor}

@@ -16,7 +16,7 @@ use Rattle.sva_model.specs.State.OrderState.{Queued, Done}
 use Rattle.sva_model.specs.State.Phase.{Open}
 use Rattle.sva_model.specs.States.{is_open, is_unreleased, is_before_invalidating, is_open_group, is_done, is_wait, is_free, is_free_place, place}
 use Rattle.sva_model.specs.States.Place.{Free}
-use Rattle.sva_model.specs.Acts.{submits, submits_at, bound}
+use Rattle.sva_model.specs.Unmappings.{submits, submits_at, bound}
 use Rattle.sva_model.specs.Labels
 use Rattle.sva_model.specs.Refusals.{Cause, refusals, unbind_refusals, advance_refusals, is_queue_short, sends_invalidate, resetting, messages_spent}
 use Rattle.sva_model.specs.Outcomes.{Outcome, outcome}

@@ -11,7 +11,9 @@ use Rattle.sva_model.specs.State.Subject.{InvalidateOf, InvalidatedOf}
 use Rattle.sva_model.specs.State.Phase.{Cleared}
 use Rattle.sva_model.specs.States.{is_taken}
 use Rattle.sva_model.specs.Labels.{is_set}
-use Rattle.sva_model.specs.Acts.{LocalAct, act_alone, submitted, counted_if, completing_if, count_field}
+use Rattle.sva_model.specs.Unmappings.{submitted}
+use Rattle.sva_model.specs.StateChanges.{counted_if, completing_if, count_field}
+use Rattle.sva_model.specs.Acts.{LocalAct, act_alone}
 use Rattle.sva_laws.specs.Laws.{IsVectorOf, count_read, names_order, left_of}
 use Rattle.sva_lemmas.proofs.Words.{put-same, put-other}
 use Rattle.sva_lemmas.proofs.Counting.{count_off}

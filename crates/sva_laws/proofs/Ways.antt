@@ -12,7 +12,8 @@ use Rattle.sva_model.specs.State.HostGroupState.{NotFiled, Replied}
 use Rattle.sva_model.specs.State.Subject.{RequestOf, CompletionOf, InvalidateOf, ResponseOf, ResetDone}
 use Rattle.sva_model.specs.State.Phase.{Open}
 use Rattle.sva_model.specs.States.{is_out}
-use Rattle.sva_model.specs.Acts.{Act, LocalAct, act, act_alone, submitted, submitted_if, submits, bound, cookie_of}
+use Rattle.sva_model.specs.Unmappings.{submitted, submitted_if, submits, bound, cookie_of}
+use Rattle.sva_model.specs.Acts.{Act, LocalAct, act, act_alone}
 use Rattle.sva_model.specs.Acts.Act.{NewSpace, DropSpace, Map, Unmap, NewBinding, NewJob, Hold, LetGo, AtEndpoint}
 use Rattle.sva_model.specs.Steps.{decide, next, run, after_acts, world_after}
 use Rattle.sva_laws.proofs.Legal.{LegalLocalAct}

@@ -16,7 +16,7 @@ use Rattle.sva_model.specs.State.Subject.{FunctionReset, RequestOf}
 use Rattle.sva_model.specs.State.Phase.{Open}
 use Rattle.sva_model.specs.States.{is_unreleased, is_open_group, is_before_invalidating, is_wait, place}
 use Rattle.sva_model.specs.States.Place.{Free}
-use Rattle.sva_model.specs.Acts.{submits}
+use Rattle.sva_model.specs.Unmappings.{submits}
 use Rattle.sva_model.specs.Labels.{number, name, live_spaces, pages_of, free_frames, queue_length}
 use Rattle.sva_model.specs.Replies.{job_part, job_space}
 use Rattle.sva_laws.specs.Asked.{IsAskedFor, stage_of}

@@ -26,7 +26,7 @@ use Rattle.sva_model.specs.State.UseState.{Running, Ended}
 use Rattle.sva_model.specs.State.PageRequestState.{InFlight, Arrived}
 use Rattle.sva_model.specs.States.{is_unreleased, is_out, is_busy, is_outstanding, is_open_group, is_arrived, is_before_invalidating, is_wait, place}
 use Rattle.sva_model.specs.States.Place.{Free, Withheld}
-use Rattle.sva_model.specs.Acts.{binding_of, extent_of, scope_of}
+use Rattle.sva_model.specs.StateChanges.{binding_of, extent_of, scope_of}
 use Rattle.sva_model.specs.Labels.{number, is_mapped, outstanding, is_waiting, is_set, live_spaces, pages_of, asks, queue_length}
 use Rattle.sva_model.specs.Steps.{reply, counts, world_after}
 use Rattle.sva_model.specs.Claims.{Fits, Usable, IsPresent, IsAt, IsWithheld, IsDivided, IsMatched, IsBearer}

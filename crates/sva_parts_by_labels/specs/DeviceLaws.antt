@@ -5,7 +5,7 @@ use Rattle.std.specs.Prelude.{filter, slice_set}
 use Rattle.sva_step.specs.declared.answers.Answer.{Answer}
 use Rattle.sva_step.specs.declared.answers.Answer.TheVariants as answer
 use Rattle.sva_step.specs.Limits
-use Rattle.sva_model.specs.Acts.{sent_as}
+use Rattle.sva_model.specs.StateChanges.{sent_as}
 use Rattle.sva_model.specs.State.{PasidState as DeviceState}
 use Rattle.sva_model.specs.Wire.{DeviceWire, RequestWire, TranslationWire}
 use Rattle.sva_model.specs.Wire.UseWire.{RunningWire}

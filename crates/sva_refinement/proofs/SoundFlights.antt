@@ -10,7 +10,7 @@ use Rattle.sva_model.specs.State.PageRequestState.{Arrived}
 use Rattle.sva_model.specs.State.Subject.{StartOf, StopOf, FunctionReset, CompletionOf, InvalidateOf, ResponseOf, RequestOf, InvalidatedOf, PageRequestOf}
 use Rattle.sva_model.specs.State.Subject.{MarkerOf, ResetDone}
 use Rattle.sva_model.specs.States.{is_open, is_unreleased}
-use Rattle.sva_model.specs.Acts.{binding_of}
+use Rattle.sva_model.specs.StateChanges.{binding_of}
 use Rattle.sva_model.specs.Labels.{outstanding, is_waiting}
 use Rattle.sva_model.specs.Wire.{BindingWire, FlightWire, PageRequestWire, number, flight_wire, binding_wire, page_request_wire, stage_wire}
 use Rattle.sva_model.specs.Wire.{host_groups_wire, wire}

@@ -97,6 +97,11 @@ class Edit:
                 found["::".join([kind, name] if kind else [*module_of(file), name])] = None
         return list(found)
 
+    def path(self):
+        """The name by which the checker is asked for the edit's function."""
+        kind, name = self.function
+        return "::".join([kind, name] if kind is not None else [*module_of(self.file), name])
+
     def is_of(self, told):
         """Whether a name that the checker tells is that of the edit's function. A method stands there by its type, in whatever file its `impl` is."""
         kind, name = self.function

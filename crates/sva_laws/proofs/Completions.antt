@@ -16,7 +16,7 @@ use Rattle.sva_model.specs.StateChanges.{counted, counted_if, completing_if}
 use Rattle.sva_model.specs.Acts.{Act, LocalAct, act, act_alone, sends}
 use Rattle.sva_model.specs.Acts.Act.{NewSpace, DropSpace, Map, Unmap, NewBinding, NewJob, Hold, LetGo, AtEndpoint}
 use Rattle.sva_model.specs.Steps.{decide, next, run, after_acts, world_after}
-use Rattle.sva_laws.specs.Laws.{names_order, completions, left_of}
+use Rattle.sva_laws.specs.UnderWay.{names_order, completions, left_of}
 use Rattle.sva_lemmas.proofs.Words.{ℕ_cases}
 use Rattle.sva_lemmas.proofs.Counting.{count_same, count_zero, count_more, count_all, count_off}
 use Rattle.sva_laws.proofs.Legal.{LegalLocalAct}

@@ -17,7 +17,7 @@ use Rattle.sva_model.specs.Unmappings.{submitted_if, submits, bound, cookie_of}
 use Rattle.sva_model.specs.Acts.{Act, LocalAct, act, act_alone}
 use Rattle.sva_model.specs.Acts.Act.{NewSpace, DropSpace, Map, Unmap, NewBinding, NewJob, Hold, LetGo, AtEndpoint}
 use Rattle.sva_model.specs.Steps.{decide, next, run, after_acts, world_after}
-use Rattle.sva_laws.specs.Laws.{is_answerable}
+use Rattle.sva_laws.specs.UnderWay.{is_answerable}
 use Rattle.sva_laws.proofs.Legal.{LegalLocalAct}
 use Rattle.sva_laws.proofs.PageRequests.{is_whole}
 use Rattle.sva_laws.proofs.Invariant.{PartInvariant, Invariant}

@@ -18,7 +18,7 @@ use Rattle.sva_model.specs.Labels.{name, queue_length}
 use Rattle.sva_model.specs.Refusals.{refusals, is_queue_short}
 use Rattle.sva_model.specs.Outcomes.{outcome, is_full}
 use Rattle.sva_model.specs.Steps.{decide, next, run, after_acts, world_after}
-use Rattle.sva_laws.specs.Laws.{cached_translations}
+use Rattle.sva_laws.specs.LimitLaws.{cached_translations}
 use Rattle.sva_laws.specs.Steps.{takes_out}
 use Rattle.sva_lemmas.proofs.Words.{put-other, ℕ_cases, any_below-false}
 use Rattle.sva_lemmas.proofs.Tests.{other_fails}

@@ -14,7 +14,7 @@ use Rattle.sva_model.specs.StateChanges.{binding_of}
 use Rattle.sva_model.specs.Labels.{outstanding, is_waiting}
 use Rattle.sva_model.specs.Wire.{BindingWire, FlightWire, PageRequestWire, number, flight_wire, binding_wire, page_request_wire, stage_wire}
 use Rattle.sva_model.specs.Wire.{host_groups_wire, wire}
-use Rattle.sva_laws.specs.Laws.{IsCarried}
+use Rattle.sva_laws.specs.LabelLaws.{IsCarried}
 use Rattle.sva_laws.proofs.Bindings.{before_unreleased, unmarked_unreleased}
 use Rattle.sva_laws.proofs.Found.{found}
 use Rattle.sva_laws.proofs.Invariant.{Invariant}

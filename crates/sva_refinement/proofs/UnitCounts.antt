@@ -13,7 +13,7 @@ use Rattle.sva_model.specs.Labels.{is_set}
 use Rattle.sva_model.specs.Wire.{end_number, busy_wire, unit_wire, BusyWire}
 use Rattle.sva_model.specs.Wire.BusyWire.{Fresh, Counting}
 use Rattle.sva_lemmas.proofs.Lists.{tabulate_same, tabulate_at}
-use Rattle.sva_laws.specs.Laws.{count_read}
+use Rattle.sva_laws.specs.LabelLaws.{count_read}
 use Rattle.sva_laws.proofs.Legal.{LegalLocalAct}
 use Rattle.sva_laws.proofs.Labels.{Labels}
 use Rattle.sva_laws.proofs.Vectors.{IsOwedFor, AreOwed}

@@ -7,16 +7,13 @@ use Rattle.std.proofs.lemmas.List.{drop-drop}
 use Rattle.std.proofs.lemmas.List.Recursion.{is_position_or_len}
 use Rattle.sva_grammar.specs.Grammar.{word, words_of}
 use Rattle.sva_grammar.specs.Places.{ends_word, in_places, line_in, line_len, word_len}
+use Rattle.sva_grammar.proofs.LineLemmas.{within}
 
 -- ---- The first word of a text and its first line
 
 -- the bytes that `position` passes over
 word_len-is : (text : List ℕ) → word_len text ≡ position_or_len ends_word text
 word_len-is = is_position_or_len word_len ends_word refl (λ x xs. ap (λ n. cond (ends_word x) 0 n) (omega arith))
-
-within : (t : Bool) (m n : ℕ) → m ≤ n → cond t 0 (suc m) ≤ suc n
-within true m n h = omega arith
-within false m n h = omega arith
 
 pub word_len-le : (text : List ℕ) → word_len text ≤ length text
 word_len-le [] = omega arith

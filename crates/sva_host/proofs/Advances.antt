@@ -102,7 +102,7 @@ advanced host v n r after view h sound is =
 
 -- The page requests that wait are the host's own.
 
-queued_with : (groups : ℕ → List HostGroupWire) (parts : List EndpointWire)
+pub queued_with : (groups : ℕ → List HostGroupWire) (parts : List EndpointWire)
     → sum_by (λ (part : EndpointWire). length part.page_queue) (parts_with groups parts) ≡ sum_by (λ (part : EndpointWire). length part.page_queue) parts
 queued_with groups [] = refl
 queued_with groups (p ∷ parts) =

@@ -2,7 +2,7 @@
 use Rattle.std.proofs.Common.{◌≡◌, ◌≢◌, ◌⊎◌, inl, inr, refl, ap, sym, ◌∙◌, ℕ, ◌+◌, ◌<◌, Bool, true, false, arith}
 use Rattle.std.specs.Prelude.{Option, Some, None, ◌&&◌, ◌||◌, not, ◌==◌, nat_lt}
 use Rattle.std.proofs.lemmas.Bool.Decides.{nat_tests}
-use Rattle.std.proofs.lemmas.Bool.{and_from, not-true, not-false, eqb-true}
+use Rattle.std.proofs.lemmas.Bool.{and_from, or_parts, not-true, not-false, eqb-true}
 use Rattle.sva_step.specs.declared.steps.Step.TheVariants as step
 use Rattle.sva_step.specs.Limits
 use Rattle.sva_model.specs.Words.{any_below, is_some, the}
@@ -24,7 +24,7 @@ use Rattle.sva_laws.proofs.Resets.{open_is}
 use Rattle.sva_laws.proofs.Bounds.{Bounds}
 use Rattle.sva_laws.proofs.Invariant.{Invariant}
 use Rattle.sva_laws.proofs.Passed.{bearer_of}
-use Rattle.sva_laws.proofs.LegalEndpoint.{cached_is}
+use Rattle.sva_laws.proofs.LegalEndpoint.{cached_is, unfinished_is}
 use Rattle.sva_laws.proofs.Refused.{spent, EachHas, not_lower, is_lower, is_at_most, out_of, not_holding, all_taken, is_numbered}
 
 -- PASIDs and translations.
@@ -163,12 +163,9 @@ fault_each_at w e t q r x l (Some k) = (
   ),
 )
   where
-    both : (a b : Bool) → (a || b) ≡ false → (a ≡ false) × (b ≡ false)
-    both a b h = grind arith
-
     neither : (Labels.is_started (w.part e) t || Labels.is_told_to_stop (w.part e) t) ≡ false → IsNowhere (w.part e) t On × IsNowhere (w.part e) t Ending
     neither h =
-        let z = both (Labels.is_started (w.part e) t) (Labels.is_told_to_stop (w.part e) t) h in
+        let z = or_parts (Labels.is_started (w.part e) t) (Labels.is_told_to_stop (w.part e) t) h in
         (nowhere_on (w.part e) t z.0, nowhere_ending (w.part e) t z.1)
 
 pub fault_each : (w : World) (e t q : ℕ) (r x l : Bool) (o : Option ℕ)
@@ -237,9 +234,6 @@ finish_each w e vector count = (
 
 -- A quit.
 
-collecting_is : (x : GroupState) → is_collecting x ≡ true → x ≡ Collecting
-collecting_is x h = grind arith
-
 busy : (w : World) (e t : ℕ) → Labels.is_told_to_stop (w.part e) t ≡ true
     → (Labels.has_unfinished_group (w.part e) (Labels.bearer (w.part e) t)
     || Labels.is_request_out_of (w.part e) (Labels.bearer (w.part e) t)
@@ -265,7 +259,7 @@ busy w e t told h = (
     group k =
         let x = any_below-true p.groups (λ g. is_collecting (p.group g) && p.asker g == b) k in (
           x.0,
-          collecting_is (p.group x.0) (first_holds (is_collecting (p.group x.0)) (p.asker x.0 == b) x.2),
+          unfinished_is (p.group x.0) (first_holds (is_collecting (p.group x.0)) (p.asker x.0 == b) x.2),
           eqb-true (p.asker x.0) b (second_holds (is_collecting (p.group x.0)) (p.asker x.0 == b) x.2),
         )
 

@@ -31,7 +31,8 @@ pub at_each : (s : Step) (before : AddressSpacesSeen) (result : Reply) (after : 
     → ((w : Wire) → ByLabels (with_address_spaces w before) s result (with_address_spaces w after)) → Steps s before result after
 at_each s before result after step w is = subst (λ (v : Wire). ByLabels v s result (with_address_spaces w after)) (with_own w before is) (step w)
 
-pub moves_each : (move : Move) (before after : AddressSpacesSeen) → ((w : Wire) → with_address_spaces w after ≡ moved (with_address_spaces w before) move) → Moves move before after
+pub moves_each : (move : Move) (before after : AddressSpacesSeen)
+    → ((w : Wire) → with_address_spaces w after ≡ moved (with_address_spaces w before) move) → Moves move before after
 moves_each move before after moves w is = moves w ∙ ap (λ (v : Wire). moved v move) (with_own w before is)
 
 -- The first cause that holds.

@@ -188,4 +188,5 @@ pump_passed host v e port cookie after view is head settles =
     same : wire_of (record (with_unit_in host e port (after_pass cookie port.unit)) { address_spaces = after }) ≡ moved (wire_of host) (Move.Pass e cookie)
     same =
         ap (λ (m : AddressSpacesSeen). wire_of (record (with_unit_in host e port (after_pass cookie port.unit)) { address_spaces = m })) settles
-        ∙ (λ i. record (with_unit_seen host e port (λ u. unit_passed u cookie) is i) { places = (settled host.address_spaces e (settled_cookie cookie)).places })
+        ∙ (λ i. record (with_unit_seen host e port (λ u. unit_passed u cookie) is i)
+        { places = (settled host.address_spaces e (settled_cookie cookie)).places })

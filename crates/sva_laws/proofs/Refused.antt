@@ -196,8 +196,10 @@ other_space w s t e b h l at same =
 no_pasid : (rule : PasidRule) (w : World) (e s : ℕ) → not (is_some (Labels.pasid_by rule w e s)) ≡ true → AreAllBorne rule w e s
 no_pasid PerEndpoint w e s h =
     λ t pos low. borne_there (w.part e) t
-    (none_lowest (λ k. not (Labels.is_borne_at (w.part e) k)) t (none_is (Labels.pasid_by PerEndpoint w e s) (not-true (is_some (Labels.pasid_by PerEndpoint w e s)) h)) pos low)
-no_pasid PerSpace w e s h = λ t pos low. borne t pos low (neither (Labels.lowest_pasid (Labels.is_borne_by w s)) (Labels.lowest_pasid (λ k. not (Labels.is_borne w k)))
+    (none_lowest (λ k. not (Labels.is_borne_at (w.part e) k)) t
+    (none_is (Labels.pasid_by PerEndpoint w e s) (not-true (is_some (Labels.pasid_by PerEndpoint w e s)) h)) pos low)
+no_pasid PerSpace w e s h = λ t pos low. borne t pos low
+    (neither (Labels.lowest_pasid (Labels.is_borne_by w s)) (Labels.lowest_pasid (λ k. not (Labels.is_borne w k)))
     (none_is (Labels.pasid_by PerSpace w e s) (not-true (is_some (Labels.pasid_by PerSpace w e s)) h)))
   where
     neither : (a b : Option ℕ) → Labels.or_else a b ≡ None → (a ≡ None) × (b ≡ None)

@@ -105,7 +105,10 @@ begin_each w e t q x i = (
         )
 
 pub end_each : (w : World) (e t : ℕ) → Invariant w → EachHas (HasCause w (step.EndUse e t)) (refusals w (step.EndUse e t))
-end_each w e t i = ((λ h. not_lower e w.config.endpoints h), λ f. ((λ h. go ((w.part e).at_slot t) refl (not-true (nat_lt t 16 && is_some ((w.part e).at_slot t)) h)), λ f. tt))
+end_each w e t i = (
+  (λ h. not_lower e w.config.endpoints h),
+  λ f. ((λ h. go ((w.part e).at_slot t) refl (not-true (nat_lt t 16 && is_some ((w.part e).at_slot t)) h)), λ f. tt),
+)
   where
     go : (o : Option ℕ) → (w.part e).at_slot t ≡ o → (nat_lt t 16 && is_some o) ≡ false → o ≡ None
     go None at h = refl
@@ -317,7 +320,8 @@ overtaking w n None m there h = absurd (cc)
 overtaking w n (Some a) m there h =
     let c = Labels.name w n in
     let p = w.part (w.link_of c) in
-    let x = any_below-true c (λ d. Labels.holds_back p (Labels.kind_of p a) (p.message d)) (twice (any_below c (λ d. Labels.holds_back p (Labels.kind_of p a) (p.message d))) h) in
+    let x = any_below-true c (λ d. Labels.holds_back p (Labels.kind_of p a) (p.message d))
+    (twice (any_below c (λ d. Labels.holds_back p (Labels.kind_of p a) (p.message d))) h) in
     let y = back p (Labels.kind_of p a) (p.message x.0) (p.message x.0) refl x.2 in
     (x.0, a, y.0, x.1, m, y.1, y.2)
   where

@@ -1,5 +1,6 @@
 -- A refusal is answered only for its own cause: what holds of the world where a step is refused so, in words of its own endpoint,
--- space or binding; of endpoints and the link in EndpointCauses. (Which refusals there are, and the limits, are this project's own, except where a comment names a
+-- space or binding; of endpoints and the link in EndpointCauses. (Which refusals there are, and the limits, are this
+-- project's own, except where a comment names a
 -- standard: sections are those of PCI Express Base 5.0.)
 use Rattle.std.specs.Prelude.{◌≡◌, ◌≢◌, ◌⊎◌, ℕ, ◌+◌, ◌%◌, ◌^◌, ◌<◌, ◌≤◌, true, false, Option, Some, None, List, [], ◌∷◌, length}
 use Rattle.std.specs.Prelude.{IsSomeAnd}

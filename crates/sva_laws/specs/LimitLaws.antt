@@ -42,7 +42,8 @@ cached_translations part = count_below part.requests (λ request. is_some (part.
 pub record KeepsLimits (world : World) : Type 0 where
   pub spaces : live_spaces world ≤ Limits.most_spaces
   pub pages : (space : ℕ) → pages_of world space ≤ Limits.most_mapped
-  pub requests : (endpoint group : ℕ) → is_open_group ((world.part endpoint).host_group group) ≡ true → length (asks (world.part endpoint) group) ≤ Limits.page_requests
+  pub requests : (endpoint group : ℕ) → is_open_group ((world.part endpoint).host_group group) ≡ true
+      → length (asks (world.part endpoint) group) ≤ Limits.page_requests
   pub queued : (endpoint : ℕ) → queue_length (world.part endpoint) ≤ Limits.queue_places
   pub cached : (endpoint : ℕ) → cached_translations (world.part endpoint) ≤ Limits.cached
 

@@ -86,7 +86,8 @@ none_any t (y ∷ ys) h =
 alike_back : (p q : TableEntry) → ShareAlike p q → ShareAlike q p
 alike_back p q a = (λ h. sym (a.0 (sym h)), λ h. sym (a.1 (sym h)))
 
-pub alike_all : (t : TableEntry → Bool) (ps : List TableEntry) (r : TableEntry) → AllPairs IsApart ps → find t ps ≡ Some r → All (λ (p : TableEntry). ShareAlike p r) ps
+pub alike_all : (t : TableEntry → Bool) (ps : List TableEntry) (r : TableEntry) → AllPairs IsApart ps
+    → find t ps ≡ Some r → All (λ (p : TableEntry). ShareAlike p r) ps
 alike_all t [] r a h = absurd (cc)
 alike_all t (p ∷ ps) r a h =
     elim (cases_Bool (t p)) [
@@ -103,7 +104,8 @@ alike_all t (p ∷ ps) r a h =
     ]
 
 -- two that were found
-pub alike_found : (t u : TableEntry → Bool) (ps : List TableEntry) (p q : TableEntry) → AllPairs IsApart ps → find t ps ≡ Some p → find u ps ≡ Some q → ShareAlike p q
+pub alike_found : (t u : TableEntry → Bool) (ps : List TableEntry) (p q : TableEntry) → AllPairs IsApart ps
+    → find t ps ≡ Some p → find u ps ≡ Some q → ShareAlike p q
 alike_found t u ps p q a f g = found_has (λ (x : TableEntry). ShareAlike x q) t ps p (alike_all u ps q a g) f
 
 -- the PASID that a space bears is that of each of its places

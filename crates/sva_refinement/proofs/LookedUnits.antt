@@ -164,7 +164,8 @@ pub waits_there :
     (w : World) (s : ℕ) → Invariant w → ((e : ℕ) → HasFront w.cookies (w.part e)) → w.config.endpoints ≤ 8
     → waits (wire w) (number w.config.first s) ≡ any_below w.config.endpoints (unmappings.waits w s)
 waits_there w s i f most =
-    any_same 8 (λ e. is_some (slice_index_or (targets_of (wire w) (number w.config.first s)) e None)) (λ e. nat_lt e w.config.endpoints && unmappings.waits w s e)
+    any_same 8 (λ e. is_some (slice_index_or (targets_of (wire w) (number w.config.first s)) e None))
+    (λ e. nat_lt e w.config.endpoints && unmappings.waits w s e)
     (λ e l. ap is_some (tabulate_at 8 target e None l)
     ∙ ap (λ n. is_some
     (if nat_lt e n then target_by (unit_of (wire w) e) (cookie_at (wire w) (number w.config.first s) e)

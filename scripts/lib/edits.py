@@ -97,6 +97,11 @@ class Edit:
                 found["::".join([kind, name] if kind else [*module_of(file), name])] = None
         return list(found)
 
+    def path(self):
+        """The name by which the checker is asked for the edit's function."""
+        kind, name = self.function
+        return "::".join([kind, name] if kind is not None else [*module_of(self.file), name])
+
     def is_of(self, told):
         """Whether a name that the checker tells is that of the edit's function. A method stands there by its type, in whatever file its `impl` is."""
         kind, name = self.function
@@ -199,9 +204,9 @@ def more_edits(crate):
     return found
 
 
-def once(crate):
-    """One edit of more-edits/ for each function of code that has none in must-fail/."""
-    found = {(it.file, it.function): None for it in must_fail(crate) if it.function}
+def once(crate, others):
+    """One edit of more-edits/ for each function of code that has none in must-fail/ and none of these."""
+    found = {(it.file, it.function): None for it in [*must_fail(crate), *others] if it.function}
     for it in more_edits(crate):
         if it.function:
             found.setdefault((it.file, it.function), it)
@@ -209,13 +214,14 @@ def once(crate):
 
 
 def named(names, is_once):
-    """The edits of more-edits/ that these names mean, by crates: CRATE means all of its edits (or those of `once`), CRATE/EDIT that one."""
+    """The edits of more-edits/ that these names mean, by crates: CRATE/EDIT means that one, CRATE all of its edits, or `once` beside those that are named."""
     found = {}
-    for name in names:
-        crate, _, edit = name.partition("/")
+    # (those that are named come first, whatever their order)
+    for crate, edit in sorted((name.partition("/")[::2] for name in names), key=lambda it: not it[1]):
         some = [it for it in more_edits(crate) if edit in ("", it.name)]
         if not some:
-            raise LookupError(f"there is no edit {name}" if edit else f"{crate} has none")
-        some = once(crate) if is_once and not edit else some
-        found.setdefault(crate, []).extend(it for it in some if it.name not in [other.name for other in found[crate]])
+            raise LookupError(f"there is no edit {crate}/{edit}" if edit else f"{crate} has none")
+        there = found.setdefault(crate, [])
+        some = once(crate, there) if is_once and not edit else some
+        there.extend(it for it in some if it.name not in [other.name for other in there])
     return found

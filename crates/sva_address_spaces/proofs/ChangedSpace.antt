@@ -23,7 +23,8 @@ pub lacks_space : (memory : Inside) (number : ℕ) (lives : List LiveSpace) → 
 lacks_space memory number lives none is = not_found memory.spaces.items number (none ∙ ap (λ (ls : List LiveSpace). position (is_of number) ls) is)
 
 -- the space that has the number
-pub has_space : (memory : Inside) (number place : ℕ) (live : LiveSpace) (lives : List LiveSpace) → AreAddressSpaces memory → Some place ≡ position (is_of number) lives
+pub has_space : (memory : Inside) (number place : ℕ) (live : LiveSpace) (lives : List LiveSpace)
+    → AreAddressSpaces memory → Some place ≡ position (is_of number) lives
     → lives ≡ memory.spaces.items
     → live ≡ get_or memory.spaces.items place live → IsAt memory.spaces.items number place live
 has_space memory number place live lives h first is read =

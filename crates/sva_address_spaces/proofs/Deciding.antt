@@ -55,7 +55,8 @@ unmap_leaves w n q count = ap (λ k. unmapped (address_spaces_of w) n q k (targe
     once : (k : ℕ) → k * 2 ^ 0 ≡ k
     once k = omega arith
 
-pub range_leaves : (w : Wire) (n q order : ℕ) → address_spaces_of (moved w (Move.Unmap n q 1 order)) ≡ unmapped (address_spaces_of w) n q (2 ^ order) (targets_of w n)
+pub range_leaves : (w : Wire) (n q order : ℕ) → address_spaces_of (moved w (Move.Unmap n q 1 order))
+    ≡ unmapped (address_spaces_of w) n q (2 ^ order) (targets_of w n)
 range_leaves w n q order = ap (λ k. unmapped (address_spaces_of w) n q k (targets_of w n)) (one (2 ^ order))
   where
     one : (k : ℕ) → 1 * k ≡ k

@@ -11,6 +11,7 @@ use Rattle.sva_model.specs.Refusals.{Cause, unless_refused}
 use Rattle.sva_model.specs.Steps.{Reply}
 use Rattle.sva_model.specs.Wire.{Wire, PageWire, SpaceWire, PlaceWire, insert_by, is_lower_page}
 use Rattle.sva_model.specs.Wire.PlaceWire.{FreeWire}
+use Rattle.sva_lemmas.proofs.Tests.{same_frame}
 use Rattle.sva_labels.specs.Finding.{pages_of, or_no_pages, lowest_free}
 use Rattle.sva_labels.specs.Causes.{causes_of}
 use Rattle.sva_labels.specs.Moves.{Move, moved, all_moved, with_pages, without_space, placed}
@@ -30,7 +31,8 @@ pub at_each : (s : Step) (before : AddressSpacesSeen) (result : Reply) (after : 
     → ((w : Wire) → ByLabels (with_address_spaces w before) s result (with_address_spaces w after)) → Steps s before result after
 at_each s before result after step w is = subst (λ (v : Wire). ByLabels v s result (with_address_spaces w after)) (with_own w before is) (step w)
 
-pub moves_each : (move : Move) (before after : AddressSpacesSeen) → ((w : Wire) → with_address_spaces w after ≡ moved (with_address_spaces w before) move) → Moves move before after
+pub moves_each : (move : Move) (before after : AddressSpacesSeen)
+    → ((w : Wire) → with_address_spaces w after ≡ moved (with_address_spaces w before) move) → Moves move before after
 moves_each move before after moves w is = moves w ∙ ap (λ (v : Wire). moved v move) (with_own w before is)
 
 -- The first cause that holds.
@@ -109,9 +111,6 @@ map_in places q pages = if not (is_some pages) then Err refusal.NoSuchSpace else
 
 pub no_space_map : (w : Wire) (n q : ℕ) (x : Bool) → pages_of w.spaces n ≡ None → ByLabels w (step.Map n q x) (Err refusal.NoSuchSpace) w
 no_space_map w n q x none = refused w (step.Map n q x) refusal.NoSuchSpace (ap (map_in w.places q) none) (λ h. absurd (cc))
-
-same_frame : (f g : ℕ) → answer.Frame f ≡ answer.Frame g → f ≡ g
-same_frame f g is = cc
 
 pub by_map : (w : Wire) (n q : ℕ) (x : Bool) (result : Reply) (pages pages_after : List PageWire) (spaces_after : List SpaceWire)
     (places_after : List PlaceWire) → OneChanged w.spaces n pages pages_after spaces_after → MapsPage pages w.places q x result pages_after places_after

@@ -105,7 +105,8 @@ back_none m n (q ∷ qs) none =
     }) (back_none m n qs none)
 
 -- what is seen of a memory where pages of one space were taken back
-pub back_seen : (m : AddressSpacesSeen) (n : ℕ) (pages pages_after : List PageWire) (qs : List ℕ) (spaces_after : List SpaceWire) (places_after : List PlaceWire)
+pub back_seen : (m : AddressSpacesSeen) (n : ℕ) (pages pages_after : List PageWire) (qs : List ℕ)
+    (spaces_after : List SpaceWire) (places_after : List PlaceWire)
     → OneChanged m.spaces n pages pages_after spaces_after
     → pages_after ≡ pages_back qs pages → places_after ≡ places_back qs pages m.places
     → record m { spaces = spaces_after; places = places_after } ≡ taken_back m n qs

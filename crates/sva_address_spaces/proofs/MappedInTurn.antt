@@ -3,7 +3,7 @@ use Rattle.std.proofs.Common.{◌≡◌, ℕ, ◌≤◌, ◌==◌, Bool, true, f
 use Rattle.std.proofs.Common.{arith, if◌then◌else◌}
 use Rattle.std.specs.Prelude.{◌||◌, not, nat_lt, is_some, filter}
 use Rattle.std.proofs.lemmas.Bool.Decides.{nat_tests}
-use Rattle.sva_model.specs.Acts.{in_range}
+use Rattle.sva_model.specs.Unmappings.{in_range}
 use Rattle.sva_model.specs.Wire.{PageWire, PlaceWire, insert_by, is_lower_page}
 use Rattle.sva_model.specs.Wire.PlaceWire.{FreeWire, MappedWire}
 use Rattle.sva_labels.specs.Finding.{page_at, is_mapped, free_from}

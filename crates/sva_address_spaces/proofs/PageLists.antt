@@ -13,7 +13,7 @@ use Rattle.sva_space.specs.Pages.{IsRising, mapping_at, with_page, without_page,
 use Rattle.sva_space.proofs.Mappings.{AllAbove, is_less}
 use Rattle.sva_model.specs.Words.{tabulate, all_below}
 use Rattle.sva_lemmas.proofs.Words.{all_below-true, all_below-false, all_below_cases}
-use Rattle.sva_model.specs.Acts.{in_range}
+use Rattle.sva_model.specs.Unmappings.{in_range}
 use Rattle.sva_model.specs.Wire.{PageWire, insert_by, is_lower_page}
 use Rattle.sva_labels.specs.Finding.{page_at, is_mapped, frame_or_0, frames_of}
 use Rattle.sva_labels.specs.Moves.{without_pages}

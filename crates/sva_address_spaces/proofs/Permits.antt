@@ -40,7 +40,8 @@ pub some-unmapped : (pages : List PageWire) (q n : ℕ) → 1 ≤ n → n ≤ 48
 some-unmapped pages q n some most range missing =
     sym (unmap-is pages q n true false false (few n some most) (within q n range) (are_mapped-is pages q n false missing))
 
-pub all-mapped : (pages : List PageWire) (q n : ℕ) → 1 ≤ n → n ≤ 48 → q + n ≤ 2 ^ 36 → are_mapped pages q n ≡ true → Ok tt ≡ verdict (page_causes_of_unmap pages q n)
+pub all-mapped : (pages : List PageWire) (q n : ℕ) → 1 ≤ n → n ≤ 48 → q + n ≤ 2 ^ 36 → are_mapped pages q n ≡ true
+    → Ok tt ≡ verdict (page_causes_of_unmap pages q n)
 all-mapped pages q n some most range there =
     sym (unmap-is pages q n true false true (few n some most) (within q n range) (are_mapped-is pages q n true there))
 

@@ -11,7 +11,7 @@ use Rattle.sva_space.proofs.Ranges.{lowest_found, first_of}
 use Rattle.sva_frames.specs.declared.waits.Target.{Target}
 use Rattle.sva_frames.specs.Frames.{Holding, Mapped, after_waits}
 use Rattle.sva_frames.specs.Room.{HaveRoom}
-use Rattle.sva_model.specs.Acts.{in_range}
+use Rattle.sva_model.specs.Unmappings.{in_range}
 use Rattle.sva_model.specs.Wire.{PageWire}
 use Rattle.sva_labels.specs.Finding.{page_at}
 use Rattle.sva_labels.specs.Moves.{is_between, placed, place_for, without_pages}

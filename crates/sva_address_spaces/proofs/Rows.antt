@@ -9,7 +9,7 @@ use Rattle.std.proofs.lemmas.Bool.Decides.{nat_tests}
 use Rattle.sva_space.specs.Pages.{IsRising, mapping_at, without_page}
 use Rattle.sva_space.proofs.Mappings.{AllAbove, is_less}
 use Rattle.sva_model.specs.Words.{any_below, count_below}
-use Rattle.sva_model.specs.Acts.{in_range}
+use Rattle.sva_model.specs.Unmappings.{in_range}
 use Rattle.sva_model.specs.Wire.{PageWire, PlaceWire}
 use Rattle.sva_labels.specs.Finding.{page_at, is_mapped}
 use Rattle.sva_labels.specs.Moves.{is_between, placed}

@@ -8,7 +8,8 @@ use Rattle.sva_model.specs.State.{opened}
 use Rattle.sva_model.specs.Claims.{Fits, Agrees}
 use Rattle.sva_model.specs.Steps.{Reply, replies, world_after}
 use Rattle.sva_model.specs.Wire.{Wire}
-use Rattle.sva_laws.specs.Laws.{IsLabelled, IsFound, IsCarried, NeverOccurs}
+use Rattle.sva_laws.specs.LabelLaws.{IsLabelled, IsFound, IsCarried}
+use Rattle.sva_laws.specs.UnderWay.{NeverOccurs}
 use Rattle.sva_core.specs.Reached.{IsReached, Ran}
 
 -- It is what the definitions keep after this very list of steps, and after these steps they agree: each translation that an

@@ -1,7 +1,7 @@
 //! What the test of each step gives, and its call takes.
 
 ghost use Rattle.std.specs.Prelude.{◌≡◌};
-ghost use Rattle.sva_model.specs.Acts.{count_field};
+ghost use Rattle.sva_model.specs.StateChanges.{count_field};
 
 use sva_itags::Count;
 use sva_msg::{CountField, Kind, PageRequest};

@@ -4,10 +4,10 @@ use Rattle.std.proofs.Common.{refl, sym, ap, subst, ◌∙◌, arith, nat_eq}
 use Rattle.std.specs.Prelude.{slice_get, if◌then◌else◌}
 use Rattle.std.proofs.lemmas.Option.{slice_get_within}
 use Rattle.std.proofs.lemmas.Bool.Decides.{nat_tests}
-use Rattle.sva_journal.specs.declared.journal.Entry.{Entry}
-use Rattle.sva_journal.specs.declared.receipts.Receipt.{Receipt}
+use Rattle.sva_core.specs.declared.journal.Entry.{Entry}
+use Rattle.sva_core.specs.declared.receipts.Receipt.{Receipt}
 use Rattle.sva_fabric.specs.Receipts.{PortState, AreRising}
-use Rattle.sva_journal.specs.Receipts.{entry_told}
+use Rattle.sva_core.specs.Receipts.{entry_told}
 use Rattle.sva_fabric.specs.Audits.{AllStand, EachStands, calls_of, told_at, told_by, IsToldOnce}
 use Rattle.sva_fabric.specs.Once.{AllRise, AuditsTellOnce}
 

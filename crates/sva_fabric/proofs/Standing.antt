@@ -5,22 +5,14 @@ use Rattle.std.proofs.lemmas.Option.{slice_get_within}
 use Rattle.sva_frames.specs.declared.pool.Counts.{Counts}
 use Rattle.sva_step.specs.declared.limits.Config.{Config}
 use Rattle.sva_step.specs.declared.steps.Step.{Step}
-use Rattle.sva_journal.specs.declared.journal.Entry.{Entry}
-use Rattle.sva_journal.specs.declared.receipts.Receipt.{Receipt}
-use Rattle.sva_journal.specs.declared.running.Strayed.{Strayed}
-use Rattle.sva_journal.proofs.TokenLemmas.{length_more}
-use Rattle.sva_journal.specs.Journal.{History, IsLegal, CountsOf, entry_of, with_entry}
+use Rattle.sva_core.specs.declared.journal.Entry.{Entry}
+use Rattle.sva_core.specs.declared.receipts.Receipt.{Receipt}
+use Rattle.sva_core.specs.declared.running.Strayed.{Strayed}
+use Rattle.sva_lemmas.proofs.Lists.{get_before, get_end}
+use Rattle.sva_core.proofs.TokenLemmas.{length_more}
+use Rattle.sva_core.specs.Journal.{History, IsLegal, CountsOf, entry_of, with_entry}
 use Rattle.sva_fabric.specs.Receipts.{PortState, AreRising, IsAnswered, IsCounted, IsAstray, last_of}
-use Rattle.sva_journal.specs.Receipts.{Stands, HasStrayed, IsAnsweredAt, entry_told}
-
-get_before : {A : Type 0} (xs ys : List A) (k : ℕ) (x : A) → slice_get xs k ≡ Some x → slice_get (xs ++ ys) k ≡ Some x
-get_before [] ys k x h = absurd (cc)
-get_before (a ∷ xs) ys zero x h = h
-get_before (a ∷ xs) ys (suc k) x h = get_before xs ys k x h
-
-get_end : {A : Type 0} (xs : List A) (x : A) → slice_get (xs ++ x ∷ []) (length xs) ≡ Some x
-get_end [] x = refl
-get_end (a ∷ xs) x = get_end xs x
+use Rattle.sva_core.specs.Receipts.{Stands, HasStrayed, IsAnsweredAt, entry_told}
 
 -- what stood before stands in the longer journal, at a lower place than its end
 last_stands_more : (entries : List Entry) (e : Entry) (port place : ℕ) (last : Option Receipt) → place ≡ length entries

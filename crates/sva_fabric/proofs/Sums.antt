@@ -1,7 +1,7 @@
 -- Receipts and calls of several ports.
 use Rattle.std.specs.Prelude.{Option, Some, None, IfSome, IfNone}
 use Rattle.std.proofs.Common.{◌≡◌, ℕ, suc, ◌+◌, List, [], ◌∷◌, ◌++◌, length, refl, sym, ap, subst, arith, inl, inr}
-use Rattle.sva_journal.specs.declared.journal.Entry.{Entry}
+use Rattle.sva_core.specs.declared.journal.Entry.{Entry}
 use Rattle.sva_fabric.specs.Receipts.{PortState, new_ports_from, new_port}
 use Rattle.sva_fabric.specs.Audits.{EachStands, IsFirstBadOf, calls_of}
 

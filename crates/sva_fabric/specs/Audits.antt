@@ -2,15 +2,15 @@
 use Rattle.std.specs.Prelude.{◌≡◌, ◌≤◌, ◌<◌, ◌⊎◌, ℕ, ◌+◌, Result, Ok, Err, List, [], ◌∷◌, ◌++◌, length, if◌then◌else◌, nat_eq, IfOk}
 use Rattle.sva_step.specs.declared.limits.Config.{Config}
 use Rattle.sva_model.specs.Steps.{counts}
-use Rattle.sva_journal.specs.declared.journal.Entry.{Entry}
-use Rattle.sva_journal.specs.declared.receipts.Receipt.{Receipt}
+use Rattle.sva_core.specs.declared.journal.Entry.{Entry}
+use Rattle.sva_core.specs.declared.receipts.Receipt.{Receipt}
 use Rattle.sva_fabric.specs.declared.ports.Ports.{Ports}
 use Rattle.sva_fabric.specs.declared.tokens.Tokens.{Tokens}
 use Rattle.sva_fabric.specs.declared.audits.Audit.{Audit}
 use Rattle.sva_fabric.specs.declared.audits.FirstBadReceipt.{FirstBadReceipt}
-use Rattle.sva_journal.specs.Journal.{History, IsLegal, world_of, bindings_of, uses_of}
+use Rattle.sva_core.specs.Journal.{History, IsLegal, world_of, bindings_of, uses_of}
 use Rattle.sva_fabric.specs.Receipts.{PortState, new_port, new_ports_from}
-use Rattle.sva_journal.specs.Receipts.{Stands}
+use Rattle.sva_core.specs.Receipts.{Stands}
 
 -- the ports in the order of their numbers
 abbrev pub states_of : {C : Type 0} → Ports C → List PortState

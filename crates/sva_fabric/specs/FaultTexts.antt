@@ -1,7 +1,7 @@
 -- The texts of the faults of a call with a token and of an audit, which are this project's own.
 use Rattle.std.specs.Prelude.{ℕ, List, ◌++◌, codes, decimal}
 use Rattle.sva_step.specs.Refusals.{refusal_text}
-use Rattle.sva_journal.specs.FaultTexts.{strayed_text}
+use Rattle.sva_core.specs.FaultTexts.{strayed_text}
 use Rattle.sva_fabric.specs.declared.audits.FirstBadReceipt.{FirstBadReceipt}
 use Rattle.sva_fabric.specs.declared.faults.Fault.{Fault}
 use Rattle.sva_fabric.specs.declared.faults.Fault.TheVariants.{Refused, Memory, Strayed}

@@ -1,4 +1,4 @@
-pub use Rattle.sva_journal.specs.Journal
+pub use Rattle.sva_core.specs.Journal
 pub mod Receipts
 pub mod Audits
 pub mod Once

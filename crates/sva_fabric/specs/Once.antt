@@ -1,6 +1,6 @@
 -- Where an audit finds nothing wrong the journal is what the ports' receipts tell, each once.
 use Rattle.std.specs.Prelude.{ℕ, Ok, List, [], ◌∷◌}
-use Rattle.sva_journal.specs.Journal.{History}
+use Rattle.sva_core.specs.Journal.{History}
 use Rattle.sva_fabric.specs.declared.audits.Audit.{Audit}
 use Rattle.sva_fabric.specs.Receipts.{PortState, AreRising}
 use Rattle.sva_fabric.specs.Audits.{IsAudit, IsToldOnce}

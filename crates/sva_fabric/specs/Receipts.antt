@@ -3,12 +3,12 @@ use Rattle.std.specs.Prelude.{◌≡◌, ◌<◌, ◌-◌, ℕ, zero, suc, ◌+�
 use Rattle.sva_frames.specs.declared.pool.Counts.{Counts}
 use Rattle.sva_step.specs.declared.limits.Config.{Config}
 use Rattle.sva_step.specs.declared.steps.Step.{Step}
-use Rattle.sva_journal.specs.declared.receipts.Receipt.{Receipt}
-use Rattle.sva_journal.specs.declared.running.StepFault.{StepFault}
-use Rattle.sva_journal.specs.declared.running.StepFault.TheVariants as fault
-use Rattle.sva_journal.specs.declared.running.Strayed.{Strayed}
-use Rattle.sva_journal.specs.Receipts.{Stands, HasStrayed}
-use Rattle.sva_journal.specs.Journal.{History, IsLegal, CountsOf}
+use Rattle.sva_core.specs.declared.receipts.Receipt.{Receipt}
+use Rattle.sva_core.specs.declared.running.StepFault.{StepFault}
+use Rattle.sva_core.specs.declared.running.StepFault.TheVariants as fault
+use Rattle.sva_core.specs.declared.running.Strayed.{Strayed}
+use Rattle.sva_core.specs.Receipts.{Stands, HasStrayed}
+use Rattle.sva_core.specs.Journal.{History, IsLegal, CountsOf}
 
 -- a port: its number, and the receipts of its calls
 pub record PortState : Type 0 where

@@ -6,15 +6,15 @@ use Rattle.sva_step.specs.declared.limits.Config.{Config}
 use Rattle.sva_step.specs.declared.steps.Step.{Step}
 use Rattle.sva_step.specs.declared.steps.Step.TheVariants as step
 use Rattle.sva_model.specs.Steps.{Reply}
-use Rattle.sva_journal.specs.declared.receipts.Receipt.{Receipt}
-use Rattle.sva_journal.specs.declared.running.StepFault.{StepFault}
-use Rattle.sva_journal.specs.declared.running.StepFault.TheVariants as step_fault
+use Rattle.sva_core.specs.declared.receipts.Receipt.{Receipt}
+use Rattle.sva_core.specs.declared.running.StepFault.{StepFault}
+use Rattle.sva_core.specs.declared.running.StepFault.TheVariants as step_fault
 use Rattle.sva_fabric.specs.declared.faults.Fault.{Fault}
 use Rattle.sva_fabric.specs.declared.faults.Fault.TheVariants as fault
 use Rattle.sva_fabric.specs.declared.tokens.Moved.{Moved}
 use Rattle.sva_fabric.specs.declared.tokens.Moved.TheVariants as moved
 use Rattle.sva_fabric.specs.Receipts.{PortState, IsAnswered, IsRefused, last_of}
-use Rattle.sva_journal.specs.Suiting.{IsUnbound, IsMoved}
+use Rattle.sva_core.specs.Suiting.{IsUnbound, IsMoved}
 
 -- what a call that was answered did to its port: it has one receipt more, of this step and reply
 pub record HasCalled (config : Config) (before after : PortState) (asked : Step) (reply : Reply) : Type 0 where

@@ -1,7 +1,7 @@
 //! The audit: the receipts of all ports against the journal, and the tokens against its world.
 
 ghost use Rattle.std.specs.Prelude.{◌≡◌, ◌+◌, ◌^◌, ◌<◌, true, false, length, IfOk, IfSome, IfNone};
-ghost use Rattle.sva_journal.specs.Journal.{IsLegal, bindings_of, uses_of};
+ghost use Rattle.sva_core.specs.Journal.{IsLegal, bindings_of, uses_of};
 ghost use Rattle.sva_fabric.specs.Audits.{held_by, used_by, states_of, AllStand, IsFirstBad, EachStands, IsFirstBadOf, calls_of, IsAudit, IsToldOnce};
 ghost use Rattle.sva_fabric.specs.Once.{AllRise};
 
@@ -9,7 +9,7 @@ use crate::audits::{Audit, FirstBadReceipt};
 use crate::port::Port;
 use crate::ports::Ports;
 use crate::tokens::Tokens;
-use sva_journal::{Journaled, Ledgers, Receipt};
+use sva_core::{Journaled, Ledgers, Receipt};
 
 /// Compares the receipts of all ports with the journal, and the tokens with its world's unreleased bindings and taken use slots.
 pub(crate) fn audit<C: Ledgers>(

@@ -4,10 +4,10 @@ ghost use Rattle.std.specs.Prelude.{◌≡◌, ◌+◌, ◌↔◌, ◌++◌, ◌
 ghost use Rattle.sva_step.specs.Steps.{is_plain};
 ghost use Rattle.sva_step.specs.declared.refusals.Refusal.TheVariants as refusal;
 ghost use Rattle.sva_step.specs.Limits.{Fits};
-ghost use Rattle.sva_journal.specs.Reached.{IsOpenRefusal};
-ghost use Rattle.sva_journal.specs.Suiting.{Suits};
+ghost use Rattle.sva_core.specs.Reached.{IsOpenRefusal};
+ghost use Rattle.sva_core.specs.Suiting.{Suits};
 ghost use Rattle.sva_fabric.specs.Receipts.{last_of, IsAnswered, IsRefused, IsCounted, IsAstray};
-ghost use Rattle.sva_journal.specs.Books.{IsHandedIn, IsHandedOut};
+ghost use Rattle.sva_core.specs.Books.{IsHandedIn, IsHandedOut};
 ghost use Rattle.sva_fabric.specs.Audits.{held_by, used_by, states_of, IsFinished, new_ports};
 
 use crate::auditing::audit;
@@ -19,8 +19,8 @@ use crate::ports::Ports;
 use crate::tokens::Tokens;
 use std::alloc::Global;
 use std::sync::{Mutex, Wait};
+use sva_core::{Blanks, CallTokens, Ledgers, Receipt, Running, StepFault, Strayed};
 use sva_frames::Counts;
-use sva_journal::{Blanks, CallTokens, Ledgers, Receipt, Running, StepFault, Strayed};
 use sva_step::{Config, Refusal, Step};
 
 /// One world that several threads share. Each calls it by a port of its own.

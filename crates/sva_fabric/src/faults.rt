@@ -1,7 +1,7 @@
 //! Why a call with a token failed.
 
 use std::convert::From;
-use sva_journal::{StepFault, Strayed};
+use sva_core::{StepFault, Strayed};
 use sva_step::Refusal;
 
 /// Why a call made, moved or spent no token.

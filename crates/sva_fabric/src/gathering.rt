@@ -7,7 +7,7 @@ use crate::port::Port;
 use crate::ports::Ports;
 use crate::tokens::{Lease, Leaving, Tokens, UseTicket};
 use std::sync::ledger::Share;
-use sva_journal::{Bindings, Ledgers, Uses};
+use sva_core::{Bindings, Ledgers, Uses};
 
 /// One share that counts the calls of all ports.
 #[tactic(auto, using(crate::proofs::Sums::length_both, crate::proofs::Sums::calls_append))]

@@ -1,5 +1,5 @@
 //! One world that several threads share under a lock, with a journal of what was asked and answered, and receipts that an audit
-//! compares with it. What lies under the lock is `sva_journal`'s, and passed on from here.
+//! compares with it. What lies under the lock is `sva_core`'s, and passed on from here.
 #![tactic(auto)]
 
 mod auditing;
@@ -21,7 +21,7 @@ pub use faults::Fault;
 pub use laws::audits_tell_once;
 pub use port::Port;
 pub use ports::Ports;
-pub use sva_journal::{
+pub use sva_core::{
     Bindings, Blanks, Books, CallTokens, Entry, Journaled, Ledgers, Part, Receipt, Running,
     StepFault, Strayed, Uses, ports_of,
 };

@@ -9,7 +9,7 @@ use crate::port::Port;
 use crate::ports::Ports;
 use std::alloc::{AllocError, Global};
 use std::sync::ledger::Share;
-use sva_journal::Ledgers;
+use sva_core::Ledgers;
 use sva_step::Config;
 
 /// The ports for a config, of which nothing was asked. Each takes a part of the share.

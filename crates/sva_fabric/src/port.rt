@@ -6,7 +6,7 @@ ghost use Rattle.sva_fabric.specs.Receipts.{last_of, AreRising, new_port};
 use std::alloc::Global;
 use std::marker::Model;
 use std::sync::ledger::Share;
-use sva_journal::{Ledgers, Receipt};
+use sva_core::{Ledgers, Receipt};
 
 /// What one thread calls a `Fabric` by. It keeps a receipt of each call that was answered. Contracts see the number and the
 /// receipts, whose places rise. Its share of the ledger counts the calls.

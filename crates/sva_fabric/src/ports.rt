@@ -1,7 +1,7 @@
 //! The ports of a fabric.
 
 use crate::port::Port;
-use sva_journal::Ledgers;
+use sva_core::Ledgers;
 
 /// The ports of a `Fabric`, numbered from 0 in this order.
 #[derive(Drop)]

@@ -3,8 +3,8 @@
 ghost use Rattle.std.specs.Prelude.{◌≡◌, IfOk, IfErr, IfSome, IfNone, OnErr, Ok, Some};
 ghost use Rattle.sva_step.specs.declared.answers.Answer.TheVariants as answer;
 ghost use Rattle.sva_step.specs.declared.steps.Step.TheVariants as step;
-ghost use Rattle.sva_journal.specs.Suiting.{SuitsStep, IsBinding, IsUse, IsOver};
-ghost use Rattle.sva_journal.specs.Books.{IsHandedIn, IsHandedOut};
+ghost use Rattle.sva_core.specs.Suiting.{SuitsStep, IsBinding, IsUse, IsOver};
+ghost use Rattle.sva_core.specs.Books.{IsHandedIn, IsHandedOut};
 ghost use Rattle.sva_fabric.specs.Tokens.{HasCalled, HasUnbound, IsAdvance, IsFault};
 
 use crate::fabric::Fabric;
@@ -12,7 +12,7 @@ use crate::faults::Fault;
 use crate::port::Port;
 use crate::tokens::{Lease, Leaving, Moved, UseTicket};
 use std::sync::Wait;
-use sva_journal::{CallTokens, Ledgers};
+use sva_core::{CallTokens, Ledgers};
 use sva_step::{Answer, Step};
 
 impl<C: Ledgers> Fabric<C> {

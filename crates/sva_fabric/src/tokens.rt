@@ -5,7 +5,7 @@ ghost use Rattle.std.specs.Prelude.{◌≡◌, []};
 
 use std::alloc::Global;
 use std::marker::Model;
-use sva_journal::{Bindings, Ledgers, Part, Uses};
+use sva_core::{Bindings, Ledgers, Part, Uses};
 
 /// A binding that `Fabric::bind` made. Contracts see its numbers.
 pub struct Lease<C: Ledgers> {

@@ -33,7 +33,7 @@ pub lines_of-last : (text : List ℕ) → 0 < length text → line_len text ≡ 
 lines_of-last [] some h = absurd (omega arith)
 lines_of-last (byte ∷ text) some h = last_step byte text (eqb byte 10) (lines_of-last text) h
 
-within : (t : Bool) (m n : ℕ) → m ≤ n → cond t 0 (suc m) ≤ suc n
+pub within : (t : Bool) (m n : ℕ) → m ≤ n → cond t 0 (suc m) ≤ suc n
 within true m n h = omega arith
 within false m n h = omega arith
 

@@ -1,5 +1,6 @@
 -- Lemmas on the words of a line and the places of the first of them.
-use Rattle.std.proofs.Common.{◌≡◌, ◌≢◌, ◌<◌, ◌≤◌, ◌+◌, ◌∙◌, ap, sym, subst, arith, ℕ, zero, suc, List, [], ◌∷◌, Bool, true, false, ◌||◌, cond, length, take, drop}
+use Rattle.std.proofs.Common.{◌≡◌, ◌≢◌, ◌<◌, ◌≤◌, ◌+◌, ◌∙◌, ap, sym, subst, arith, ℕ, zero, suc, List, [], ◌∷◌, Bool}
+use Rattle.std.proofs.Common.{true, false, ◌||◌, cond, length, take, drop}
 use Rattle.std.proofs.Common.{get_or, set, refl, eqb, Some, None}
 use Rattle.std.specs.List.{onto_first, position, position_or_len}
 use Rattle.std.proofs.lemmas.Bool.{eqb-true, ltb-false}
@@ -7,16 +8,13 @@ use Rattle.std.proofs.lemmas.List.{drop-drop}
 use Rattle.std.proofs.lemmas.List.Recursion.{is_position_or_len}
 use Rattle.sva_grammar.specs.Grammar.{word, words_of}
 use Rattle.sva_grammar.specs.Places.{ends_word, in_places, line_in, line_len, word_len}
+use Rattle.sva_grammar.proofs.LineLemmas.{within}
 
 -- ---- The first word of a text and its first line
 
 -- the bytes that `position` passes over
 word_len-is : (text : List ℕ) → word_len text ≡ position_or_len ends_word text
 word_len-is = is_position_or_len word_len ends_word refl (λ x xs. ap (λ n. cond (ends_word x) 0 n) (omega arith))
-
-within : (t : Bool) (m n : ℕ) → m ≤ n → cond t 0 (suc m) ≤ suc n
-within true m n h = omega arith
-within false m n h = omega arith
 
 pub word_len-le : (text : List ℕ) → word_len text ≤ length text
 word_len-le [] = omega arith
@@ -42,7 +40,8 @@ word_len-not_found text h =
 
 -- where no space ends the first word of a text, it is its first line
 last_word : (byte : ℕ) (text : List ℕ) (space lf : Bool) → eqb byte 32 ≡ space → eqb byte 10 ≡ lf
-    → ((word_len text < length text → get_or text (word_len text) 0 ≡ 10) → (line_len text ≡ word_len text) × (words_of (line_in text) ≡ take (word_len text) text ∷ []))
+    → ((word_len text < length text → get_or text (word_len text) 0 ≡ 10)
+    → (line_len text ≡ word_len text) × (words_of (line_in text) ≡ take (word_len text) text ∷ []))
     → (cond (space || lf) 0 (suc (word_len text)) < suc (length text) → get_or (byte ∷ text) (cond (space || lf) 0 (suc (word_len text))) 0 ≡ 10)
     → (cond lf 0 (suc (line_len text)) ≡ cond (space || lf) 0 (suc (word_len text)))
     × (words_of (take (cond lf 0 (suc (line_len text))) (byte ∷ text)) ≡ take (cond (space || lf) 0 (suc (word_len text))) (byte ∷ text) ∷ [])

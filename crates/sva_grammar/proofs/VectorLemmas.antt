@@ -138,7 +138,8 @@ pub next_digit : (word : List ℕ) (value i : ℕ) → is_vector word ≡ true �
     × (value * 16 + digit_value (get_or word i 0) < 2 ^ 32)
 next_digit word value i h inside digits written =
     let more = drop_more word i 0 inside in
-    let parts = and_parts (is_vector_digit (get_or word i 0)) (list_all is_vector_digit (drop (i + 1) word)) (sym (ap (list_all is_vector_digit) more) ∙ digits) in
+    let parts = and_parts (is_vector_digit (get_or word i 0)) (list_all is_vector_digit (drop (i + 1) word))
+    (sym (ap (list_all is_vector_digit) more) ∙ digits) in
     let next = sym (ap (digits_value_after 16 value) more) ∙ written in
     let above = value_after-ge (value * 16 + digit_value (get_or word i 0)) (drop (i + 1) word) in
     (parts.0, parts.1, next, omega (arith, above, next, vector_small word h))

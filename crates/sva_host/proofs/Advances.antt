@@ -102,7 +102,7 @@ advanced host v n r after view h sound is =
 
 -- The page requests that wait are the host's own.
 
-queued_with : (groups : ℕ → List HostGroupWire) (parts : List EndpointWire)
+pub queued_with : (groups : ℕ → List HostGroupWire) (parts : List EndpointWire)
     → sum_by (λ (part : EndpointWire). length part.page_queue) (parts_with groups parts) ≡ sum_by (λ (part : EndpointWire). length part.page_queue) parts
 queued_with groups [] = refl
 queued_with groups (p ∷ parts) =
@@ -112,7 +112,8 @@ queued_with groups (p ∷ parts) =
     ∙ sym (sum_by-cons queued p parts)
 
 waiting_with : (job_table : JobTableWire) (w : Wire) → waiting (serving job_table w) ≡ waiting w
-waiting_with job_table w = ap (λ (k : ℕ). count_by (λ (flight : FlightWire). is_page_request flight.message) w.in_flight + k) (queued_with job_table.groups w.parts)
+waiting_with job_table w = ap (λ (k : ℕ). count_by (λ (flight : FlightWire). is_page_request flight.message) w.in_flight
+    + k) (queued_with job_table.groups w.parts)
 
 pub advance_still : (host : Inside) (v : Wire) (n : ℕ) (r : Reply) (after : Wire) → wire_of host ≡ v → IsHost host → IsSound v
     → AdvancesBy host.state (is_open n host.job_table.groups) n r after

@@ -2,7 +2,7 @@
 use Rattle.std.proofs.Common.{◌≡◌, refl, ap, sym, ◌∙◌, ℕ, suc, ◌+◌, ◌*◌, ◌^◌, ◌<◌, Bool, true, false}
 use Rattle.std.specs.Prelude.{nat_lt, if◌then◌else◌, Some, None, List, [], ◌∷◌, ◌++◌, map, filter, drop, length, slice_set, ◌||◌, not}
 use Rattle.sva_model.specs.Words.{tabulate, count_below}
-use Rattle.sva_model.specs.Acts.{disables, scope_of, sent_as, count_field}
+use Rattle.sva_model.specs.StateChanges.{disables, scope_of, sent_as, count_field}
 use Rattle.sva_model.specs.State.PasidState.{Off, On, Ending}
 use Rattle.sva_model.specs.Message.Message.{InvalidateMessage, RequestMessage, InvalidatedMessage, PageRequestMessage, MarkerMessage, ResetDoneMessage}
 use Rattle.sva_model.specs.Wire.{Wire, EndpointWire, DeviceWire, UnitWire, HostGroupWire}
@@ -59,7 +59,8 @@ given_with job_table w n e = λ i. w.next_cookie + count_below e (λ k. submits_
 
 pub needed_with : (job_table : JobTableWire) (w : Wire) (n : ℕ)
     → count_below (length (serving job_table w).parts) (submits (serving job_table w) n) ≡ count_below (length w.parts) (submits w n)
-needed_with job_table w n = λ i. count_below (length_with job_table.groups w.parts i) (λ e. submits_by (unit_with job_table.groups w.parts e i) (bound_at w e n))
+needed_with job_table w n = λ i. count_below (length_with job_table.groups w.parts i)
+    (λ e. submits_by (unit_with job_table.groups w.parts e i) (bound_at w e n))
 
 pub targets_with : (job_table : JobTableWire) (w : Wire) (n : ℕ)
     → targets_of (serving job_table w) n ≡ targets_of w n

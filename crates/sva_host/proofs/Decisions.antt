@@ -220,12 +220,15 @@ decide_with job_table w (step.Evict e t q) asks =
     (by_one answer.Evicted (Move.Evict e t q))
 decide_with job_table w (step.Fault e t q r x group l) asks =
     let device = device_with job_table.groups w.parts e in
-    λ i. checked (there_with job_table w e i ∷ device_causes_of_fault (device i) t q group ++ numbers_spent w.next_message 1 ∷ []) (fault_result (device i) e t q r x l group)
+    λ i. checked (there_with job_table w e i ∷ device_causes_of_fault (device i) t q group
+    ++ numbers_spent w.next_message 1 ∷ []) (fault_result (device i) e t q r x l group)
 decide_with job_table w (step.Finish e vector count) asks =
-    λ i. checked (there_with job_table w e i ∷ device_causes_of_finish (device_with job_table.groups w.parts e i) vector count ++ numbers_spent w.next_message count ∷ [])
+    λ i. checked (there_with job_table w e i ∷ device_causes_of_finish
+    (device_with job_table.groups w.parts e i) vector count ++ numbers_spent w.next_message count ∷ [])
     (by_one (answer.Sent count) (Move.Finish e vector count))
 decide_with job_table w (step.Quit e t) asks =
-    λ i. checked (there_with job_table w e i ∷ device_causes_of_quit (device_with job_table.groups w.parts e i) t ++ numbers_spent w.next_message 1 ∷ []) (by_one answer.Marker (Move.Quit e t))
+    λ i. checked (there_with job_table w e i ∷ device_causes_of_quit (device_with job_table.groups w.parts e i) t
+    ++ numbers_spent w.next_message 1 ∷ []) (by_one answer.Marker (Move.Quit e t))
 decide_with job_table w (step.Deliver n) asks = deliver_with job_table w (flight_of w n)
 decide_with job_table w (step.Look f) asks = refl
 decide_with job_table w (step.Bearer t) asks =

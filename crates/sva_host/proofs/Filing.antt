@@ -41,6 +41,7 @@ use Rattle.sva_host.proofs.Parts.{length_with, part_with, unit_with, page_queue_
 use Rattle.sva_host.proofs.Changes.{part_changed}
 use Rattle.sva_host.proofs.Housed.{housed_filed}
 use Rattle.sva_host.proofs.Decisions.{there_with, resetting_with}
+use Rattle.sva_host.proofs.Advances.{queued_with}
 
 -- What is asked of the unit.
 
@@ -269,22 +270,13 @@ begins_anew host e b request sound is none =
 
 -- And what stays so.
 
-queues_with : (groups : ℕ → List HostGroupWire) (parts : List EndpointWire)
-    → sum_by (λ (p : EndpointWire). length p.page_queue) (parts_with groups parts) ≡ sum_by (λ (p : EndpointWire). length p.page_queue) parts
-queues_with groups [] = refl
-queues_with groups (p ∷ parts) =
-    let rest = queues_with (λ e. groups (suc e)) parts in
-    let before = sum_by-cons (λ (q : EndpointWire). length q.page_queue) p parts in
-    let later = sum_by-cons (λ (q : EndpointWire). length q.page_queue) (record p { host_groups = groups 0 }) (parts_with (λ e. groups (suc e)) parts) in
-    omega (arith, rest, before, later)
-
 -- a request fewer waits
 fewer_wait : (w : Wire) (e : ℕ) (r : PageRequestWire) (rest : List PageRequestWire) → e < length w.parts → (part_of w e).page_queue ≡ r ∷ rest
     → waiting (unqueued w e) + 1 ≤ waiting w
 fewer_wait w e r rest there head =
     let counted = file_counted w e 0 r rest there head in
-    let here = queues_with (λ k. []) (unqueued w e).parts in
-    let filed_there = queues_with (λ k. []) (moved w (Move.File e 0 r)).parts in
+    let here = queued_with (λ k. []) (unqueued w e).parts in
+    let filed_there = queued_with (λ k. []) (moved w (Move.File e 0 r)).parts in
     let same = ap (sum_by (λ (p : EndpointWire). length p.page_queue)) one in
     omega (arith, counted, here, filed_there, same)
   where

@@ -55,7 +55,8 @@ use Rattle.sva_host_state.proofs.Responses.{responds_none}
 response_with : (job_table : JobTableWire) (w : Wire) (job : JobWire) (v : Verdict) → response_to (serving job_table w) job v ≡ response_to w job v
 response_with job_table w job v = λ i. response_for (unit_with job_table.groups w.parts job.endpoint i).is_open (binding_of w job.binding) v
 
-causes_with : (job_table : JobTableWire) (w : Wire) (job : JobWire) (v : Verdict) → reply_causes (serving job_table w) v (Some job) ≡ reply_causes w v (Some job)
+causes_with : (job_table : JobTableWire) (w : Wire) (job : JobWire) (v : Verdict)
+    → reply_causes (serving job_table w) v (Some job) ≡ reply_causes w v (Some job)
 causes_with job_table w job v =
     λ i. (is_success (response_with job_table w job v i) && is_write_of_read_only w job, refusal.BadVerdict)
     ∷ (is_success (response_with job_table w job v i) && nat_lt (length (free_from 0 w.places)) (length (newly_mapped w job)), refusal.NoFrame)

@@ -18,7 +18,11 @@ pub record JobTableWire : Type 0 where
 
 -- that of so many workers
 abbrev pub job_table_seen : (workers : ℕ) → JobTable → JobTableWire
-job_table_seen workers job_table = record { groups = λ endpoint. groups_seen endpoint job_table.groups; jobs = jobs_seen job_table; hands = hands_seen workers job_table }
+job_table_seen workers job_table = record {
+  groups = λ endpoint. groups_seen endpoint job_table.groups;
+  jobs = jobs_seen job_table;
+  hands = hands_seen workers job_table;
+}
 
 -- what is kept by a host together with its table of jobs
 abbrev pub serving : JobTableWire → Wire → Wire

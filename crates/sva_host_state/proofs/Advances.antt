@@ -26,7 +26,8 @@ use Rattle.sva_host_state.specs.declared.advancing.Course.{Course}
 use Rattle.sva_host_state.specs.declared.advancing.Course.TheVariants.{Drain, Invalidate, Settle, Release}
 use Rattle.sva_host_state.specs.declared.host_state.HostState.TheInside.{Inside as HostState}
 use Rattle.sva_host_state.specs.declared.host_state.Port.{Port}
-use Rattle.sva_host_state.specs.Advancing.{course_by, course_of, advance_by, advance_causes, MayAdvance, decide_advance, AdvancesBy, is_quiet, is_due, descriptors_of}
+use Rattle.sva_host_state.specs.Advancing.{course_by, course_of, advance_by, advance_causes, MayAdvance, decide_advance}
+use Rattle.sva_host_state.specs.Advancing.{AdvancesBy, is_quiet, is_due, descriptors_of}
 use Rattle.sva_host_state.specs.Inner.{part_seen, wire_of, IsHostState}
 use Rattle.sva_host_state.specs.Stages.{IsIn, IsSeenIn, MovesTo, Goes}
 use Rattle.sva_host_state.specs.Steps.{Does, PortFor}
@@ -150,7 +151,8 @@ settles_next v g n b found stays is_open due none = sym (opened v g n b found st
     go LiveWire stays is none = absurd (cc (is))
     go (StoppingWire marked) stays is none = absurd (omega (arith, none))
     go (DrainingWire cookie) stays is none = absurd (omega (arith, none))
-    go (InvalidatingWire cookie) stays is none = allows (Settle b.endpoint) ((not (is_wait_done (unit_of v b.endpoint) cookie), refusal.NotYet) ∷ []) (ap not is, tt)
+    go (InvalidatingWire cookie) stays is none = allows (Settle b.endpoint)
+        ((not (is_wait_done (unit_of v b.endpoint) cookie), refusal.NotYet) ∷ []) (ap not is, tt)
     go QuietWire stays is none = absurd (cc (stays))
     go LostWire stays is none = absurd (cc (is))
 

@@ -6,7 +6,7 @@ use Rattle.sva_step.specs.declared.answers.Answer.{Answer}
 use Rattle.sva_step.specs.declared.answers.Answer.TheVariants as answer
 use Rattle.sva_step.specs.declared.refusals.Refusal.TheVariants as refusal
 use Rattle.sva_step.specs.declared.steps.Step.TheVariants as step
-use Rattle.sva_model.specs.Acts.{disables}
+use Rattle.sva_model.specs.StateChanges.{disables}
 use Rattle.sva_model.specs.Range.{Range}
 use Rattle.sva_model.specs.State.{PasidState as DeviceState}
 use Rattle.sva_model.specs.Wire.{Wire, EndpointWire, DeviceWire, RequestWire, FlightWire}

@@ -6,7 +6,7 @@ use Rattle.sva_step.specs.declared.refusals.Refusal.{Refusal}
 use Rattle.sva_step.specs.declared.refusals.Refusal.TheVariants as refusal
 use Rattle.sva_step.specs.declared.steps.Step.TheVariants as step
 use Rattle.sva_model.specs.Words.{any_below}
-use Rattle.sva_model.specs.Acts.{count_field}
+use Rattle.sva_model.specs.StateChanges.{count_field}
 use Rattle.sva_model.specs.Labels.{is_set, names_none}
 use Rattle.sva_model.specs.Message.Message.{InvalidatedMessage}
 use Rattle.sva_model.specs.Refusals.{Cause}

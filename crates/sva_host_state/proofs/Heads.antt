@@ -6,7 +6,7 @@ use Rattle.sva_step.specs.declared.answers.Answer.TheVariants as answer
 use Rattle.sva_step.specs.declared.refusals.Refusal.{Refusal}
 use Rattle.sva_step.specs.declared.refusals.Refusal.TheVariants as refusal
 use Rattle.sva_step.specs.declared.steps.Step.TheVariants as step
-use Rattle.sva_model.specs.Acts.{scope_of}
+use Rattle.sva_model.specs.StateChanges.{scope_of}
 use Rattle.sva_model.specs.Message.Message.{InvalidateMessage}
 use Rattle.sva_model.specs.Refusals.{Cause}
 use Rattle.sva_model.specs.Wire.{Wire, EndpointWire, Descriptor}
@@ -188,4 +188,5 @@ pump_passed host v e port cookie after view is head settles =
     same : wire_of (record (with_unit_in host e port (after_pass cookie port.unit)) { address_spaces = after }) ≡ moved (wire_of host) (Move.Pass e cookie)
     same =
         ap (λ (m : AddressSpacesSeen). wire_of (record (with_unit_in host e port (after_pass cookie port.unit)) { address_spaces = m })) settles
-        ∙ (λ i. record (with_unit_seen host e port (λ u. unit_passed u cookie) is i) { places = (settled host.address_spaces e (settled_cookie cookie)).places })
+        ∙ (λ i. record (with_unit_seen host e port (λ u. unit_passed u cookie) is i)
+        { places = (settled host.address_spaces e (settled_cookie cookie)).places })

@@ -128,7 +128,8 @@ dropped host v n e t bag view numbered arriving closed taken =
     done = ap (λ (b : InFlight). wire_of (record host { in_flight = b })) taken
         ∙ (λ i. record (wire_of host) { in_flight = (flight_laws host.in_flight numbered).delivered n i })
 
-pub marked : (host : HostState) (v : Wire) (n e t : ℕ) (p : TableEntry) (bag : InFlight) (after : List TableEntry) → wire_of host ≡ v → IsNumbered host.in_flight
+pub marked : (host : HostState) (v : Wire) (n e t : ℕ) (p : TableEntry) (bag : InFlight) (after : List TableEntry)
+    → wire_of host ≡ v → IsNumbered host.in_flight
     → IsArriving v n e (Marker t)
     → (unit_of v e).is_open ≡ true → Some p ≡ place_under e t host.bindings → bag ≡ without host.in_flight n
     → MovesTo (StoppingWire true) p.binding host.bindings after

@@ -56,7 +56,8 @@ new_sound (suc n) = All-cons (λ (p : Port). IsSound p.device) new_port (replica
 parts_seen : (n : ℕ) (ports : List Port) → ports ≡ replicate n new_port → map part_seen ports ≡ tabulate n (λ e. idle)
 parts_seen n ports is = ap (map part_seen) is ∙ seen_repeated n new_port ∙ (λ i. replicate n (new_seen i)) ∙ repeated n idle
 
-pub opened_seen : (host : HostState) (config : Config) → host.address_spaces ≡ first_address_spaces config.frames config.first → host.bindings ≡ [] → host.ports.items
+pub opened_seen : (host : HostState) (config : Config)
+    → host.address_spaces ≡ first_address_spaces config.frames config.first → host.bindings ≡ [] → host.ports.items
     ≡ replicate config.endpoints new_port
     → host.in_flight ≡ opened config.first → host.workers ≡ config.workers → host.next_binding ≡ config.first → host.next_cookie ≡ config.first
     → wire_of host ≡ first_wire config

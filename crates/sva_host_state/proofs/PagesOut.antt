@@ -47,7 +47,8 @@ unmap_refused host n q count x is =
 units_decide : (host : HostState) (n q count : ℕ) → Ok tt ≡ may_unmap host.address_spaces n q count
     → decide_of (wire_of host) (step.Unmap n q count) ≡ checked (unit_causes (wire_of host) n (count + 1)) (result_of (wire_of host) (step.Unmap n q count))
 units_decide host n q count is =
-    passed tt tt (unmap_causes_of host.address_spaces n q count) (unit_causes (wire_of host) n (count + 1)) (result_of (wire_of host) (step.Unmap n q count)) (sym is)
+    passed tt tt (unmap_causes_of host.address_spaces n q count) (unit_causes (wire_of host) n (count + 1))
+    (result_of (wire_of host) (step.Unmap n q count)) (sym is)
 
 pub units_refuse : (host : HostState) (v : Wire) (n q count : ℕ) (x : Refusal) → wire_of host ≡ v → Ok tt ≡ may_unmap host.address_spaces n q count → Err x
     ≡ verdict (unit_causes v n (count + 1))
@@ -178,7 +179,8 @@ range_refused host n q order x is =
 range_decide : (host : HostState) (n q order : ℕ) → Ok tt ≡ may_unmap_range host.address_spaces n q order
     → decide_of (wire_of host) (step.UnmapRange n q order) ≡ checked (unit_causes (wire_of host) n 2) (result_of (wire_of host) (step.UnmapRange n q order))
 range_decide host n q order is =
-    passed tt tt (range_causes_of host.address_spaces n q order) (unit_causes (wire_of host) n 2) (result_of (wire_of host) (step.UnmapRange n q order)) (sym is)
+    passed tt tt (range_causes_of host.address_spaces n q order) (unit_causes (wire_of host) n 2)
+    (result_of (wire_of host) (step.UnmapRange n q order)) (sym is)
 
 pub range_refuse : (host : HostState) (v : Wire) (n q order : ℕ) (x : Refusal) → wire_of host ≡ v → Ok tt ≡ may_unmap_range host.address_spaces n q order
     → Err x ≡ verdict (unit_causes v n 2)

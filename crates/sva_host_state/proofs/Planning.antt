@@ -86,7 +86,8 @@ pub long_first : {A : Type 0} (at : ℕ → Option A) (units : ℕ) (xs : List (
 long_first at units xs is = ap length is ∙ tabulate_length 8 (row units at)
 
 -- nothing is awaited yet at the next unit
-pub nothing_yet : (at : ℕ → Option TargetWire) (waits : List (Option Target)) (e : ℕ) → targets_seen waits ≡ of_first e at → e < 8 → slice_get waits e ≡ Some None
+pub nothing_yet : (at : ℕ → Option TargetWire) (waits : List (Option Target)) (e : ℕ)
+    → targets_seen waits ≡ of_first e at → e < 8 → slice_get waits e ≡ Some None
 nothing_yet at waits e is low =
     let len : length waits ≡ 8 = sym (length-map waits (option_map target_seen)) ∙ ap length is ∙ tabulate_length 8 (row e at) in
     slice_get-get_or waits e None (omega arith)

@@ -206,7 +206,8 @@ success_says host job n t =
     (success_maps (wire_of host) (job_seen job) n ++ Move.Respond (job_seen job) t SuccessCode ∷ [])
 
 -- the memory refuses it
-pub success_refused : (host : HostState) (v : Wire) (job : Job) (n t : ℕ) (x : Refusal) → wire_of host ≡ v → Err x ≡ may_map_all host.address_spaces n (asks_of_job job)
+pub success_refused : (host : HostState) (v : Wire) (job : Job) (n t : ℕ) (x : Refusal) → wire_of host ≡ v
+    → Err x ≡ may_map_all host.address_spaces n (asks_of_job job)
     → Does (succeeded v (job_seen job) n t) v (Err x) v
 success_refused host v job n t x view is =
     subst (λ (w : Wire). Does (succeeded w (job_seen job) n t) w (Err x) w) view
@@ -249,7 +250,8 @@ pub unmapped_all : (host : HostState) (v : Wire) (job : Job) (n t : ℕ) (after 
     → Ok tt ≡ may_map_all host.address_spaces n (asks_of_job job) → host.in_flight.next < 2 ^ 63 → after ≡ host.address_spaces
     → Does (succeeded v (job_seen job) n t) v (Err refusal.OutOfMemory) (wire_of (record host { address_spaces = after }))
 unmapped_all host v job n t after view may under kept =
-    without_memory host (record host { address_spaces = after }) v job n t view may under (ap (λ (m : AddressSpacesSeen). wire_of (record host { address_spaces = m })) kept)
+    without_memory host (record host { address_spaces = after }) v job n t view may under
+    (ap (λ (m : AddressSpacesSeen). wire_of (record host { address_spaces = m })) kept)
 
 sent_bag : (bag after : InFlight) (e : ℕ) (kind : Kind) (r : Result (Unit {0}) Refusal) → Sends bag e kind 1 r after → is_err r ≡ false
     → after ≡ with_sent bag (record { endpoint = e; kind = kind }) 1
@@ -277,7 +279,8 @@ maps_length n asks [] fs enough = refl
 maps_length n asks (q ∷ qs) [] enough = absurd (omega (arith, enough))
 maps_length n asks (q ∷ qs) (f ∷ fs) enough = ap suc (maps_length n asks qs fs (omega (arith, enough)))
 
-is_fine : (host : HostState) (job : Job) (n : ℕ) → Ok tt ≡ may_map_all host.address_spaces n (asks_of_job job) → IsOk (may_map_all host.address_spaces n (asks_of_job job))
+is_fine : (host : HostState) (job : Job) (n : ℕ) → Ok tt ≡ may_map_all host.address_spaces n (asks_of_job job)
+    → IsOk (may_map_all host.address_spaces n (asks_of_job job))
 is_fine host job n may = subst (λ (r : Result (Unit {0}) Refusal). IsOk r) may refl
 
 count_is : (host : HostState) (job : Job) (n : ℕ) (pages : List ℕ) → Ok tt ≡ may_map_all host.address_spaces n (asks_of_job job)
@@ -292,7 +295,8 @@ all_moved_last : (w : Wire) (ms : List Move) (m : Move) → all_moved w (ms ++ m
 all_moved_last w [] m = refl
 all_moved_last w (a ∷ ms) m = all_moved_last (moved w a) ms m
 
-pub success_done : (host : HostState) (v : Wire) (job : Job) (n t k : ℕ) (pages : List ℕ) (after : AddressSpacesSeen) (bag : InFlight) (r : Result (Unit {0}) Refusal)
+pub success_done : (host : HostState) (v : Wire) (job : Job) (n t k : ℕ) (pages : List ℕ) (after : AddressSpacesSeen)
+    (bag : InFlight) (r : Result (Unit {0}) Refusal)
     → wire_of host ≡ v
     → Ok tt ≡ may_map_all host.address_spaces n (asks_of_job job) → host.in_flight.next < 2 ^ 63 → pages ≡ new_pages host.address_spaces n (asks_of_job job) → k
     ≡ length pages
@@ -300,7 +304,8 @@ pub success_done : (host : HostState) (v : Wire) (job : Job) (n t k : ℕ) (page
     → Sends host.in_flight job.unit (Response t job.index code.Success) 1 r bag → is_err r ≡ false
     → Does (succeeded v (job_seen job) n t) v (Ok (answer.Success k)) (wire_of (record host { address_spaces = after; in_flight = bag }))
 success_done host v job n t k pages after bag r view may under are count maps sends worked =
-    subst (λ (w : Wire). Does (succeeded w (job_seen job) n t) w (Ok (answer.Success k)) (wire_of (record host { address_spaces = after; in_flight = bag }))) view
+    subst (λ (w : Wire). Does (succeeded w (job_seen job) n t) w (Ok (answer.Success k))
+    (wire_of (record host { address_spaces = after; in_flight = bag }))) view
     (subst (λ (d : Decision). Does d (wire_of host) (Ok (answer.Success k)) (wire_of (record host { address_spaces = after; in_flight = bag })))
     (sym (accepted host job n t may under))
     (ap (λ (m : ℕ). Ok (answer.Success m)) (count ∙ count_is host job n pages may are), left))

@@ -30,7 +30,8 @@ stepped host v s r after view steps =
     subst (λ (u : Wire). ByLabels u s r (wire_of (record host { address_spaces = after }))) view
     (from_memory (wire_of host) s r (wire_of (record host { address_spaces = after })) (steps (wire_of host) refl))
 
-pub looked : (host : HostState) (v : Wire) (s : Step) (r : Reply) → wire_of host ≡ v → memory.Steps s host.address_spaces r host.address_spaces → ByLabels v s r v
+pub looked : (host : HostState) (v : Wire) (s : Step) (r : Reply) → wire_of host ≡ v
+    → memory.Steps s host.address_spaces r host.address_spaces → ByLabels v s r v
 looked host v s r view steps =
     subst (λ (u : Wire). ByLabels u s r u) view (from_memory (wire_of host) s r (wire_of host) (steps (wire_of host) refl))
 
@@ -39,7 +40,8 @@ looked host v s r view steps =
 bound_seen : (host : HostState) (n : ℕ) → is_bound (wire_of host) n ≡ places.is_bound n host.bindings
 bound_seen host n = sym (((bindings_are_seen host.bindings).0 (wire_of host) refl).bound n)
 
-pub still_bound : (host : HostState) (v : Wire) (n : ℕ) → wire_of host ≡ v → memory.has_space host.address_spaces n ≡ true → places.is_bound n host.bindings ≡ true
+pub still_bound : (host : HostState) (v : Wire) (n : ℕ) → wire_of host ≡ v
+    → memory.has_space host.address_spaces n ≡ true → places.is_bound n host.bindings ≡ true
     → ByLabels v (step.DropSpace n) (Err refusal.StillBound) v
 still_bound host v n view there bound =
     subst (λ (u : Wire). ByLabels u (step.DropSpace n) (Err refusal.StillBound) u) view

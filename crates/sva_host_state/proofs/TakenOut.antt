@@ -18,7 +18,8 @@ pub parts_seen : (host : HostState) (v : Wire) → wire_of host ≡ v → length
 parts_seen host v view = sym (ap (λ (u : Wire). length u.parts) view) ∙ length-map host.ports.items part_seen
 
 -- the unit of an endpoint that is there, read through a slice
-pub unit_there : (host : HostState) (v : Wire) (e : ℕ) (slice : List Port) (d : Port) → wire_of host ≡ v → e < length host.ports.items → slice ≡ host.ports.items
+pub unit_there : (host : HostState) (v : Wire) (e : ℕ) (slice : List Port) (d : Port) → wire_of host ≡ v
+    → e < length host.ports.items → slice ≡ host.ports.items
     → (slice_index_or slice e d).unit.unit ≡ unit_of v e
 unit_there host v e slice d view there same =
     ap (λ (ports : List Port). (slice_index_or ports e d).unit.unit) same

@@ -44,7 +44,10 @@ without_first u = with_requests u (drop 1 u.page_queue)
 
 -- what is decided, by whether the unit is open
 abbrev decision : (n e : ℕ) → PageRequest → Bool → Decision
-decision n e r b = record { reply = Ok (page_request_result e n (page_request_seen r) b).answer; moves = (page_request_result e n (page_request_seen r) b).moves }
+decision n e r b = record {
+  reply = Ok (page_request_result e n (page_request_seen r) b).answer;
+  moves = (page_request_result e n (page_request_seen r) b).moves;
+}
 
 decided : (w : Wire) (n e : ℕ) (r : PageRequest) (b : Bool) → IsArriving w n e (kind.PageRequest r) → (unit_of w e).is_open ≡ b
     → decide_of w (step.Deliver n) ≡ decision n e r b
@@ -85,7 +88,8 @@ queued host n e r port bag numbered is arriving is_open taken =
     (wire_of (record (with_unit_in host e port (with_last r port.unit)) { in_flight = bag })))
     (sym (decided (wire_of host) n e r true arriving (open_there host e port true is is_open))) (refl, after)
   where
-    after : wire_of (record (with_unit_in host e port (with_last r port.unit)) { in_flight = bag }) ≡ moved (wire_of host) (Move.Arrive e n (page_request_seen r))
+    after : wire_of (record (with_unit_in host e port (with_last r port.unit)) { in_flight = bag })
+        ≡ moved (wire_of host) (Move.Arrive e n (page_request_seen r))
     after =
         ap (λ (b : InFlight). wire_of (record (with_unit_in host e port (with_last r port.unit)) { in_flight = b })) taken
         ∙ (λ i. record (with_part_seen host e port (with_last r) is i) { in_flight = (flight_laws host.in_flight numbered).delivered n i })

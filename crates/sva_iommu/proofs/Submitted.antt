@@ -8,7 +8,7 @@ use Rattle.sva_queue.specs.Cookies.{AreRising, HasNumber, number_after}
 use Rattle.sva_queue.proofs.Cookies.{rising-append, number_after-append}
 use Rattle.sva_model.specs.Words.{tabulate}
 use Rattle.sva_model.specs.Range as model
-use Rattle.sva_model.specs.Acts.{range_at}
+use Rattle.sva_model.specs.Unmappings.{range_at}
 use Rattle.sva_model.specs.Wire.Descriptor.{RangeDescriptor}
 use Rattle.sva_labels.specs.Moves.{descriptors_for}
 use Rattle.sva_lemmas.proofs.Lists.{tabulate_length}

@@ -8,7 +8,7 @@ use Rattle.sva_queue.specs.declared.descriptors.Descriptor.{Descriptor}
 use Rattle.sva_queue.specs.declared.descriptors.Descriptor.TheVariants.{Range, Pasid, Wait}
 use Rattle.sva_queue.specs.Queue.{Queue}
 use Rattle.sva_model.specs.Words.{tabulate}
-use Rattle.sva_model.specs.Acts.{range_at}
+use Rattle.sva_model.specs.Unmappings.{range_at}
 use Rattle.sva_model.specs.Wire.{UnitWire, BusyWire, PageRequestWire, Descriptor as DescriptorWire}
 use Rattle.sva_model.specs.Wire.BusyWire.{Fresh, Counting}
 use Rattle.sva_model.specs.Wire.Descriptor.{RangeDescriptor, PasidDescriptor, WaitDescriptor}

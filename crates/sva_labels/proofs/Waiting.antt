@@ -9,7 +9,7 @@ use Rattle.sva_model.specs.Words.{tabulate}
 use Rattle.sva_model.specs.Message.{Message}
 use Rattle.sva_model.specs.Message.Message.{StartMessage, StopMessage, ResetMessage, InvalidateMessage, ResponseMessage, RequestMessage}
 use Rattle.sva_model.specs.Message.Message.{InvalidatedMessage, PageRequestMessage, MarkerMessage, ResetDoneMessage}
-use Rattle.sva_model.specs.Acts.{count_field, scope_of}
+use Rattle.sva_model.specs.StateChanges.{count_field, scope_of}
 use Rattle.sva_model.specs.Wire.{Wire, EndpointWire, FlightWire, DeviceWire, UnitWire, PageRequestWire}
 use Rattle.sva_labels.specs.Finding.{idle, part_of, submits, flight_of}
 use Rattle.sva_labels.specs.Moves.{Move, moved, all_moved, with_part, with_device, with_unit, part_unmapped, sent, sent_copies, delivered, filed}

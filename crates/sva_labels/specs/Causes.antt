@@ -173,7 +173,11 @@ reply_causes wire verdict None = (true, refusal.NoJob) ∷ []
 reply_causes wire verdict (Some job) =
     (replies_success wire job verdict && is_write_of_read_only wire job, refusal.BadVerdict)
     ∷ (replies_success wire job verdict && nat_lt (length (free_from 0 wire.places)) (length (newly_mapped wire job)), refusal.NoFrame)
-    ∷ (replies_success wire job verdict && nat_lt Limits.most_mapped (length (pages_in wire (space_of_job wire job)) + length (newly_mapped wire job)), refusal.SpaceFull)
+    ∷ (
+      replies_success wire job verdict && nat_lt Limits.most_mapped
+          (length (pages_in wire (space_of_job wire job)) + length (newly_mapped wire job)),
+      refusal.SpaceFull,
+    )
     ∷ (responds wire job && lacks wire.next_message 1, refusal.NumbersSpent)
     ∷ []
 

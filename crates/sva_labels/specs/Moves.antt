@@ -14,7 +14,8 @@ use Rattle.sva_model.specs.State.{PasidState}
 use Rattle.sva_model.specs.State.PasidState.{Off, On, Ending}
 use Rattle.sva_model.specs.States.{Extent}
 use Rattle.sva_model.specs.States.Extent.{Pages, AllPages}
-use Rattle.sva_model.specs.Acts.{in_range, range_at, disables, scope_of, stale_if, sent_as, count_field}
+use Rattle.sva_model.specs.Unmappings.{in_range, range_at}
+use Rattle.sva_model.specs.StateChanges.{disables, scope_of, stale_if, sent_as, count_field}
 use Rattle.sva_model.specs.Labels
 use Rattle.sva_model.specs.Wire.{Wire, SpaceWire, PageWire, PlaceWire, TargetWire, BindingWire, StageWire, EndpointWire, DeviceWire, UnitWire, RequestWire}
 use Rattle.sva_model.specs.Wire.{TranslationWire, UseWire, TakenWire, GroupWire, BusyWire, Descriptor, PageRequestWire, HostGroupWire, JobWire, insert_by}

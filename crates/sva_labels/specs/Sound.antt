@@ -133,7 +133,8 @@ pub record IsSound (wire : Wire) : Type 0 where
   pub front_low : (endpoint : ℕ) → endpoint < length wire.parts → (unit_of wire endpoint).front ≤ (unit_of wire endpoint).waits_end
   pub queue_fits : (endpoint : ℕ) → endpoint < length wire.parts → length (unit_of wire endpoint).queue ≤ Limits.queue_places
   -- PASIDs (`begin`, `lowest`, the bearers): 1 to 32, one for each space; a space has one binding at an endpoint
-  pub pasid_low : (position : ℕ) (binding : BindingWire) → slice_get wire.bindings position ≡ Some binding → (0 < binding.pasid) × (binding.pasid ≤ Limits.pasids)
+  pub pasid_low : (position : ℕ) (binding : BindingWire) → slice_get wire.bindings position ≡ Some binding
+      → (0 < binding.pasid) × (binding.pasid ≤ Limits.pasids)
   pub pasids_shared :
       (first second : ℕ) (binding other : BindingWire) → slice_get wire.bindings first ≡ Some binding → slice_get wire.bindings second ≡ Some other
       → (binding.pasid ≡ other.pasid) ↔ (binding.space ≡ other.space)

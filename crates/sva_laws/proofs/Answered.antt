@@ -7,7 +7,8 @@ use Rattle.sva_model.specs.State.{Owed, Mappings, Endpoint}
 use Rattle.sva_model.specs.State.Owed.{Nothing, Ranges, Pasid, NextReset}
 use Rattle.sva_model.specs.State.OrderState.{Void}
 use Rattle.sva_model.specs.States.{is_done, answered}
-use Rattle.sva_model.specs.Acts.{act_alone, LocalAct, submitted, submitted_if}
+use Rattle.sva_model.specs.Unmappings.{submitted, submitted_if}
+use Rattle.sva_model.specs.Acts.{act_alone, LocalAct}
 use Rattle.sva_laws.proofs.Legal.{LegalLocalAct}
 use Rattle.sva_laws.proofs.Bounds.{Bounds}
 use Rattle.sva_laws.proofs.Orders.{SentOnly}

@@ -7,7 +7,7 @@ use Rattle.sva_step.specs.declared.steps.Step.{Step}
 use Rattle.sva_model.specs.State.{PasidRule, Owed, Endpoint, World}
 use Rattle.sva_model.specs.State.MappingState.{Gone}
 use Rattle.sva_model.specs.States.{is_unreleased, answered}
-use Rattle.sva_model.specs.Acts.{bound, owed_by, cookie_of}
+use Rattle.sva_model.specs.Unmappings.{bound, owed_by, cookie_of}
 use Rattle.sva_model.specs.Steps.{next, world_after}
 use Rattle.sva_model.specs.Claims.{HasAnswered}
 use Rattle.sva_laws.specs.Waits.{AnswersByUnit}

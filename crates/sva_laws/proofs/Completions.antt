@@ -11,10 +11,12 @@ use Rattle.sva_model.specs.State.OrderState.{Queued, Sent, Taken, Lapsed, Comple
 use Rattle.sva_model.specs.State.Subject.{InvalidatedOf}
 use Rattle.sva_model.specs.State.Phase.{Open, Cleared}
 use Rattle.sva_model.specs.States.{is_taken}
-use Rattle.sva_model.specs.Acts.{Act, LocalAct, act, act_alone, sends, counted, counted_if, completing_if, submitted, submitted_if, submits, bound, cookie_of}
+use Rattle.sva_model.specs.Unmappings.{submitted, submitted_if, submits, bound, cookie_of}
+use Rattle.sva_model.specs.StateChanges.{counted, counted_if, completing_if}
+use Rattle.sva_model.specs.Acts.{Act, LocalAct, act, act_alone, sends}
 use Rattle.sva_model.specs.Acts.Act.{NewSpace, DropSpace, Map, Unmap, NewBinding, NewJob, Hold, LetGo, AtEndpoint}
 use Rattle.sva_model.specs.Steps.{decide, next, run, after_acts, world_after}
-use Rattle.sva_laws.specs.Laws.{names_order, completions, left_of}
+use Rattle.sva_laws.specs.UnderWay.{names_order, completions, left_of}
 use Rattle.sva_lemmas.proofs.Words.{ℕ_cases}
 use Rattle.sva_lemmas.proofs.Counting.{count_same, count_zero, count_more, count_all, count_off}
 use Rattle.sva_laws.proofs.Legal.{LegalLocalAct}

@@ -10,7 +10,8 @@ use Rattle.sva_step.specs.declared.steps.Step.{Step}
 use Rattle.sva_model.specs.State.{Endpoint, World, opened}
 use Rattle.sva_model.specs.State.Order.{Wait}
 use Rattle.sva_model.specs.States.{is_unreleased}
-use Rattle.sva_model.specs.Acts.{Act, LocalAct, act, act_alone, cookies_of, submitted, submitted_if, submits, submits_at, bound, cookie_of}
+use Rattle.sva_model.specs.Unmappings.{submitted, submitted_if, submits, submits_at, bound, cookie_of}
+use Rattle.sva_model.specs.Acts.{Act, LocalAct, act, act_alone, cookies_of}
 use Rattle.sva_model.specs.Acts.Act.{NewSpace, DropSpace, Map, Unmap, NewBinding, NewJob, Hold, LetGo, AtEndpoint}
 use Rattle.sva_model.specs.Steps.{decide, next, run, after_acts, world_after}
 use Rattle.sva_laws.specs.UnitSteps.{GivesCookies}

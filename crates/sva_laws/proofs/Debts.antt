@@ -13,9 +13,8 @@ use Rattle.sva_model.specs.State.OrderState.{Queued, Done, Void}
 use Rattle.sva_model.specs.State.Phase.{Open}
 use Rattle.sva_model.specs.States.{is_open, is_busy, is_wait, is_before_invalidating}
 use Rattle.sva_model.specs.Words.{put}
-use Rattle.sva_model.specs.Acts.{Act, LocalAct, act, act_alone, owed_by, owed_by_stage, owed_by_unit}
-use Rattle.sva_model.specs.Acts.{submits, submits_at, submitted, submitted_if, bound, cookie_of}
-use Rattle.sva_model.specs.Acts.{in_range}
+use Rattle.sva_model.specs.Unmappings.{owed_by, owed_by_stage, owed_by_unit, submits, submits_at, submitted, submitted_if, bound, cookie_of, in_range}
+use Rattle.sva_model.specs.Acts.{Act, LocalAct, act, act_alone}
 use Rattle.sva_model.specs.Acts.Act.{NewSpace, DropSpace, Map, Unmap, NewBinding, NewJob, Hold, LetGo, AtEndpoint}
 use Rattle.sva_model.specs.Steps.{decide, next, run, after_acts, world_after}
 use Rattle.sva_laws.specs.Waits.{IsBehind, FitsDebt}

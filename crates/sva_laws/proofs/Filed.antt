@@ -9,7 +9,8 @@ use Rattle.sva_model.specs.State.{PasidRule, Mappings, Endpoint, World, opened}
 use Rattle.sva_model.specs.State.PageRequestState.{Filed, Dropped}
 use Rattle.sva_model.specs.State.Phase.{Open}
 use Rattle.sva_model.specs.States.{is_open, is_open_group, is_outstanding}
-use Rattle.sva_model.specs.Acts.{Act, LocalAct, act, act_alone, submitted_if, submits, bound, cookie_of}
+use Rattle.sva_model.specs.Unmappings.{submitted_if, submits, bound, cookie_of}
+use Rattle.sva_model.specs.Acts.{Act, LocalAct, act, act_alone}
 use Rattle.sva_model.specs.Acts.Act.{NewSpace, DropSpace, Map, Unmap, NewBinding, NewJob, Hold, LetGo, AtEndpoint}
 use Rattle.sva_model.specs.Labels.{asks, outstanding}
 use Rattle.sva_model.specs.Steps.{decide, next, run, after_acts, world_after}

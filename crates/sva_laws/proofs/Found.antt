@@ -17,9 +17,10 @@ use Rattle.sva_model.specs.State.HostGroupState.{NotFiled, PartFiled, Job, InHan
 use Rattle.sva_model.specs.State.Phase.{Open, ResetSent, Cleared}
 use Rattle.sva_model.specs.States.{is_unreleased, is_busy, is_off, is_open, is_outstanding, is_open_group, is_before_invalidating}
 use Rattle.sva_model.specs.Claims.{IsBearer}
-use Rattle.sva_model.specs.Acts.{binding_of}
-use Rattle.sva_laws.specs.Laws.{IsLabelled, IsFound, IsOnItsWay, IsUnderWay, NeverOccurs, HoldsJobs, is_answerable}
-use Rattle.sva_laws.specs.Laws.IsOnItsWay.{asked, is_job, in_hand, answered}
+use Rattle.sva_model.specs.StateChanges.{binding_of}
+use Rattle.sva_laws.specs.LabelLaws.{IsLabelled, IsFound}
+use Rattle.sva_laws.specs.UnderWay.{IsOnItsWay, IsUnderWay, NeverOccurs, HoldsJobs, is_answerable}
+use Rattle.sva_laws.specs.UnderWay.IsOnItsWay.{asked, is_job, in_hand, answered}
 use Rattle.sva_laws.proofs.Bindings.{Bindings, is_unmarked, unmarked_unreleased}
 use Rattle.sva_laws.proofs.Labels.{Labels, has_slot}
 use Rattle.sva_laws.proofs.Orders.{is_undone, is_active, active_unreleased}

@@ -11,7 +11,9 @@ use Rattle.sva_model.specs.State.Order.{RangeOf, PasidOf, Wait}
 use Rattle.sva_model.specs.State.OrderState.{Queued, Done, Void}
 use Rattle.sva_model.specs.State.Phase.{Open, Cleared}
 use Rattle.sva_model.specs.States.{is_open, is_wait}
-use Rattle.sva_model.specs.Acts.{Act, LocalAct, act, act_alone, end_of, void_queued, void_undone, submitted, submitted_if, submits, bound, cookie_of}
+use Rattle.sva_model.specs.Unmappings.{submitted, submitted_if, submits, bound, cookie_of}
+use Rattle.sva_model.specs.StateChanges.{end_of, void_queued, void_undone}
+use Rattle.sva_model.specs.Acts.{Act, LocalAct, act, act_alone}
 use Rattle.sva_model.specs.Acts.Act.{NewSpace, DropSpace, Map, Unmap, NewBinding, NewJob, Hold, LetGo, AtEndpoint}
 use Rattle.sva_model.specs.Steps.{decide, next, after_acts, world_after}
 use Rattle.sva_laws.specs.Waits.{IsBehind}

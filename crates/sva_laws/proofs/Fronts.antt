@@ -12,7 +12,9 @@ use Rattle.sva_model.specs.State.OrderState.{Queued, Done, Void}
 use Rattle.sva_model.specs.State.Stage.{Draining, Invalidating}
 use Rattle.sva_model.specs.State.Phase.{Open}
 use Rattle.sva_model.specs.States.{is_busy, is_wait}
-use Rattle.sva_model.specs.Acts.{Act, LocalAct, act, act_alone, cookies_of, end_of, submitted, submitted_if, range_at, submits, bound, cookie_of}
+use Rattle.sva_model.specs.Unmappings.{submitted, submitted_if, range_at, submits, bound, cookie_of}
+use Rattle.sva_model.specs.StateChanges.{end_of}
+use Rattle.sva_model.specs.Acts.{Act, LocalAct, act, act_alone, cookies_of}
 use Rattle.sva_model.specs.Acts.Act.{NewSpace, DropSpace, Map, Unmap, NewBinding, NewJob, Hold, LetGo, AtEndpoint}
 use Rattle.sva_model.specs.Steps.{decide, next, run, after_acts, world_after}
 use Rattle.sva_lemmas.proofs.Words.{put-same, put-other, ℕ_cases}

@@ -23,7 +23,7 @@ use Rattle.sva_model.specs.Outcomes.{outcome, pump_outcome, head_outcome, wait_o
 use Rattle.sva_model.specs.Steps.{reply, world_after}
 use Rattle.sva_laws.specs.Given.{IsLowestFree, IsBorneBy, IsGivenPasid, GivesLowest, Pumps}
 use Rattle.sva_lemmas.proofs.Words.{none_is, some_the, holds_the, lowest_below, lowest_passes, find_passes, find_some, any_below-false, any_below-true}
-use Rattle.sva_lemmas.proofs.Tests.{is_less}
+use Rattle.sva_lemmas.proofs.Tests.{is_less, same_frame}
 use Rattle.sva_laws.proofs.Bounds.{Bounds}
 use Rattle.sva_laws.proofs.Orders.{queued_not}
 use Rattle.sva_laws.proofs.PageRequests.{arrived_is}
@@ -60,9 +60,6 @@ same_index a b h = cc
 
 same_itag : (a b : ℕ) → answer.Itag a ≡ answer.Itag b → a ≡ b
 same_itag a b h = cc
-
-same_frame : (a b : ℕ) → answer.Frame a ≡ answer.Frame b → a ≡ b
-same_frame a b h = cc
 
 same_pasid : (a b c d : ℕ) → answer.Binding a b ≡ answer.Binding c d → b ≡ d
 same_pasid a b c d h = cc

@@ -15,7 +15,7 @@ use Rattle.sva_model.specs.State.Subject.{FunctionReset, PageRequestOf, Response
 use Rattle.sva_model.specs.State.Phase.{Open, Cleared}
 use Rattle.sva_model.specs.States.{is_outstanding, is_open, is_open_group, is_before_invalidating, is_off, drains}
 use Rattle.sva_model.specs.Acts.{act_alone, LocalAct}
-use Rattle.sva_laws.specs.Laws.{is_answerable}
+use Rattle.sva_laws.specs.UnderWay.{is_answerable}
 use Rattle.sva_laws.proofs.Legal.{LegalLocalAct}
 use Rattle.sva_laws.proofs.Resets.{Resets}
 use Rattle.sva_laws.proofs.Bounds.{Bounds}

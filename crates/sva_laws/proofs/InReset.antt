@@ -9,7 +9,9 @@ use Rattle.sva_model.specs.State.RequestState.{Out, Doomed, Over}
 use Rattle.sva_model.specs.State.Subject.{FunctionReset}
 use Rattle.sva_model.specs.State.Phase.{Open, ResetSent, Cleared}
 use Rattle.sva_model.specs.States.{is_open, is_out}
-use Rattle.sva_model.specs.Acts.{LocalAct, act_alone, submits, bound, cookie_of, disables}
+use Rattle.sva_model.specs.Unmappings.{submits, bound, cookie_of}
+use Rattle.sva_model.specs.StateChanges.{disables}
+use Rattle.sva_model.specs.Acts.{LocalAct, act_alone}
 use Rattle.sva_model.specs.Labels
 use Rattle.sva_model.specs.Steps.{reply, decide, next, after_acts, world_after}
 use Rattle.sva_laws.specs.UnitSteps.{Delivers}

@@ -19,7 +19,9 @@ use Rattle.sva_model.specs.State.Order.{RangeOf, PasidOf, Wait}
 use Rattle.sva_model.specs.State.RequestState.{Out, Doomed, Over}
 use Rattle.sva_model.specs.State.Subject.{StartOf, StopOf, FunctionReset, CompletionOf, InvalidateOf, ResponseOf, RequestOf, InvalidatedOf, PageRequestOf}
 use Rattle.sva_model.specs.State.Subject.{MarkerOf, ResetDone}
-use Rattle.sva_model.specs.Acts.{Act, LocalAct, act, act_alone, submitted_if, submits, bound, cookie_of, filed_as}
+use Rattle.sva_model.specs.Unmappings.{submitted_if, submits, bound, cookie_of}
+use Rattle.sva_model.specs.StateChanges.{filed_as}
+use Rattle.sva_model.specs.Acts.{Act, LocalAct, act, act_alone}
 use Rattle.sva_model.specs.Acts.Act.{NewSpace, DropSpace, Map, Unmap, NewBinding, NewJob, Hold, LetGo, AtEndpoint}
 use Rattle.sva_model.specs.Labels
 use Rattle.sva_model.specs.Refusals.{Cause, refusals}

@@ -13,9 +13,9 @@ use Rattle.sva_model.specs.State.RequestState.{Out}
 use Rattle.sva_model.specs.State.Phase.{Open}
 use Rattle.sva_model.specs.States.{is_unreleased, is_outstanding, is_open, is_before_invalidating, answered, is_free, place_at, place_by, place_of_gone}
 use Rattle.sva_model.specs.States.{is_free_place}
-use Rattle.sva_model.specs.Acts.{Act, LocalAct, act, act_alone, sends, bound, submits, submits_at, owed_by, part_after_unmap, submitted, submitted_if}
-use Rattle.sva_model.specs.Acts.{cookie_of}
-use Rattle.sva_model.specs.Acts.{gone_if, in_range, without_pages}
+use Rattle.sva_model.specs.Unmappings.{bound, submits, submits_at, owed_by, part_after_unmap, submitted, submitted_if, cookie_of, gone_if, in_range}
+use Rattle.sva_model.specs.Unmappings.{without_pages}
+use Rattle.sva_model.specs.Acts.{Act, LocalAct, act, act_alone, sends}
 use Rattle.sva_model.specs.Acts.Act.{NewSpace, DropSpace, Map, Unmap, NewBinding, NewJob, Hold, LetGo, AtEndpoint}
 use Rattle.sva_model.specs.State.Stage.{Unbound}
 use Rattle.sva_lemmas.proofs.Words.{put-same, put-other, ℕ_cases, all_below-true, was_true}

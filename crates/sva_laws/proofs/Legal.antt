@@ -22,7 +22,7 @@ use Rattle.sva_model.specs.Acts.LocalAct.{Bind, Stop, Drain, Invalidate, Quieten
 use Rattle.sva_model.specs.Acts.LocalAct.{Evict, Group, Request, Finish, Quit, Start_arrives, Stop_arrives, Reset_arrives, Keep, Forget, Take, Answered}
 use Rattle.sva_model.specs.Acts.LocalAct.{Complete, Count, Arrive, Miss, Mark, Ignore, Reopen}
 use Rattle.sva_model.specs.Labels.{outstanding, queue_length}
-use Rattle.sva_laws.specs.Laws.{IsVectorOf}
+use Rattle.sva_laws.specs.LabelLaws.{IsVectorOf}
 
 -- no older message down that orders something
 pub record NoOlderDown (p : Endpoint) (c : ℕ) : Type 0 where

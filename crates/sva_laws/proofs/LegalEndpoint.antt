@@ -13,7 +13,7 @@ use Rattle.sva_model.specs.States.{is_on, is_ending, is_off, is_out, is_running,
 use Rattle.sva_model.specs.Refusals.{refusals, fault_refusals}
 use Rattle.sva_model.specs.Outcomes.{outcome, fault_outcome}
 use Rattle.sva_model.specs.Labels
-use Rattle.sva_laws.specs.Laws.{IsVectorOf}
+use Rattle.sva_laws.specs.LabelLaws.{IsVectorOf}
 use Rattle.sva_lemmas.proofs.Words.{lowest_cases, lowest_below, some_the, any_below-false, any_below-true}
 use Rattle.sva_lemmas.proofs.Counting.{pigeons}
 use Rattle.sva_laws.proofs.Bounds.{Bounds}

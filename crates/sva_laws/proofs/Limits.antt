@@ -11,11 +11,12 @@ use Rattle.sva_model.specs.State.PageRequestState.{Arrived}
 use Rattle.sva_model.specs.State.Phase.{Open}
 use Rattle.sva_model.specs.States.{Place, is_arrived, is_outstanding, is_open, place, is_free_place}
 use Rattle.sva_model.specs.States.Place.{Free, Mapped, Withheld}
-use Rattle.sva_model.specs.Acts.{Act, LocalAct, act, act_alone, submitted_if, submits, bound, cookie_of}
+use Rattle.sva_model.specs.Unmappings.{submitted_if, submits, bound, cookie_of}
+use Rattle.sva_model.specs.Acts.{Act, LocalAct, act, act_alone}
 use Rattle.sva_model.specs.Acts.Act.{NewSpace, DropSpace, Map, Unmap, NewBinding, NewJob, Hold, LetGo, AtEndpoint}
 use Rattle.sva_model.specs.Labels.{outstanding, is_waiting}
 use Rattle.sva_model.specs.Steps.{decide, next, run, after_acts, world_after, counts, is_mapped_at, is_withheld_at}
-use Rattle.sva_laws.specs.Laws.{page_queue, waiting}
+use Rattle.sva_laws.specs.LimitLaws.{page_queue, waiting}
 use Rattle.sva_lemmas.proofs.Counting.{bit, bit_most, count_next, count_less, length_select, count_placed}
 use Rattle.sva_laws.proofs.Legal.{LegalLocalAct}
 use Rattle.sva_laws.proofs.Bounds.{Bounds}

@@ -10,7 +10,8 @@ use Rattle.sva_model.specs.State.{Owed, MappingState, World, opened}
 use Rattle.sva_model.specs.State.Owed.{Nothing}
 use Rattle.sva_model.specs.State.MappingState.{Unmade, Present, Gone}
 use Rattle.sva_model.specs.States.{is_unreleased}
-use Rattle.sva_model.specs.Acts.{Act, act, bound, owed_by, gone_if, in_range}
+use Rattle.sva_model.specs.Unmappings.{bound, owed_by, gone_if, in_range}
+use Rattle.sva_model.specs.Acts.{Act, act}
 use Rattle.sva_model.specs.Acts.Act.{Unmap, DropSpace}
 use Rattle.sva_model.specs.Steps.{decide, next, run, after_acts, world_after}
 use Rattle.sva_lemmas.proofs.Tests.{first_holds, second_holds}

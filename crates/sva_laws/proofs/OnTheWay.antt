@@ -13,10 +13,11 @@ use Rattle.sva_model.specs.State.GroupState.{Closed}
 use Rattle.sva_model.specs.State.Subject.{ResetDone}
 use Rattle.sva_model.specs.State.Phase.{Open}
 use Rattle.sva_model.specs.States.{is_outstanding, is_open_group, is_before_invalidating}
-use Rattle.sva_model.specs.Acts.{Act, LocalAct, act, act_alone, submitted_if, submits, bound, cookie_of}
+use Rattle.sva_model.specs.Unmappings.{submitted_if, submits, bound, cookie_of}
+use Rattle.sva_model.specs.Acts.{Act, LocalAct, act, act_alone}
 use Rattle.sva_model.specs.Acts.Act.{NewSpace, DropSpace, Map, Unmap, NewBinding, NewJob, Hold, LetGo, AtEndpoint}
 use Rattle.sva_model.specs.Steps.{decide, next, run, after_acts, world_after}
-use Rattle.sva_laws.specs.Laws.{is_answerable}
+use Rattle.sva_laws.specs.UnderWay.{is_answerable}
 use Rattle.sva_laws.proofs.Legal.{LegalLocalAct}
 use Rattle.sva_laws.proofs.PageRequests.{is_whole}
 use Rattle.sva_laws.proofs.Invariant.{PartInvariant, Invariant}

@@ -10,7 +10,8 @@ use Rattle.sva_model.specs.State.OrderState.{Queued, Sent, Done, Void}
 use Rattle.sva_model.specs.State.Subject.{InvalidateOf, ResetDone}
 use Rattle.sva_model.specs.State.Phase.{Open, Cleared}
 use Rattle.sva_model.specs.States.{is_busy, is_wait, drains, is_unreleased, is_taken, is_queued}
-use Rattle.sva_model.specs.Acts.{act_alone, LocalAct, binding_of}
+use Rattle.sva_model.specs.StateChanges.{binding_of}
+use Rattle.sva_model.specs.Acts.{act_alone, LocalAct}
 use Rattle.sva_laws.proofs.Legal.{LegalLocalAct}
 use Rattle.sva_laws.proofs.Resets.{Resets}
 use Rattle.sva_laws.proofs.Bounds.{Bounds}

@@ -13,7 +13,8 @@ use Rattle.sva_model.specs.State.OrderState.{Queued, Sent, Taken, Done}
 use Rattle.sva_model.specs.State.Subject.{CompletionOf, ResetDone}
 use Rattle.sva_model.specs.State.Phase.{Open, Cleared}
 use Rattle.sva_model.specs.States.{is_open, is_wait, is_taken, uses_noted, covers}
-use Rattle.sva_model.specs.Acts.{act_alone, LocalAct, binding_of}
+use Rattle.sva_model.specs.StateChanges.{binding_of}
+use Rattle.sva_model.specs.Acts.{act_alone, LocalAct}
 use Rattle.sva_model.specs.Acts.LocalAct.{Finish}
 use Rattle.sva_laws.proofs.Legal.{LegalLocalAct}
 use Rattle.sva_laws.proofs.Resets.{Resets}

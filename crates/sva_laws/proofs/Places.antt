@@ -10,13 +10,15 @@ use Rattle.sva_step.specs.declared.steps.Step.TheVariants as step
 use Rattle.sva_model.specs.Words.{put, any_below, count_below, is_some}
 use Rattle.sva_model.specs.State.{PasidRule, Mappings, Endpoint, World, opened}
 use Rattle.sva_model.specs.States.{is_queued}
-use Rattle.sva_model.specs.Acts.{Act, LocalAct, act, act_alone, submitted, submitted_if, submits, bound, cookie_of, is_replaced, none_if}
+use Rattle.sva_model.specs.Unmappings.{submitted, submitted_if, submits, bound, cookie_of}
+use Rattle.sva_model.specs.StateChanges.{is_replaced, none_if}
+use Rattle.sva_model.specs.Acts.{Act, LocalAct, act, act_alone}
 use Rattle.sva_model.specs.Acts.Act.{NewSpace, DropSpace, Map, Unmap, NewBinding, NewJob, Hold, LetGo, AtEndpoint}
 use Rattle.sva_model.specs.Labels.{name, queue_length}
 use Rattle.sva_model.specs.Refusals.{refusals, is_queue_short}
 use Rattle.sva_model.specs.Outcomes.{outcome, is_full}
 use Rattle.sva_model.specs.Steps.{decide, next, run, after_acts, world_after}
-use Rattle.sva_laws.specs.Laws.{cached_translations}
+use Rattle.sva_laws.specs.LimitLaws.{cached_translations}
 use Rattle.sva_laws.specs.Steps.{takes_out}
 use Rattle.sva_lemmas.proofs.Words.{put-other, ℕ_cases, any_below-false}
 use Rattle.sva_lemmas.proofs.Tests.{other_fails}

@@ -6,7 +6,7 @@ use Rattle.sva_model.specs.Range.{Range, is_in}
 use Rattle.sva_model.specs.State.{Endpoint}
 use Rattle.sva_model.specs.State.Order.{RangeOf}
 use Rattle.sva_model.specs.States.{covers}
-use Rattle.sva_model.specs.Acts.{submitted, range_at, in_range}
+use Rattle.sva_model.specs.Unmappings.{submitted, range_at, in_range}
 
 -- a number below `count * size` from q on is in one of `count` pieces of that size
 abbrev IsPiece : (q size count page : ℕ) → Type 0

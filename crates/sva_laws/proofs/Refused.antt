@@ -16,7 +16,7 @@ use Rattle.sva_model.specs.State.OrderState.{Queued, Done}
 use Rattle.sva_model.specs.State.Phase.{Open}
 use Rattle.sva_model.specs.States.{is_open, is_unreleased, is_before_invalidating, is_open_group, is_done, is_wait, is_free, is_free_place, place}
 use Rattle.sva_model.specs.States.Place.{Free}
-use Rattle.sva_model.specs.Acts.{submits, submits_at, bound}
+use Rattle.sva_model.specs.Unmappings.{submits, submits_at, bound}
 use Rattle.sva_model.specs.Labels
 use Rattle.sva_model.specs.Refusals.{Cause, refusals, unbind_refusals, advance_refusals, is_queue_short, sends_invalidate, resetting, messages_spent}
 use Rattle.sva_model.specs.Outcomes.{Outcome, outcome}
@@ -196,8 +196,10 @@ other_space w s t e b h l at same =
 no_pasid : (rule : PasidRule) (w : World) (e s : ℕ) → not (is_some (Labels.pasid_by rule w e s)) ≡ true → AreAllBorne rule w e s
 no_pasid PerEndpoint w e s h =
     λ t pos low. borne_there (w.part e) t
-    (none_lowest (λ k. not (Labels.is_borne_at (w.part e) k)) t (none_is (Labels.pasid_by PerEndpoint w e s) (not-true (is_some (Labels.pasid_by PerEndpoint w e s)) h)) pos low)
-no_pasid PerSpace w e s h = λ t pos low. borne t pos low (neither (Labels.lowest_pasid (Labels.is_borne_by w s)) (Labels.lowest_pasid (λ k. not (Labels.is_borne w k)))
+    (none_lowest (λ k. not (Labels.is_borne_at (w.part e) k)) t
+    (none_is (Labels.pasid_by PerEndpoint w e s) (not-true (is_some (Labels.pasid_by PerEndpoint w e s)) h)) pos low)
+no_pasid PerSpace w e s h = λ t pos low. borne t pos low
+    (neither (Labels.lowest_pasid (Labels.is_borne_by w s)) (Labels.lowest_pasid (λ k. not (Labels.is_borne w k)))
     (none_is (Labels.pasid_by PerSpace w e s) (not-true (is_some (Labels.pasid_by PerSpace w e s)) h)))
   where
     neither : (a b : Option ℕ) → Labels.or_else a b ≡ None → (a ≡ None) × (b ≡ None)

@@ -2,7 +2,7 @@
 use Rattle.std.proofs.Common.{◌≡◌, ◌≢◌, ◌⊎◌, inl, inr, refl, ap, sym, ◌∙◌, ℕ, ◌+◌, ◌<◌, Bool, true, false, arith}
 use Rattle.std.specs.Prelude.{Option, Some, None, ◌&&◌, ◌||◌, not, ◌==◌, nat_lt}
 use Rattle.std.proofs.lemmas.Bool.Decides.{nat_tests}
-use Rattle.std.proofs.lemmas.Bool.{and_from, not-true, not-false, eqb-true}
+use Rattle.std.proofs.lemmas.Bool.{and_from, or_parts, not-true, not-false, eqb-true}
 use Rattle.sva_step.specs.declared.steps.Step.TheVariants as step
 use Rattle.sva_step.specs.Limits
 use Rattle.sva_model.specs.Words.{any_below, is_some, the}
@@ -24,7 +24,7 @@ use Rattle.sva_laws.proofs.Resets.{open_is}
 use Rattle.sva_laws.proofs.Bounds.{Bounds}
 use Rattle.sva_laws.proofs.Invariant.{Invariant}
 use Rattle.sva_laws.proofs.Passed.{bearer_of}
-use Rattle.sva_laws.proofs.LegalEndpoint.{cached_is}
+use Rattle.sva_laws.proofs.LegalEndpoint.{cached_is, unfinished_is}
 use Rattle.sva_laws.proofs.Refused.{spent, EachHas, not_lower, is_lower, is_at_most, out_of, not_holding, all_taken, is_numbered}
 
 -- PASIDs and translations.
@@ -105,7 +105,10 @@ begin_each w e t q x i = (
         )
 
 pub end_each : (w : World) (e t : ℕ) → Invariant w → EachHas (HasCause w (step.EndUse e t)) (refusals w (step.EndUse e t))
-end_each w e t i = ((λ h. not_lower e w.config.endpoints h), λ f. ((λ h. go ((w.part e).at_slot t) refl (not-true (nat_lt t 16 && is_some ((w.part e).at_slot t)) h)), λ f. tt))
+end_each w e t i = (
+  (λ h. not_lower e w.config.endpoints h),
+  λ f. ((λ h. go ((w.part e).at_slot t) refl (not-true (nat_lt t 16 && is_some ((w.part e).at_slot t)) h)), λ f. tt),
+)
   where
     go : (o : Option ℕ) → (w.part e).at_slot t ≡ o → (nat_lt t 16 && is_some o) ≡ false → o ≡ None
     go None at h = refl
@@ -163,12 +166,9 @@ fault_each_at w e t q r x l (Some k) = (
   ),
 )
   where
-    both : (a b : Bool) → (a || b) ≡ false → (a ≡ false) × (b ≡ false)
-    both a b h = grind arith
-
     neither : (Labels.is_started (w.part e) t || Labels.is_told_to_stop (w.part e) t) ≡ false → IsNowhere (w.part e) t On × IsNowhere (w.part e) t Ending
     neither h =
-        let z = both (Labels.is_started (w.part e) t) (Labels.is_told_to_stop (w.part e) t) h in
+        let z = or_parts (Labels.is_started (w.part e) t) (Labels.is_told_to_stop (w.part e) t) h in
         (nowhere_on (w.part e) t z.0, nowhere_ending (w.part e) t z.1)
 
 pub fault_each : (w : World) (e t q : ℕ) (r x l : Bool) (o : Option ℕ)
@@ -237,9 +237,6 @@ finish_each w e vector count = (
 
 -- A quit.
 
-collecting_is : (x : GroupState) → is_collecting x ≡ true → x ≡ Collecting
-collecting_is x h = grind arith
-
 busy : (w : World) (e t : ℕ) → Labels.is_told_to_stop (w.part e) t ≡ true
     → (Labels.has_unfinished_group (w.part e) (Labels.bearer (w.part e) t)
     || Labels.is_request_out_of (w.part e) (Labels.bearer (w.part e) t)
@@ -265,7 +262,7 @@ busy w e t told h = (
     group k =
         let x = any_below-true p.groups (λ g. is_collecting (p.group g) && p.asker g == b) k in (
           x.0,
-          collecting_is (p.group x.0) (first_holds (is_collecting (p.group x.0)) (p.asker x.0 == b) x.2),
+          unfinished_is (p.group x.0) (first_holds (is_collecting (p.group x.0)) (p.asker x.0 == b) x.2),
           eqb-true (p.asker x.0) b (second_holds (is_collecting (p.group x.0)) (p.asker x.0 == b) x.2),
         )
 
@@ -323,7 +320,8 @@ overtaking w n None m there h = absurd (cc)
 overtaking w n (Some a) m there h =
     let c = Labels.name w n in
     let p = w.part (w.link_of c) in
-    let x = any_below-true c (λ d. Labels.holds_back p (Labels.kind_of p a) (p.message d)) (twice (any_below c (λ d. Labels.holds_back p (Labels.kind_of p a) (p.message d))) h) in
+    let x = any_below-true c (λ d. Labels.holds_back p (Labels.kind_of p a) (p.message d))
+    (twice (any_below c (λ d. Labels.holds_back p (Labels.kind_of p a) (p.message d))) h) in
     let y = back p (Labels.kind_of p a) (p.message x.0) (p.message x.0) refl x.2 in
     (x.0, a, y.0, x.1, m, y.1, y.2)
   where

@@ -11,7 +11,8 @@ use Rattle.sva_model.specs.Words.{put, count_below, the}
 use Rattle.sva_model.specs.Message.{Code}
 use Rattle.sva_model.specs.State.{PasidRule, Owed, MappingState, World, opened}
 use Rattle.sva_model.specs.States.{is_present}
-use Rattle.sva_model.specs.Acts.{Act, LocalAct, act, gone_if}
+use Rattle.sva_model.specs.Unmappings.{gone_if}
+use Rattle.sva_model.specs.Acts.{Act, LocalAct, act}
 use Rattle.sva_model.specs.Acts.Act.{NewSpace, DropSpace, Map, Unmap, NewBinding, NewJob, Hold, LetGo, AtEndpoint}
 use Rattle.sva_model.specs.Labels
 use Rattle.sva_model.specs.Refusals.{Cause, refusals}

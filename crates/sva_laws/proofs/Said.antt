@@ -16,7 +16,8 @@ use Rattle.sva_model.specs.State.UseState.{Running}
 use Rattle.sva_model.specs.State.Phase.{Open}
 use Rattle.sva_model.specs.States.{Place, is_open, is_done, place}
 use Rattle.sva_model.specs.States.Place.{Free, Mapped, Withheld}
-use Rattle.sva_model.specs.Acts.{LocalAct, act, act_alone, completing_if, counted_if, is_last_left}
+use Rattle.sva_model.specs.StateChanges.{completing_if, counted_if, is_last_left}
+use Rattle.sva_model.specs.Acts.{LocalAct, act, act_alone}
 use Rattle.sva_model.specs.Acts.Act.{AtEndpoint}
 use Rattle.sva_model.specs.Labels
 use Rattle.sva_model.specs.Refusals.{refusals}

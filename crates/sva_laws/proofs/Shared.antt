@@ -5,7 +5,8 @@ use Rattle.std.specs.Prelude.{Option, Some, None}
 use Rattle.std.proofs.lemmas.Bool.Decides.{nat_tests}
 use Rattle.sva_model.specs.State.{Mappings, Endpoint}
 use Rattle.sva_model.specs.States.{is_unreleased}
-use Rattle.sva_model.specs.Acts.{LocalAct, act_alone, submitted_if}
+use Rattle.sva_model.specs.Unmappings.{submitted_if}
+use Rattle.sva_model.specs.Acts.{LocalAct, act_alone}
 use Rattle.sva_laws.proofs.Legal.{LegalLocalAct}
 
 pub record Shared (part : ℕ → Endpoint) : Type 0 where

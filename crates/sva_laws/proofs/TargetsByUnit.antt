@@ -11,7 +11,7 @@ use Rattle.sva_model.specs.State.Stage.{Unbound, Live, Stopping, Draining, Inval
 use Rattle.sva_model.specs.State.Order.{Wait}
 use Rattle.sva_model.specs.State.Phase.{Open}
 use Rattle.sva_model.specs.States.{is_open, is_unreleased, is_before_invalidating, answered}
-use Rattle.sva_model.specs.Acts.{owed_by, owed_by_stage, owed_by_unit, submits_at, submitted_if, cookie_of}
+use Rattle.sva_model.specs.Unmappings.{owed_by, owed_by_stage, owed_by_unit, submits_at, submitted_if, cookie_of}
 use Rattle.sva_model.specs.Steps.{next, world_after}
 use Rattle.sva_model.specs.Wire.{TargetWire, number, cookie_number, target_of, target_wire}
 use Rattle.sva_model.specs.Wire.TargetWire.{Cookie, ResetEnd}

@@ -20,8 +20,9 @@ use Rattle.sva_model.specs.State.OrderState.{Done}
 use Rattle.sva_model.specs.States.{Place, is_open, is_before_invalidating, is_done, answered, place, place_at, place_by, place_of_gone, is_free}
 use Rattle.sva_model.specs.States.{is_free_place}
 use Rattle.sva_model.specs.States.Place.{Free, Withheld}
-use Rattle.sva_model.specs.Acts.{act, bound, submits_at, owed_by, owed_by_unit, owed_by_stage, waits, waits_at, waits_by_stage, submitted, submitted_if}
-use Rattle.sva_model.specs.Acts.{cookie_of, part_after_unmap, gone_if, in_range, without_pages}
+use Rattle.sva_model.specs.Unmappings.{bound, submits_at, owed_by, owed_by_unit, owed_by_stage, waits, waits_at, waits_by_stage, submitted}
+use Rattle.sva_model.specs.Unmappings.{submitted_if, cookie_of, part_after_unmap, gone_if, in_range, without_pages}
+use Rattle.sva_model.specs.Acts.{act}
 use Rattle.sva_model.specs.Acts.Act.{Map, Unmap}
 use Rattle.sva_model.specs.Labels
 use Rattle.sva_model.specs.Refusals.{Cause, refusals}

@@ -13,7 +13,8 @@ use Rattle.sva_model.specs.State.OrderState.{Completing, Done}
 use Rattle.sva_model.specs.State.MappingState.{Present, Gone}
 use Rattle.sva_model.specs.States.{Place, is_done, is_busy, answered, place, place_at, place_by}
 use Rattle.sva_model.specs.States.Place.{Free, Mapped, Withheld}
-use Rattle.sva_model.specs.Acts.{LocalAct, act_alone, submits, submitted_if, bound, cookie_of}
+use Rattle.sva_model.specs.Unmappings.{submits, submitted_if, bound, cookie_of}
+use Rattle.sva_model.specs.Acts.{LocalAct, act_alone}
 use Rattle.sva_model.specs.Steps.{reply, decide, next, after_acts, world_after}
 use Rattle.sva_laws.specs.UnitSteps.{Delivers, PassesWait, CompletesOrder}
 use Rattle.sva_laws.specs.Waits.{IsBehind, FitsDebt}

@@ -16,8 +16,9 @@ use Rattle.sva_model.specs.State.Phase.{Open}
 use Rattle.sva_model.specs.State.Stage.{Stopping}
 use Rattle.sva_model.specs.State.OrderState.{Queued, Sent, Taken, Lapsed, Completing, Done, Void}
 use Rattle.sva_model.specs.States.{is_open}
-use Rattle.sva_model.specs.Acts.{Act, LocalAct, act, act_alone, counted, counted_if, void_queued, void_undone, marked, submitted, submitted_if, submits, bound}
-use Rattle.sva_model.specs.Acts.{cookie_of}
+use Rattle.sva_model.specs.Unmappings.{submitted, submitted_if, submits, bound, cookie_of}
+use Rattle.sva_model.specs.StateChanges.{counted, counted_if, void_queued, void_undone, marked}
+use Rattle.sva_model.specs.Acts.{Act, LocalAct, act, act_alone}
 use Rattle.sva_model.specs.Acts.Act.{NewSpace, DropSpace, Map, Unmap, NewBinding, NewJob, Hold, LetGo, AtEndpoint}
 use Rattle.sva_model.specs.Labels
 use Rattle.sva_model.specs.Refusals.{refusals}

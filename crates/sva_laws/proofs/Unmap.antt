@@ -11,8 +11,9 @@ use Rattle.sva_model.specs.State.OrderState.{Queued}
 use Rattle.sva_model.specs.State.Phase.{Open}
 use Rattle.sva_model.specs.Range.{is_in}
 use Rattle.sva_model.specs.States.{is_unreleased, is_open, is_wait, is_before_invalidating}
-use Rattle.sva_model.specs.Acts.{bound, submits_at, submits, owed_by_unit, owed_by_stage, owed_by, submitted, submitted_if, range_at, cookie_of}
-use Rattle.sva_model.specs.Acts.{part_after_unmap, gone_if, in_range, without_pages, act}
+use Rattle.sva_model.specs.Unmappings.{bound, submits_at, submits, owed_by_unit, owed_by_stage, owed_by, submitted, submitted_if, range_at, cookie_of}
+use Rattle.sva_model.specs.Unmappings.{part_after_unmap, gone_if, in_range, without_pages}
+use Rattle.sva_model.specs.Acts.{act}
 use Rattle.sva_model.specs.Acts.Act.{Unmap}
 use Rattle.sva_lemmas.proofs.Words.{put-same, put-other, ℕ_cases, find_passes, find_some}
 use Rattle.sva_model.specs.Words.{put_range, unless}

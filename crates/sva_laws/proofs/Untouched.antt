@@ -19,9 +19,9 @@ use Rattle.sva_model.specs.State.RequestState.{Out, Doomed, Over}
 use Rattle.sva_model.specs.State.GroupState.{Awaiting, Stale}
 use Rattle.sva_model.specs.State.Stage.{Unbound, Invalidating, Quiet, Lost, Released}
 use Rattle.sva_model.specs.States.{covers, drains}
-use Rattle.sva_model.specs.Acts.{Act, LocalAct, act, act_alone, none_if, is_replaced, doom_if, stale_if, disables}
-use Rattle.sva_model.specs.Acts.{cut_off, submitted_if, submits, bound}
-use Rattle.sva_model.specs.Acts.{cookie_of}
+use Rattle.sva_model.specs.Unmappings.{submitted_if, submits, bound, cookie_of}
+use Rattle.sva_model.specs.StateChanges.{none_if, is_replaced, doom_if, stale_if, disables, cut_off}
+use Rattle.sva_model.specs.Acts.{Act, LocalAct, act, act_alone}
 use Rattle.sva_model.specs.Acts.Act.{NewSpace, DropSpace, Map, Unmap, NewBinding, NewJob, Hold, LetGo, AtEndpoint}
 use Rattle.sva_model.specs.Labels
 use Rattle.sva_model.specs.Refusals.{Cause, refusals}

@@ -11,8 +11,11 @@ use Rattle.sva_model.specs.State.Subject.{InvalidateOf, InvalidatedOf}
 use Rattle.sva_model.specs.State.Phase.{Cleared}
 use Rattle.sva_model.specs.States.{is_taken}
 use Rattle.sva_model.specs.Labels.{is_set}
-use Rattle.sva_model.specs.Acts.{LocalAct, act_alone, submitted, counted_if, completing_if, count_field}
-use Rattle.sva_laws.specs.Laws.{IsVectorOf, count_read, names_order, left_of}
+use Rattle.sva_model.specs.Unmappings.{submitted}
+use Rattle.sva_model.specs.StateChanges.{counted_if, completing_if, count_field}
+use Rattle.sva_model.specs.Acts.{LocalAct, act_alone}
+use Rattle.sva_laws.specs.LabelLaws.{IsVectorOf, count_read}
+use Rattle.sva_laws.specs.UnderWay.{names_order, left_of}
 use Rattle.sva_lemmas.proofs.Words.{put-same, put-other}
 use Rattle.sva_lemmas.proofs.Counting.{count_off}
 use Rattle.sva_laws.proofs.Legal.{LegalLocalAct}

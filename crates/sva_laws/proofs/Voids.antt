@@ -8,7 +8,8 @@ use Rattle.sva_step.specs.declared.steps.Step.{Step}
 use Rattle.sva_model.specs.State.{Endpoint, Phase, World, opened}
 use Rattle.sva_model.specs.State.OrderState.{Void}
 use Rattle.sva_model.specs.State.Phase.{Open, ResetSent, Cleared}
-use Rattle.sva_model.specs.Acts.{Act, LocalAct, act, act_alone, submitted, submitted_if, submits, bound, cookie_of}
+use Rattle.sva_model.specs.Unmappings.{submitted, submitted_if, submits, bound, cookie_of}
+use Rattle.sva_model.specs.Acts.{Act, LocalAct, act, act_alone}
 use Rattle.sva_model.specs.Acts.Act.{NewSpace, DropSpace, Map, Unmap, NewBinding, NewJob, Hold, LetGo, AtEndpoint}
 use Rattle.sva_model.specs.Steps.{decide, next, run, after_acts, world_after}
 use Rattle.sva_laws.specs.UnitSteps.{IsVoidByReset}

@@ -12,13 +12,14 @@ use Rattle.sva_model.specs.State.HostGroupState.{NotFiled, Replied}
 use Rattle.sva_model.specs.State.Subject.{RequestOf, CompletionOf, InvalidateOf, ResponseOf, ResetDone}
 use Rattle.sva_model.specs.State.Phase.{Open}
 use Rattle.sva_model.specs.States.{is_out}
-use Rattle.sva_model.specs.Acts.{Act, LocalAct, act, act_alone, submitted, submitted_if, submits, bound, cookie_of}
+use Rattle.sva_model.specs.Unmappings.{submitted, submitted_if, submits, bound, cookie_of}
+use Rattle.sva_model.specs.Acts.{Act, LocalAct, act, act_alone}
 use Rattle.sva_model.specs.Acts.Act.{NewSpace, DropSpace, Map, Unmap, NewBinding, NewJob, Hold, LetGo, AtEndpoint}
 use Rattle.sva_model.specs.Steps.{decide, next, run, after_acts, world_after}
 use Rattle.sva_laws.proofs.Legal.{LegalLocalAct}
 use Rattle.sva_laws.proofs.Bounds.{Bounds}
 use Rattle.sva_laws.proofs.PageRequests.{Lasts, is_whole}
-use Rattle.sva_laws.specs.Laws.{is_answerable}
+use Rattle.sva_laws.specs.UnderWay.{is_answerable}
 use Rattle.sva_laws.proofs.Invariant.{PartInvariant, Invariant}
 use Rattle.sva_laws.proofs.Keeps.{Legal, act_keeps, put_keeps}
 use Rattle.sva_laws.proofs.Passed.{LegalAll}

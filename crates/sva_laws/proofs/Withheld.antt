@@ -18,7 +18,9 @@ use Rattle.sva_model.specs.State.OrderState.{Done}
 use Rattle.sva_model.specs.State.Phase.{Open}
 use Rattle.sva_model.specs.States.{is_unreleased, is_open, is_done, is_wait, answered, place, place_at, place_by, place_of_gone}
 use Rattle.sva_model.specs.States.Place.{Free, Withheld}
-use Rattle.sva_model.specs.Acts.{Act, act, bound, submits_at, owed_by, owed_by_unit, owed_by_stage, submitted, submitted_if, range_at, cookie_of, in_range}
+use Rattle.sva_model.specs.Unmappings.{bound, submits_at, owed_by, owed_by_unit, owed_by_stage, submitted, submitted_if, range_at, cookie_of}
+use Rattle.sva_model.specs.Unmappings.{in_range}
+use Rattle.sva_model.specs.Acts.{Act, act}
 use Rattle.sva_model.specs.Acts.Act.{Unmap}
 use Rattle.sva_model.specs.Steps.{next, run, after_acts, decide, world_after}
 use Rattle.sva_model.specs.Claims.{IsAt, IsMapped, IsBeforeInvalidating, HasSubmitted, AreDone, HasAnswered, IsWithheld}

@@ -1,5 +1,6 @@
 -- A refusal is answered only for its own cause: what holds of the world where a step is refused so, in words of its own endpoint,
--- space or binding; of endpoints and the link in EndpointCauses. (Which refusals there are, and the limits, are this project's own, except where a comment names a
+-- space or binding; of endpoints and the link in EndpointCauses. (Which refusals there are, and the limits, are this
+-- project's own, except where a comment names a
 -- standard: sections are those of PCI Express Base 5.0.)
 use Rattle.std.specs.Prelude.{◌≡◌, ◌≢◌, ◌⊎◌, ℕ, ◌+◌, ◌%◌, ◌^◌, ◌<◌, ◌≤◌, true, false, Option, Some, None, List, [], ◌∷◌, length}
 use Rattle.std.specs.Prelude.{IsSomeAnd}
@@ -16,7 +17,7 @@ use Rattle.sva_model.specs.State.Subject.{FunctionReset, RequestOf}
 use Rattle.sva_model.specs.State.Phase.{Open}
 use Rattle.sva_model.specs.States.{is_unreleased, is_open_group, is_before_invalidating, is_wait, place}
 use Rattle.sva_model.specs.States.Place.{Free}
-use Rattle.sva_model.specs.Acts.{submits}
+use Rattle.sva_model.specs.Unmappings.{submits}
 use Rattle.sva_model.specs.Labels.{number, name, live_spaces, pages_of, free_frames, queue_length}
 use Rattle.sva_model.specs.Replies.{job_part, job_space}
 use Rattle.sva_laws.specs.Asked.{IsAskedFor, stage_of}

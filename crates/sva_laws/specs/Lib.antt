@@ -1,4 +1,7 @@
 pub mod Laws
+pub mod LabelLaws
+pub mod UnderWay
+pub mod LimitLaws
 pub mod UnitSteps
 pub mod Waits
 pub mod Runs

@@ -2,10 +2,11 @@
 #![tactic(auto)]
 
 ghost use Rattle.sva_model.specs.Claims.{AlwaysAgrees};
-ghost use Rattle.sva_laws.specs.Laws.{AlwaysOwned, AlwaysPresentOrWithheld, AlwaysMatched, AlwaysHoldsJobs, AlwaysDivided, AlwaysAddsUp};
-ghost use Rattle.sva_laws.specs.Laws.{AlwaysWithheldExactly, FreeByTheLastAnswer, AlwaysTold, AlwaysToldOfRange, AlwaysGiven, AlwaysLabelled};
-ghost use Rattle.sva_laws.specs.Laws.{AlwaysFound, AlwaysCarried, AlwaysUnderWay, NeverOccurring, AlwaysLimited, AlwaysKeepsLimits};
-ghost use Rattle.sva_laws.specs.Laws.{AlwaysFindsMappings};
+ghost use Rattle.sva_laws.specs.Laws.{AlwaysOwned, AlwaysPresentOrWithheld, AlwaysMatched, AlwaysDivided, AlwaysAddsUp, AlwaysWithheldExactly};
+ghost use Rattle.sva_laws.specs.Laws.{FreeByTheLastAnswer, AlwaysTold, AlwaysToldOfRange, AlwaysGiven};
+ghost use Rattle.sva_laws.specs.LabelLaws.{AlwaysLabelled, AlwaysFound, AlwaysCarried, AlwaysFindsMappings};
+ghost use Rattle.sva_laws.specs.UnderWay.{AlwaysHoldsJobs, AlwaysUnderWay, NeverOccurring};
+ghost use Rattle.sva_laws.specs.LimitLaws.{AlwaysLimited, AlwaysKeepsLimits};
 ghost use Rattle.sva_laws.specs.Answers.{AlwaysFinishes, AlwaysUses, AlwaysLooks, AlwaysFrees, AlwaysSucceeds};
 ghost use Rattle.sva_laws.specs.Asked.{AlwaysMapsWhatIsAsked, AlwaysMapsInOrder, AlwaysRepliesBy};
 ghost use Rattle.sva_laws.specs.Steps.{AlwaysChangesOnePart, AlwaysDropsApart, AlwaysAnswersBy, AlwaysKeepsLatest, AlwaysKeepsBooks};

@@ -1,10 +1,21 @@
 -- Tables as lists, and the numbers that pass: what is read back from them, and what a change of one entry does.
 use Rattle.std.proofs.Common.{◌≡◌, ◌≢◌, ◌⊎◌, inl, inr, refl, ap, ap₂, sym, ◌∙◌, ℕ, zero, suc, ◌+◌, ◌<◌, ◌≤◌, Bool, true, false, arith, length-append, get_or}
-use Rattle.std.specs.Prelude.{if◌then◌else◌, ◌==◌, [], ◌∷◌, ◌++◌, length, replicate, slice_set}
+use Rattle.std.specs.Prelude.{if◌then◌else◌, ◌==◌, List, Some, [], ◌∷◌, ◌++◌, length, replicate, slice_get, slice_set}
 use Rattle.std.proofs.lemmas.List.{set-append_left, set_at, set_past, get_or_at, get_or_past, get_or_append_left, replicate_more}
 use Rattle.sva_model.specs.Words.{step_lowest, lowest, any_below, all_below, select, tabulate}
 use Rattle.sva_lemmas.proofs.Words.{ℕ_cases}
 pub use Rattle.sva_lemmas.proofs.Counting.{length_select as select_length}
+
+-- Lists with more at their end.
+
+pub get_before : {A : Type 0} (xs ys : List A) (k : ℕ) (x : A) → slice_get xs k ≡ Some x → slice_get (xs ++ ys) k ≡ Some x
+get_before [] ys k x h = absurd (cc)
+get_before (a ∷ xs) ys zero x h = h
+get_before (a ∷ xs) ys (suc k) x h = get_before xs ys k x h
+
+pub get_end : {A : Type 0} (xs : List A) (x : A) → slice_get (xs ++ x ∷ []) (length xs) ≡ Some x
+get_end [] x = refl
+get_end (a ∷ xs) x = get_end xs x
 
 -- Tables.
 

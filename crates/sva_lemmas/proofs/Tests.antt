@@ -2,6 +2,7 @@
 use Rattle.std.proofs.Common.{◌≡◌, ◌⊎◌, inl, inr, refl, sym, ℕ, ◌+◌, ◌-◌, ◌<◌, ◌≤◌, suc, Bool, true, false, arith}
 use Rattle.std.specs.Prelude.{Some, ◌&&◌, ◌||◌, not, ◌==◌, nat_lt}
 use Rattle.std.proofs.lemmas.Bool.Decides.{nat_tests}
+use Rattle.sva_step.specs.declared.answers.Answer.TheVariants as answer
 
 -- Of two Bools.
 pub first_holds : (a b : Bool) → (a && b) ≡ true → a ≡ true
@@ -73,6 +74,9 @@ one_shifted a b = omega arith
 
 pub same_inside : {a b : ℕ} → Some a ≡ Some b → a ≡ b
 same_inside e = cc e
+
+pub same_frame : (a b : ℕ) → answer.Frame a ≡ answer.Frame b → a ≡ b
+same_frame a b h = cc
 
 pub same_bool : (a b : Bool) → (a ≡ true → b ≡ true) → (b ≡ true → a ≡ true) → a ≡ b
 same_bool true b f g = sym (f refl)

@@ -4,7 +4,7 @@ use Rattle.std.proofs.Common.{length, ap, sym, subst, arith, refl, inl, inr, ◌
 use Rattle.sva_step.specs.declared.limits.Config.{Config}
 use Rattle.sva_step.specs.declared.steps.Step.{Step}
 use Rattle.sva_step.specs.declared.steps.Step.TheVariants.{Deliver}
-use Rattle.sva_journal.specs.declared.receipts.Receipt.{Receipt}
+use Rattle.sva_core.specs.declared.receipts.Receipt.{Receipt}
 use Rattle.sva_fabric.specs.Receipts.{PortState}
 use Rattle.sva_loops.specs.Plays.{is_accepted, is_memory}
 use Rattle.sva_loops.specs.Asks.{due_after, due_at_last, AreDeliveries, HasDelivered, service_at, AreServices, HasServed, HasAsked, IsAsked}

@@ -3,9 +3,9 @@ use Rattle.std.proofs.Common.{◌≡◌, ◌∙◌, ◌⊎◌, inl, inr, ℕ, �
 use Rattle.std.specs.Prelude.{[], ◌∷◌, ◌++◌}
 use Rattle.sva_step.specs.declared.limits.Config.{Config}
 use Rattle.sva_step.specs.declared.steps.Step.{Step}
-use Rattle.sva_journal.specs.declared.receipts.Receipt.{Receipt}
-use Rattle.sva_journal.specs.declared.running.StepFault.{StepFault}
-use Rattle.sva_journal.specs.declared.running.StepFault.TheVariants as step_fault
+use Rattle.sva_core.specs.declared.receipts.Receipt.{Receipt}
+use Rattle.sva_core.specs.declared.running.StepFault.{StepFault}
+use Rattle.sva_core.specs.declared.running.StepFault.TheVariants as step_fault
 use Rattle.sva_fabric.specs.Receipts.{PortState, IsAnswered, IsRefused, last_of}
 use Rattle.sva_loops.specs.Asks.{HasAsked, IsAsked}
 use Rattle.sva_loops.specs.Ends.{HasStrayed, AreSpent}

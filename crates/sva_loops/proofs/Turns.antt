@@ -10,7 +10,7 @@ use Rattle.sva_step.specs.declared.steps.Step.TheVariants.{Bind, Unbind, Advance
 use Rattle.sva_step.specs.Steps.{is_plain}
 use Rattle.sva_fabric.specs.declared.faults.Fault.{Fault}
 use Rattle.sva_fabric.specs.declared.faults.Fault.TheVariants as fault
-use Rattle.sva_journal.specs.declared.running.StepFault.TheVariants as step_fault
+use Rattle.sva_core.specs.declared.running.StepFault.TheVariants as step_fault
 use Rattle.sva_fabric.specs.Receipts.{PortState}
 use Rattle.sva_fabric.specs.TokenNumbers.{LeaseNumbers, TicketNumbers}
 use Rattle.sva_fabric.specs.Tokens.{HasCalled, IsFault}

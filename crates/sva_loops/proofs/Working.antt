@@ -4,7 +4,7 @@ use Rattle.std.proofs.Common.{length, ap, sym, subst, arith, refl, inl, inr, ◌
 use Rattle.sva_step.specs.declared.limits.Config.{Config}
 use Rattle.sva_step.specs.declared.steps.Step.TheVariants.{Reply}
 use Rattle.sva_step.specs.declared.steps.Verdict.{Verdict}
-use Rattle.sva_journal.specs.declared.receipts.Receipt.{Receipt}
+use Rattle.sva_core.specs.declared.receipts.Receipt.{Receipt}
 use Rattle.sva_fabric.specs.Receipts.{PortState}
 use Rattle.sva_loops.specs.Asks.{IsAsked}
 use Rattle.sva_loops.specs.Jobs.{AreJobs, IsJobStep, IsJobTurn, is_left, holds_after, holds_at_last, HasAnswered, HasWorked}

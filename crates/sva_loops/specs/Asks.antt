@@ -3,7 +3,7 @@ use Rattle.std.specs.Prelude.{◌≡◌, ◌≤◌, ◌==◌, ◌/◌, ◌%◌, 
 use Rattle.sva_step.specs.declared.limits.Config.{Config}
 use Rattle.sva_step.specs.declared.steps.Step.{Step}
 use Rattle.sva_step.specs.declared.steps.Step.TheVariants.{Deliver, Pump, Serve}
-use Rattle.sva_journal.specs.declared.receipts.Receipt.{Receipt}
+use Rattle.sva_core.specs.declared.receipts.Receipt.{Receipt}
 use Rattle.sva_fabric.specs.Receipts.{PortState}
 use Rattle.sva_loops.specs.Ends.{HasStrayed, AreSpent}
 use Rattle.sva_loops.specs.Plays.{is_accepted}

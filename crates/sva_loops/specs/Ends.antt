@@ -1,8 +1,8 @@
 -- How the turns of a loop end.
 use Rattle.std.specs.Prelude.{◌≡◌, ◌⊎◌, ℕ, ◌+◌, Bool, true, false, Option, Some, None}
 use Rattle.sva_step.specs.declared.limits.Config.{Config}
-use Rattle.sva_journal.specs.declared.running.StepFault.{StepFault}
-use Rattle.sva_journal.specs.declared.running.StepFault.TheVariants as step_fault
+use Rattle.sva_core.specs.declared.running.StepFault.{StepFault}
+use Rattle.sva_core.specs.declared.running.StepFault.TheVariants as step_fault
 use Rattle.sva_fabric.specs.Receipts.{PortState, IsRefused, last_of}
 use Rattle.sva_loops.specs.declared.endings.Spent.{Spent}
 

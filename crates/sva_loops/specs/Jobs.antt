@@ -8,7 +8,7 @@ use Rattle.sva_step.specs.declared.steps.Step.{Step}
 use Rattle.sva_step.specs.declared.steps.Step.TheVariants.{Take, Reply}
 use Rattle.sva_step.specs.declared.steps.Verdict.{Verdict}
 use Rattle.sva_step.specs.declared.steps.Verdict.TheVariants.{Success, Invalid, Failure}
-use Rattle.sva_journal.specs.declared.receipts.Receipt.{Receipt}
+use Rattle.sva_core.specs.declared.receipts.Receipt.{Receipt}
 use Rattle.sva_fabric.specs.Receipts.{PortState}
 use Rattle.sva_loops.specs.Ends.{HasStrayed, AreSpent}
 use Rattle.sva_loops.specs.Plays.{is_accepted}

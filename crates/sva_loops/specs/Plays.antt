@@ -5,9 +5,9 @@ use Rattle.sva_step.specs.declared.answers.Answer.{Answer}
 use Rattle.sva_step.specs.declared.refusals.Refusal.{Refusal}
 use Rattle.sva_step.specs.declared.steps.Step.{Step}
 use Rattle.sva_step.specs.declared.steps.Step.TheVariants.{BeginUse, EndUse}
-use Rattle.sva_journal.specs.declared.receipts.Receipt.{Receipt}
-use Rattle.sva_journal.specs.declared.running.StepFault.{StepFault}
-use Rattle.sva_journal.specs.declared.running.StepFault.TheVariants as step_fault
+use Rattle.sva_core.specs.declared.receipts.Receipt.{Receipt}
+use Rattle.sva_core.specs.declared.running.StepFault.{StepFault}
+use Rattle.sva_core.specs.declared.running.StepFault.TheVariants as step_fault
 use Rattle.sva_fabric.specs.declared.faults.Fault.{Fault}
 use Rattle.sva_fabric.specs.declared.faults.Fault.TheVariants as fault
 use Rattle.sva_fabric.specs.Receipts.{PortState}

@@ -1,30 +1,30 @@
 -- What is done once the labels of a step are read: by names alone, and with no test round a record.
-use Rattle.std.specs.Prelude.{ℕ, zero, suc, ◌+◌, ◌*◌, ◌^◌, Bool, true, false, ◌&&◌, ◌||◌, not, ◌==◌, nat_lt, nat_le, if◌then◌else◌, Option, Some, None}
-use Rattle.sva_model.specs.Words.{put, put_range, count_below, find, unless}
-use Rattle.sva_model.specs.Range.{Range, encode}
-use Rattle.sva_model.specs.Message.{Code, Message, Scope}
-use Rattle.sva_model.specs.Message.Scope.{Coded, Everything}
-use Rattle.sva_model.specs.Message.Code.{FailureCode}
+use Rattle.std.specs.Prelude.{ℕ, suc, ◌+◌, ◌*◌, ◌^◌, Bool, true, false, ◌&&◌, ◌||◌, ◌==◌, Option, Some, None}
+use Rattle.sva_model.specs.Words.{put, put_range, count_below, unless}
+use Rattle.sva_model.specs.Message.{Code, Message}
 use Rattle.sva_model.specs.Message.Message.{StartMessage, StopMessage, ResetMessage, InvalidateMessage, ResponseMessage, RequestMessage}
 use Rattle.sva_model.specs.Message.Message.{InvalidatedMessage, PageRequestMessage, MarkerMessage, ResetDoneMessage}
-use Rattle.sva_model.specs.State.{Owed, MappingState, Mappings, Stage, RequestState, UseState, PageRequestState, GroupState, HostGroupState, Order}
-use Rattle.sva_model.specs.State.{OrderState, Endpoint, World}
-use Rattle.sva_model.specs.State.Owed.{Nothing, Ranges, Pasid, NextReset}
-use Rattle.sva_model.specs.State.MappingState.{Present, Gone}
-use Rattle.sva_model.specs.State.Stage.{Live, Stopping, Draining, Invalidating, Quiet, Lost, Released}
+use Rattle.sva_model.specs.State.{Endpoint, World}
+use Rattle.sva_model.specs.State.Owed.{Nothing}
+use Rattle.sva_model.specs.State.MappingState.{Present}
+use Rattle.sva_model.specs.State.Stage.{Live, Stopping, Draining, Invalidating, Quiet, Released}
 use Rattle.sva_model.specs.State.PasidState.{Off, On, Ending}
-use Rattle.sva_model.specs.State.RequestState.{Out, Doomed, Over}
-use Rattle.sva_model.specs.State.UseState.{Running, Dead, Ended}
+use Rattle.sva_model.specs.State.RequestState.{Out, Over}
+use Rattle.sva_model.specs.State.UseState.{Running, Ended}
 use Rattle.sva_model.specs.State.PageRequestState.{InFlight, Arrived, Filed, Dropped}
-use Rattle.sva_model.specs.State.GroupState.{Collecting, Awaiting, Stale, Closed}
-use Rattle.sva_model.specs.State.HostGroupState.{PartFiled, Job, InHand, Replied, Discarded, InHandDiscarded}
-use Rattle.sva_model.specs.State.Order.{RangeOf, PasidOf, Wait}
-use Rattle.sva_model.specs.State.OrderState.{Queued, Sent, Taken, Lapsed, Completing, Done, Void}
-use Rattle.sva_model.specs.State.Subject.{StartOf, StopOf, FunctionReset, CompletionOf, InvalidateOf, ResponseOf, RequestOf, InvalidatedOf, PageRequestOf}
+use Rattle.sva_model.specs.State.GroupState.{Closed}
+use Rattle.sva_model.specs.State.HostGroupState.{InHand, Replied, Discarded}
+use Rattle.sva_model.specs.State.Order.{PasidOf, Wait}
+use Rattle.sva_model.specs.State.OrderState.{Queued, Sent, Taken, Done}
+use Rattle.sva_model.specs.State.Subject.{StartOf, StopOf, FunctionReset, CompletionOf, InvalidateOf, ResponseOf, RequestOf, InvalidatedOf}
+use Rattle.sva_model.specs.State.Subject.{PageRequestOf}
 use Rattle.sva_model.specs.State.Subject.{MarkerOf, ResetDone}
 use Rattle.sva_model.specs.State.Phase.{Open, ResetSent, Cleared}
-use Rattle.sva_model.specs.States.{Extent, is_open, is_unreleased, is_before_invalidating, is_done, covers}
-use Rattle.sva_model.specs.States.Extent.{Pages, AllPages}
+use Rattle.sva_model.specs.States.{covers}
+use Rattle.sva_model.specs.Unmappings.{bound, submits, owed_by, part_after_unmap, in_range, without_pages}
+use Rattle.sva_model.specs.StateChanges.{void_queued, void_undone, lapse, completing_if, counted_if, is_last_left, doom_if, none_if, killed}
+use Rattle.sva_model.specs.StateChanges.{dropped_arrived, discarded, stale_if, filed_as, sent_as, marked, cut_off, disables, extent_of, scope_of}
+use Rattle.sva_model.specs.StateChanges.{end_of, binding_of, count_field, is_replaced}
 
 -- what one endpoint or its unit does alone
 pub data LocalAct : Type 0 where
@@ -79,229 +79,6 @@ pub data Act : Type 0 where
   Hold : (worker job : ℕ) → Act
   LetGo : (worker : ℕ) → Act
   AtEndpoint : (endpoint : ℕ) (local_act : LocalAct) → Act
-
--- the unreleased binding of a space at an endpoint
-abbrev pub bound : World → (endpoint space : ℕ) → Option ℕ
-bound world endpoint space = find world.bindings (λ b. is_unreleased ((world.part endpoint).stage b) && (world.part endpoint).space b == space)
-
--- Unmapping. A unit that is open gets the invalidations of the ranges and a wait where its binding is Live, Stopping or
--- Draining.
-abbrev pub submits_at : Endpoint → Option ℕ → Bool
-submits_at part None = false
-submits_at part (Some binding) = is_open part.phase && is_before_invalidating (part.stage binding)
-
--- does the unmapping of the space submit at this endpoint's unit?
-abbrev pub submits : World → (space endpoint : ℕ) → Bool
-submits world space endpoint = submits_at (world.part endpoint) (bound world endpoint space)
-
--- what is owed where a unit that is open gets so many ranges; at one in reset, its next reset-done
-abbrev pub owed_by_unit : Endpoint → (count : ℕ) → Bool → Owed
-owed_by_unit part count true = Ranges part.orders count part.resets
-owed_by_unit part count false = NextReset part.resets
-
--- what the endpoint has to answer for the pages of `count` ranges that a binding in this stage loses
-abbrev pub owed_by_stage : Endpoint → (count : ℕ) → Stage → Owed
-owed_by_stage part count Live = owed_by_unit part count (is_open part.phase)
-owed_by_stage part count (Stopping marked) = owed_by_unit part count (is_open part.phase)
-owed_by_stage part count (Draining wait) = owed_by_unit part count (is_open part.phase)
-owed_by_stage part count (Invalidating invalidation wait) = Pasid invalidation wait part.resets (not (is_open part.phase))
-owed_by_stage part count _ = Nothing
-
--- what the endpoint owes, by the binding that the space has there, if any
-abbrev pub owed_by : Endpoint → (count : ℕ) → Option ℕ → Owed
-owed_by part count None = Nothing
-owed_by part count (Some binding) = owed_by_stage part count (part.stage binding)
-
--- is there something to wait for at the endpoint?
-abbrev pub waits_by_stage : Endpoint → Stage → Bool
-waits_by_stage part Live = true
-waits_by_stage part (Stopping marked) = true
-waits_by_stage part (Draining wait) = true
-waits_by_stage part (Invalidating invalidation wait) = not (is_done (part.order_state wait))
-waits_by_stage part _ = false
-
--- is there something to wait for, by the binding that the space has there?
-abbrev pub waits_at : Endpoint → Option ℕ → Bool
-waits_at part None = false
-waits_at part (Some binding) = waits_by_stage part (part.stage binding)
-
--- is there something to wait for at the endpoint where the space loses a page?
-abbrev pub waits : World → (space endpoint : ℕ) → Bool
-waits world space endpoint = waits_at (world.part endpoint) (bound world endpoint space)
-
--- of ranges of 2^order pages, one behind another from `page` on, that with this number
-abbrev pub range_at : (page order number : ℕ) → Range
-range_at page order number = record { base = page + number * 2 ^ order; order = order }
-
--- the unit behind `count` range invalidations and their wait
-abbrev pub submitted : Endpoint → (binding page count order cookie : ℕ) → Endpoint
-submitted part binding page count order cookie =
-    record part {
-      orders = part.orders + suc count;
-      order = put (put_range part.order part.orders count (λ j. RangeOf binding (range_at page order j))) (part.orders + count) (Wait cookie false);
-      order_state = put_range part.order_state part.orders (suc count) (λ j. Queued);
-      waits_end = suc cookie;
-    }
-
--- the same where something is submitted at all
-abbrev pub submitted_if : Bool → Endpoint → Option ℕ → (page count order cookie : ℕ) → Endpoint
-submitted_if true part (Some binding) page count order cookie = submitted part binding page count order cookie
-submitted_if _ part _ page count order cookie = part
-
--- the cookies are given out in rising order of units
-abbrev pub cookie_of : World → (space endpoint : ℕ) → ℕ
-cookie_of world space endpoint = world.cookies + count_below endpoint (submits world space)
-
--- an endpoint with its unit behind an unmapping of `count` ranges
-abbrev pub part_after_unmap : World → (space page count order endpoint : ℕ) → Endpoint
-part_after_unmap world space page count order endpoint =
-    submitted_if (submits world space endpoint) (world.part endpoint) (bound world endpoint space) page count order (cookie_of world space endpoint)
-
--- a mapping that was present is gone, and is owed this
-abbrev pub gone_if : Bool → (ℕ → Owed) → MappingState → MappingState
-gone_if true owed Present = Gone owed
-gone_if _ owed state = state
-
--- is the number one of `count` numbers from `first` on?
-abbrev pub in_range : (first count number : ℕ) → Bool
-in_range first count number = nat_le first number && nat_lt number (first + count)
-
--- the mappings after some pages of a space are taken out of it: each that was present is gone, and waits for what the
--- endpoints owe for it
-abbrev pub without_pages : Mappings → ℕ → (ℕ → Bool) → (ℕ → Owed) → Mappings
-without_pages mappings space pages owed =
-    record mappings {
-      state = λ m. gone_if (mappings.space m == space && pages (mappings.page m)) owed (mappings.state m);
-      at = put mappings.at space (λ q. unless (λ m. pages q) (mappings.at space q));
-    }
-
--- What becomes of a record's state.
-
--- a queued order is void: a reset begins
-abbrev pub void_queued : OrderState → OrderState
-void_queued Queued = Void
-void_queued state = state
-
--- an order that isn't done is void: a reset ends
-abbrev pub void_undone : OrderState → OrderState
-void_undone Done = Done
-void_undone state = Void
-
--- an invalidation that the endpoint has taken lapses: the endpoint resets itself
-abbrev pub lapse : OrderState → OrderState
-lapse (Taken uses) = Lapsed
-lapse state = state
-
--- the endpoint owes so many completions for it, and none has come
-abbrev pub completing_if : Bool → ℕ → OrderState → OrderState
-completing_if true count state = Completing count count
-completing_if false count state = state
-
--- a completion more has come
-abbrev pub counted : OrderState → OrderState
-counted (Completing count (suc zero)) = Done
-counted (Completing count (suc (suc left))) = Completing count (suc left)
-counted state = state
-
--- where the completion names the order
-abbrev pub counted_if : Bool → OrderState → OrderState
-counted_if true state = counted state
-counted_if false state = state
-
--- would one completion more complete it?
-abbrev pub is_last_left : OrderState → Bool
-is_last_left (Completing count (suc zero)) = true
-is_last_left state = false
-
--- a request that is out is doomed
-abbrev pub doom_if : Bool → RequestState → RequestState
-doom_if true Out = Doomed
-doom_if _ state = state
-
--- what is cached goes
-abbrev pub none_if : Bool → Option ℕ → Option ℕ
-none_if true held = None
-none_if false held = held
-
--- a running use is dead: the endpoint resets itself
-abbrev pub killed : UseState → UseState
-killed Running = Dead
-killed state = state
-
--- a page request that waits is lost: a reset begins
-abbrev pub dropped_arrived : PageRequestState → PageRequestState
-dropped_arrived Arrived = Dropped
-dropped_arrived state = state
-
--- a group that the host has open is dropped: a reset begins
-abbrev pub discarded : HostGroupState → HostGroupState
-discarded PartFiled = Discarded
-discarded Job = Discarded
-discarded (InHand worker) = InHandDiscarded worker
-discarded state = state
-
--- a group that awaits its response is stale: its PASID is quit
-abbrev pub stale_if : Bool → GroupState → GroupState
-stale_if true Awaiting = Stale
-stale_if _ state = state
-
--- a group is a job once its last page request is filed
-abbrev pub filed_as : Bool → HostGroupState
-filed_as true = Job
-filed_as false = PartFiled
-
--- a group awaits its response once its last page request is sent
-abbrev pub sent_as : Bool → GroupState
-sent_as true = Awaiting
-sent_as false = Collecting
-
--- the marker of a stopping binding is noted
-abbrev pub marked : Stage → Stage
-marked (Stopping noted) = Stopping true
-marked stage = stage
-
--- a reset-done cuts a binding off
-abbrev pub cut_off : Stage → Stage
-cut_off Live = Lost
-cut_off (Stopping marked) = Quiet
-cut_off (Draining wait) = Quiet
-cut_off (Invalidating invalidation wait) = Quiet
-cut_off stage = stage
-
--- does the response code disable the page request interface (section 10.4.2)?
-abbrev pub disables : Code → Bool
-disables FailureCode = true
-disables _ = false
-
--- which pages an invalidation is of
-abbrev pub extent_of : Order → Extent
-extent_of (RangeOf binding range) = Pages range
-extent_of _ = AllPages
-
--- what its Invalidate Request names
-abbrev pub scope_of : Extent → Scope
-scope_of (Pages range) = Coded (encode range)
-scope_of AllPages = Everything
-
--- one more than the cookie of a wait
-abbrev pub end_of : Order → ℕ
-end_of (Wait cookie drain) = suc cookie
-end_of _ = 0
-
--- whose pages an invalidation is of
-abbrev pub binding_of : Order → ℕ
-binding_of (RangeOf binding range) = binding
-binding_of (PasidOf binding) = binding
-binding_of (Wait cookie drain) = 0
-
--- the Completion Count field: three bits, in which 0 stands for 8 (PCI Express Base 5.0, section 10.3.2)
-abbrev pub count_field : ℕ → ℕ
-count_field count = if count == 8 then 0 else count
-
--- is the other request, which may be the first itself, of the binding and the page of the first? Then no translation that
--- it brought is kept beside that of the first.
-abbrev pub is_replaced : Endpoint → (request other : ℕ) → Bool
-is_replaced part request other = part.request_binding other == part.request_binding request && part.request_page other == part.request_page request
 
 -- an endpoint with its unit after what it does alone; `next` is the name of the next message
 abbrev pub act_alone : Endpoint → (next : ℕ) → LocalAct → Endpoint

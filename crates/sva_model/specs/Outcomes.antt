@@ -22,7 +22,9 @@ use Rattle.sva_model.specs.State.Subject.{StartOf, StopOf, FunctionReset, Comple
 use Rattle.sva_model.specs.State.Subject.{MarkerOf, ResetDone}
 use Rattle.sva_model.specs.States.{Place, is_open, is_live_stage, is_running, place}
 use Rattle.sva_model.specs.States.Place.{Free, Mapped, Withheld}
-use Rattle.sva_model.specs.Acts.{Act, LocalAct, waits, is_replaced, is_last_left}
+use Rattle.sva_model.specs.Unmappings.{waits}
+use Rattle.sva_model.specs.StateChanges.{is_replaced, is_last_left}
+use Rattle.sva_model.specs.Acts.{Act, LocalAct}
 use Rattle.sva_model.specs.Labels
 use Rattle.sva_model.specs.Replies.{response_to, reply_maps, job_binding, job_part, job_asks}
 

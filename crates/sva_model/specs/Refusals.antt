@@ -13,7 +13,7 @@ use Rattle.sva_model.specs.State.{Stage, Subject, Endpoint, World}
 use Rattle.sva_model.specs.State.Stage.{Stopping, Draining, Invalidating, Quiet, Lost}
 use Rattle.sva_model.specs.State.Subject.{FunctionReset, RequestOf}
 use Rattle.sva_model.specs.States.{is_open, is_live_stage, is_done, is_wait}
-use Rattle.sva_model.specs.Acts.{submits}
+use Rattle.sva_model.specs.Unmappings.{submits}
 use Rattle.sva_model.specs.Labels
 use Rattle.sva_model.specs.Replies.{replies_success, responds, newly_mapped, is_write_of_read_only, job_space}
 

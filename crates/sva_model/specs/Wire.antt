@@ -20,7 +20,7 @@ use Rattle.sva_model.specs.State.Order.{RangeOf, PasidOf, Wait}
 use Rattle.sva_model.specs.State.OrderState.{Taken, Completing}
 use Rattle.sva_model.specs.States.{Extent, Place, is_open, is_unreleased, is_running, is_open_group, is_queued, is_present, answered, place}
 use Rattle.sva_model.specs.States.Place.{Free, Mapped, Withheld}
-use Rattle.sva_model.specs.Acts.{extent_of, binding_of}
+use Rattle.sva_model.specs.StateChanges.{extent_of, binding_of}
 use Rattle.sva_model.specs.Labels
 
 -- Numbers. A name is seen by its number, which is counted from the config's `first` on.

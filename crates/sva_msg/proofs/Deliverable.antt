@@ -1,5 +1,6 @@
 -- The code's test of all older messages is the definition, which looks them up by their numbers.
-use Rattle.std.proofs.Common.{◌≡◌, ◌↔◌, ℕ, ◌+◌, ◌<◌, ◌≤◌, Bool, true, false, not, cond, ◌&&◌, ◌||◌, nat_eq, nat_lt, IsTrue, List, [], ◌∷◌, zero, suc, Some, refl, ap, sym, ◌∙◌}
+use Rattle.std.proofs.Common.{◌≡◌, ◌↔◌, ℕ, ◌+◌, ◌<◌, ◌≤◌, Bool, true, false, not, cond, ◌&&◌, ◌||◌, nat_eq, nat_lt}
+use Rattle.std.proofs.Common.{IsTrue, List, [], ◌∷◌, zero, suc, Some, refl, ap, sym, ◌∙◌}
 use Rattle.std.proofs.Common.{arith}
 use Rattle.std.proofs.lemmas.Bool.Decides.{nat_tests}
 use Rattle.std.specs.Prelude.{take}
@@ -69,7 +70,8 @@ module _ (f : Message → Bool) (n : ℕ) where
       ap (λ (b : Bool). (b && f p.1) || any_older ps) first ∙ rest
 
   -- the older ones are those ahead of it
-  pub any_ahead : (low high k : ℕ) (es : List (ℕ × Message)) → AreNumbered low high es → number_at es k ≡ Some n → list_any (λ e. f e.1) (take k es) ≡ any_older es
+  pub any_ahead : (low high k : ℕ) (es : List (ℕ × Message)) → AreNumbered low high es → number_at es k ≡ Some n
+      → list_any (λ e. f e.1) (take k es) ≡ any_older es
   any_ahead low high k [] h at = absurd (cc (at))
   any_ahead low high zero (p ∷ ps) h at =
       let same : p.0 ≡ n = cc in

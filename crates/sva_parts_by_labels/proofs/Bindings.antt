@@ -199,7 +199,8 @@ looked_up table w h =
 
 -- What is changed.
 
-each_seen : (f : TableEntry → TableEntry) (g : BindingWire → BindingWire) → ((a : TableEntry) → binding_seen (f a) ≡ g (binding_seen a)) → (table : List TableEntry)
+each_seen : (f : TableEntry → TableEntry) (g : BindingWire → BindingWire)
+    → ((a : TableEntry) → binding_seen (f a) ≡ g (binding_seen a)) → (table : List TableEntry)
     → bindings_seen (map f table) ≡ map g (bindings_seen table)
 each_seen f g h [] = refl
 each_seen f g h (a ∷ table) = λ i. h a i ∷ each_seen f g h table i

@@ -6,7 +6,7 @@ use Rattle.std.proofs.lemmas.List.{map-set}
 use Rattle.std.proofs.lemmas.List.Sums.{sum_by-cons}
 use Rattle.std.proofs.lemmas.Bool.Decides.{nat_tests}
 use Rattle.sva_step.specs.declared.refusals.Refusal.TheVariants as refusal
-use Rattle.sva_model.specs.Acts.{stale_if, sent_as}
+use Rattle.sva_model.specs.StateChanges.{stale_if, sent_as}
 use Rattle.sva_model.specs.State.{GroupState, PasidState as DeviceState}
 use Rattle.sva_model.specs.States as states
 use Rattle.sva_model.specs.Wire.{GroupWire}

@@ -5,12 +5,13 @@ use Rattle.std.specs.Prelude.{filter, slice_set}
 use Rattle.sva_step.specs.declared.answers.Answer.{Answer}
 use Rattle.sva_step.specs.declared.answers.Answer.TheVariants as answer
 use Rattle.sva_step.specs.Limits
-use Rattle.sva_model.specs.Acts.{sent_as}
+use Rattle.sva_model.specs.StateChanges.{sent_as}
 use Rattle.sva_model.specs.State.{PasidState as DeviceState}
 use Rattle.sva_model.specs.Wire.{DeviceWire, RequestWire, TranslationWire}
 use Rattle.sva_model.specs.Wire.UseWire.{RunningWire}
 use Rattle.sva_labels.specs.Finding.{lowest_label, cached, is_at_page, use_at, tag_at, group_at, outstanding}
-use Rattle.sva_labels.specs.Causes.{is_other_group, device_causes_of_ask, device_causes_of_use, device_causes_of_end, device_causes_of_evict, device_causes_of_fault}
+use Rattle.sva_labels.specs.Causes.{is_other_group, device_causes_of_ask, device_causes_of_use, device_causes_of_end}
+use Rattle.sva_labels.specs.Causes.{device_causes_of_evict, device_causes_of_fault}
 use Rattle.sva_labels.specs.Causes.{device_causes_of_finish, device_causes_of_quit}
 use Rattle.sva_labels.specs.Moves.{with_pasid, without_tag, kept, taking, ended, requested, stale_of, cleared, without_named}
 use Rattle.sva_labels.specs.Outcomes.{end_answer, is_full, response_said}

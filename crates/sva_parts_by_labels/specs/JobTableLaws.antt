@@ -102,7 +102,8 @@ pub record SoundIsKept : Type 0 where
       (workers : ℕ) (job_table : JobTable) (unit binding : ℕ) (request : PageRequest) → IsSound workers job_table
       → BeginsAnew workers job_table unit binding request.index → IsSound workers (filed job_table unit binding request)
   pub taken :
-      (workers : ℕ) (job_table : JobTable) (worker : ℕ) → IsSound workers job_table → worker < workers → worker < Limits.most_workers → hand job_table worker ≡ None
+      (workers : ℕ) (job_table : JobTable) (worker : ℕ) → IsSound workers job_table → worker < workers
+      → worker < Limits.most_workers → hand job_table worker ≡ None
       → IsSound workers (taken job_table worker)
   pub answered : (workers : ℕ) (job_table : JobTable) (worker : ℕ) → IsSound workers job_table → IsSound workers (after_answer job_table worker)
   pub reset : (workers : ℕ) (job_table : JobTable) (unit : ℕ) → IsSound workers job_table → IsSound workers (without_unit job_table unit)
@@ -110,7 +111,8 @@ pub record SoundIsKept : Type 0 where
 -- a job is answered, or dropped where its group isn't open any more
 pub record AnswerIsSeen (job_table : JobTable) (worker : ℕ) (job : Job) : Type 0 where
   pub answered :
-      groups_seen job.unit (after_answer job_table worker).groups ≡ filter (λ group. not (is_of_job (job_seen job) group)) (groups_seen job.unit job_table.groups)
+      groups_seen job.unit (after_answer job_table worker).groups
+      ≡ filter (λ group. not (is_of_job (job_seen job) group)) (groups_seen job.unit job_table.groups)
   pub others : (other : ℕ) → (other == job.unit) ≡ false → groups_seen other (after_answer job_table worker).groups ≡ groups_seen other job_table.groups
   pub dropped :
       list_any (is_of_job (job_seen job)) (groups_seen job.unit job_table.groups) ≡ false
@@ -120,7 +122,9 @@ pub record AnswerIsSeen (job_table : JobTable) (worker : ℕ) (job : Job) : Type
 -- empty, and the queued jobs are the same.
 pub record JobTableAnswers : Type 0 where
   pub groups :
-      (workers : ℕ) (job_table : JobTable) (worker : ℕ) (job : Job) → IsSound workers job_table → hand job_table worker ≡ Some job → AnswerIsSeen job_table worker job
+      (workers : ℕ) (job_table : JobTable) (worker : ℕ) (job : Job) → IsSound workers job_table
+      → hand job_table worker ≡ Some job → AnswerIsSeen job_table worker job
   pub jobs : (job_table : JobTable) (worker : ℕ) → jobs_seen (after_answer job_table worker) ≡ jobs_seen job_table
   pub hands :
-      (workers : ℕ) (job_table : JobTable) (worker : ℕ) → hands_seen workers (after_answer job_table worker) ≡ slice_set (hands_seen workers job_table) worker None
+      (workers : ℕ) (job_table : JobTable) (worker : ℕ)
+      → hands_seen workers (after_answer job_table worker) ≡ slice_set (hands_seen workers job_table) worker None

@@ -51,7 +51,8 @@ count-without q b (r ∷ ps) p a f =
     ]
 
 -- a map that leaves each place its PASID leaves the counts
-count-map : (q : ℕ) (f : TableEntry → TableEntry) (ps : List TableEntry) → ((p : TableEntry) → (f p).pasid ≡ p.pasid) → count_under q (map f ps) ≡ count_under q ps
+count-map : (q : ℕ) (f : TableEntry → TableEntry) (ps : List TableEntry) → ((p : TableEntry) → (f p).pasid ≡ p.pasid)
+    → count_under q (map f ps) ≡ count_under q ps
 count-map q f [] k = refl
 count-map q f (p ∷ ps) k =
     let rest : count_under q (map f ps) ≡ count_under q ps = count-map q f ps k in
@@ -124,13 +125,15 @@ without_same q b ps p (Some o) a f h e =
     let none : cond {A = ℕ} (bears q p) 1 0 ≡ 0 = rw e in
     (omega (arith, h.0, none, count-without q b ps p a f), h.1, All-filter (λ (x : TableEntry). not (is_of b x)) (OfSpace q o.space) ps h.2)
 
-map_same : (q : ℕ) (f : TableEntry → TableEntry) (ps : List TableEntry) (o : Option Bearer) → ((p : TableEntry) → ((f p).pasid ≡ p.pasid) × ((f p).space ≡ p.space))
+map_same : (q : ℕ) (f : TableEntry → TableEntry) (ps : List TableEntry) (o : Option Bearer)
+    → ((p : TableEntry) → ((f p).pasid ≡ p.pasid) × ((f p).space ≡ p.space))
     → IsBearer q ps o → IsBearer q (map f ps) o
 map_same q f ps None k h = count-map q f ps (λ p. (k p).0) ∙ h
 map_same q f ps (Some b) k h = (
   count-map q f ps (λ p. (k p).0) ∙ h.0,
   h.1,
-  All-map (OfSpace q b.space) f ps (All-weaker (OfSpace q b.space) (λ (p : TableEntry). OfSpace q b.space (f p)) (λ p w i. (k p).1 ∙ w (sym (k p).0 ∙ i)) ps h.2),
+  All-map (OfSpace q b.space) f ps (All-weaker (OfSpace q b.space) (λ (p : TableEntry). OfSpace q b.space (f p))
+      (λ p w i. (k p).1 ∙ w (sym (k p).0 ∙ i)) ps h.2),
 )
 
 -- what is kept of all of them
@@ -183,7 +186,8 @@ bearers-map f ps bs k h = record { count = h.count; each = λ q l. map_same q f 
 -- the look-ups
 
 pub bearer-is : (q : ℕ) (ps : List TableEntry) (o : Option Bearer) → IsBearer q ps o → bearer_of q ps ≡ o
-bearer-is q ps None h = ap (λ (r : Option TableEntry). option_map (λ (p : TableEntry). record { space = p.space; bindings = count_under q ps }) r) (none_counted q ps h)
+bearer-is q ps None h = ap (λ (r : Option TableEntry). option_map
+    (λ (p : TableEntry). record { space = p.space; bindings = count_under q ps }) r) (none_counted q ps h)
 bearer-is q ps (Some b) h =
     let there : IsFound (bears q) ps = some_counted q ps (omega (arith, h.0, h.1)) in
     let own : there.at.pasid ≡ q = eqb-true there.at.pasid q (found_passes (bears q) ps there.at there.found) in
@@ -272,7 +276,8 @@ unfolding free_in lowest_free
 free_in-is ps bs k =
     find_alike (λ pasid. is_free (slot pasid bs)) (λ pasid. not (is_borne pasid ps)) 1 PASIDS (λ q l m. slot_free q ps (slot q bs) (k.each q (omega arith)))
 
-pub lowest-is : (s : ℕ) (ps : List TableEntry) (bs : List (Option Bearer)) → IsTable ps → AreBearers ps bs → option_or (pasid_in s bs) (free_in bs) ≡ lowest s ps
+pub lowest-is : (s : ℕ) (ps : List TableEntry) (bs : List (Option Bearer)) → IsTable ps → AreBearers ps bs
+    → option_or (pasid_in s bs) (free_in bs) ≡ lowest s ps
 lowest-is s ps bs t k = λ i. option_or (pasid_in-is s ps bs t k i) (free_in-is ps bs k i)
 
 -- a table with no binding

@@ -61,7 +61,8 @@ kept_at place place' q q' life life' l l' p p' k k' kept =
     (subst (λ (x : Option Life). IsKept q q' x life') (sym k)
     (subst (λ (x : Option Life). IsKept q q' l x) (sym k') kept)))
 
-same_cell : (place place' : Option TableEntry) (life life' : Option Life) → IsMatched place life → place' ≡ place → life' ≡ life → IsKept place place' life life'
+same_cell : (place place' : Option TableEntry) (life life' : Option Life) → IsMatched place life → place' ≡ place
+    → life' ≡ life → IsKept place place' life life'
 same_cell place place' life life' m p l =
     kept_at place place' place place life life' life life refl p refl l (record { matched = m; step = stays (life_in place life) })
 

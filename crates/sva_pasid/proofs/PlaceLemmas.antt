@@ -130,7 +130,8 @@ changed b s p = cond (is_of b p) (record p { stage = s }) p
 changed-apart : (b : ℕ) (s : Option Stage) (p q : TableEntry) → IsApart p q → IsApart (changed b s p) (changed b s q)
 changed-apart b s p q a = changed_by (is_of b p) (is_of b q) s p q a
   where
-    changed_by : (t u : Bool) (s : Option Stage) (p q : TableEntry) → IsApart p q → IsApart (cond t (record p { stage = s }) p) (cond u (record q { stage = s }) q)
+    changed_by : (t u : Bool) (s : Option Stage) (p q : TableEntry) → IsApart p q
+        → IsApart (cond t (record p { stage = s }) p) (cond u (record q { stage = s }) q)
     changed_by true true s p q a = record { bindings = a.bindings; pasids = a.pasids }
     changed_by true false s p q a = record { bindings = a.bindings; pasids = a.pasids }
     changed_by false true s p q a = record { bindings = a.bindings; pasids = a.pasids }
@@ -145,7 +146,8 @@ all_map {X} P f (x ∷ xs) h =
 all_weaker : {X : Type 0} (P Q : X → Type 0) (xs : List X) → ((x : X) → P x → Q x) → All P xs → All Q xs
 all_weaker P Q xs f h k d l = f (slice_index_or xs k d) (h k d l)
 
-map-apart : (f : TableEntry → TableEntry) (ps : List TableEntry) → ((p q : TableEntry) → IsApart p q → IsApart (f p) (f q)) → AllPairs IsApart ps → AllPairs IsApart (map f ps)
+map-apart : (f : TableEntry → TableEntry) (ps : List TableEntry)
+    → ((p q : TableEntry) → IsApart p q → IsApart (f p) (f q)) → AllPairs IsApart ps → AllPairs IsApart (map f ps)
 map-apart f [] k a = λ i j d l m. absurd (omega arith)
 map-apart f (p ∷ ps) k a =
     pairs-cons IsApart (f p) (map f ps)
@@ -409,7 +411,8 @@ place_of-with_same b s ps p h =
     let e : is_of b p ≡ true = eq-eqb p.binding b (place_of-binding b ps p h) in
     place_of-with b b s ps ∙ ap (λ (r : Option TableEntry). option_map (changed b s) r) h ∙ (rw e)
 
-pub place_of-with_other : (b c : ℕ) (s : Option Stage) (ps : List TableEntry) (r : Option TableEntry) → b ≢ c → place_of c ps ≡ r → place_of c (with_stage b s ps) ≡ r
+pub place_of-with_other : (b c : ℕ) (s : Option Stage) (ps : List TableEntry) (r : Option TableEntry) → b ≢ c
+    → place_of c ps ≡ r → place_of c (with_stage b s ps) ≡ r
 place_of-with_other b c s ps None n h = place_of-with b c s ps ∙ ap (λ (r : Option TableEntry). option_map (changed b s) r) h
 place_of-with_other b c s ps (Some p) n h =
     let own : p.binding ≡ c = place_of-binding c ps p h in

@@ -5,7 +5,7 @@ use Rattle.std.specs.Prelude.{◌||◌, IfSome, IfNone, All, AllPairs, find, opt
 use Rattle.std.specs.List.{list_any}
 use Rattle.std.specs.Option.{option_or}
 use Rattle.std.proofs.lemmas.List.Elements.{All-head, All-tail, All-nil, All-cons, All-weaker}
-use Rattle.std.proofs.lemmas.Bool.{cases_Bool, eqb-true, eqb-false, eq-eqb}
+use Rattle.std.proofs.lemmas.Bool.{cases_Bool, or_parts, eqb-true, eqb-false, eq-eqb}
 use Rattle.sva_pasid.specs.Places.{is_in, borne_by, bears, is_borne, lowest_free, lowest, IsLowest, IsOutOfPasids, LowestIsLeast}
 use Rattle.sva_pasid.specs.Places.{begun, ShareAlike, IsApart, IsOwn, IsTable}
 use Rattle.sva_step.specs.declared.limits.TheConstants.{PASIDS}
@@ -86,7 +86,8 @@ none_any t (y ∷ ys) h =
 alike_back : (p q : TableEntry) → ShareAlike p q → ShareAlike q p
 alike_back p q a = (λ h. sym (a.0 (sym h)), λ h. sym (a.1 (sym h)))
 
-pub alike_all : (t : TableEntry → Bool) (ps : List TableEntry) (r : TableEntry) → AllPairs IsApart ps → find t ps ≡ Some r → All (λ (p : TableEntry). ShareAlike p r) ps
+pub alike_all : (t : TableEntry → Bool) (ps : List TableEntry) (r : TableEntry) → AllPairs IsApart ps
+    → find t ps ≡ Some r → All (λ (p : TableEntry). ShareAlike p r) ps
 alike_all t [] r a h = absurd (cc)
 alike_all t (p ∷ ps) r a h =
     elim (cases_Bool (t p)) [
@@ -103,7 +104,8 @@ alike_all t (p ∷ ps) r a h =
     ]
 
 -- two that were found
-pub alike_found : (t u : TableEntry → Bool) (ps : List TableEntry) (p q : TableEntry) → AllPairs IsApart ps → find t ps ≡ Some p → find u ps ≡ Some q → ShareAlike p q
+pub alike_found : (t u : TableEntry → Bool) (ps : List TableEntry) (p q : TableEntry) → AllPairs IsApart ps
+    → find t ps ≡ Some p → find u ps ≡ Some q → ShareAlike p q
 alike_found t u ps p q a f g = found_has (λ (x : TableEntry). ShareAlike x q) t ps p (alike_all u ps q a g) f
 
 -- the PASID that a space bears is that of each of its places
@@ -212,14 +214,10 @@ free_alike : (e s b q : ℕ) (ps : List TableEntry) → find (is_in s) ps ≡ No
 free_alike e s b q [] f g = All-nil (λ (p : TableEntry). ShareAlike p (begun e s b q))
 free_alike e s b q (p ∷ ps) f g =
     let here : (is_in s p ≡ false) × (find (is_in s) ps ≡ None) = find_none (is_in s p) p (find (is_in s) ps) f in
-    let parts = or_false (bears q p) (is_borne q ps) g in
+    let parts = or_parts (bears q p) (is_borne q ps) g in
     All-cons (λ (x : TableEntry). ShareAlike x (begun e s b q)) p ps
     (λ k. absurd (eqb-false p.pasid q parts.0 k), λ k. absurd (eqb-false p.space s here.0 k))
     (free_alike e s b q ps here.1 parts.1)
-  where
-    or_false : (x y : Bool) → (x || y) ≡ false → (x ≡ false) × (y ≡ false)
-    or_false true y h = absurd (cc)
-    or_false false y h = (refl, h)
 
 lowest_alike_from : (e s b q : ℕ) (ps : List TableEntry) (r : Option ℕ) → IsTable ps → borne_by s ps ≡ r → option_or r (lowest_free ps) ≡ Some q
     → All (λ (p : TableEntry). ShareAlike p (begun e s b q)) ps

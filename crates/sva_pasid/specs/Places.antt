@@ -143,4 +143,5 @@ pub record IsTable (places : List TableEntry) : Type 0 where
 -- `lowest` of a table is as above, and None exactly where the space bears none and all 32 are borne
 abbrev pub LowestIsLeast : Type 0
 LowestIsLeast =
-    (space : ℕ) (places : List TableEntry) → IsTable places → MatchOption (lowest space places) (IsOutOfPasids space places) (λ pasid. IsLowest space places pasid)
+    (space : ℕ) (places : List TableEntry) → IsTable places
+    → MatchOption (lowest space places) (IsOutOfPasids space places) (λ pasid. IsLowest space places pasid)

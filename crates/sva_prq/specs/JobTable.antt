@@ -41,7 +41,11 @@ hand job_table worker = slice_index_or job_table.hands worker None
 
 -- once a worker has the oldest job in its hand
 abbrev pub taken : JobTable → (worker : ℕ) → JobTable
-taken job_table worker = record job_table { jobs = drop 1 job_table.jobs; room = job_table.room + 1; hands = slice_set job_table.hands worker (slice_get job_table.jobs 0) }
+taken job_table worker = record job_table {
+  jobs = drop 1 job_table.jobs;
+  room = job_table.room + 1;
+  hands = slice_set job_table.hands worker (slice_get job_table.jobs 0);
+}
 
 -- once the job in a worker's hand is answered: its group is at its end, if it is still there, and the hand is empty
 abbrev pub after_answer_of : JobTable → (worker : ℕ) → Option Job → JobTable

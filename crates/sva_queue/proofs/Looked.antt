@@ -6,13 +6,12 @@ use Rattle.sva_msg.specs.declared.extents.Extent.{Extent}
 use Rattle.sva_queue.specs.declared.descriptors.Descriptor.{Descriptor}
 use Rattle.sva_queue.specs.declared.descriptors.Descriptor.TheVariants.{Range, Pasid, Wait}
 use Rattle.sva_queue.specs.declared.descriptors.Pumped.{Pumped}
-use Rattle.sva_queue.specs.declared.descriptors.Pumped.TheVariants.{Issued, Done, Blocked, Idle}
+use Rattle.sva_queue.specs.declared.descriptors.Pumped.TheVariants.{Done, Blocked}
 use Rattle.sva_queue.specs.declared.heads.Next.{Next}
 use Rattle.sva_queue.specs.declared.heads.Next.TheVariants as next
 use Rattle.sva_queue.specs.declared.heads.Sending.{Sending}
 use Rattle.sva_queue.specs.Queue.{Queue, issued, answer_at, next_of, is_complete, after_answer, pumped}
 use Rattle.sva_queue.specs.Heads.{send_next, sending_of, next_by, look_of, pumped_of, IsAnswered}
-use Rattle.sva_queue.proofs.Kept.{wait_not_issued}
 
 -- The head is looked at.
 
@@ -53,15 +52,3 @@ is_answered queue e n is = (e, sym (answered queue e) ∙ ap pumped_of (sym is))
 
 pub does : (queue : Queue) (e : Bool) (n : Next) → n ≡ look_of queue e → after_answer (pumped_of n) queue ≡ pumped e queue
 does queue e n is = ap (λ (a : Pumped). after_answer a queue) (ap pumped_of is ∙ answered queue e)
-
--- The tag of what is issued is the lowest free one.
-
-issued_tag : (o : Option ℕ) (t : ℕ) → issued o ≡ Issued t → o ≡ Some t
-issued_tag None t h = absurd (cc)
-issued_tag (Some u) t h = cc
-
-pub tag_at : (queue : Queue) (e : Bool) (ds : List Descriptor) (t : ℕ) → answer_at queue e ds ≡ Issued t → lowest_free queue.tags ≡ Some t
-tag_at queue e [] t h = absurd (cc)
-tag_at queue e (Range pasid range ∷ ds) t h = issued_tag (lowest_free queue.tags) t h
-tag_at queue e (Pasid pasid ∷ ds) t h = issued_tag (lowest_free queue.tags) t h
-tag_at queue e (Wait cookie drain ∷ ds) t h = absurd (wait_not_issued (is_complete queue e drain) cookie t h)

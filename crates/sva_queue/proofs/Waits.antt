@@ -87,7 +87,8 @@ issued_tag : (o : Option ℕ) (tag : ℕ) → issued o ≡ Issued tag → o ≡ 
 issued_tag None tag h = absurd (cc)
 issued_tag (Some t) tag h = ap Some (cc)
 
-issued_lowest : (queue : Queue) (e : Bool) (tag : ℕ) (ds : List Descriptor) → answer_at queue e ds ≡ Issued tag → lowest_free queue.tags ≡ Some tag
+-- the tag of what is issued is the lowest free one
+pub issued_lowest : (queue : Queue) (e : Bool) (tag : ℕ) (ds : List Descriptor) → answer_at queue e ds ≡ Issued tag → lowest_free queue.tags ≡ Some tag
 issued_lowest queue e tag [] h = absurd (cc)
 issued_lowest queue e tag (Range pasid range ∷ ds) h = issued_tag (lowest_free queue.tags) tag h
 issued_lowest queue e tag (Pasid pasid ∷ ds) h = issued_tag (lowest_free queue.tags) tag h

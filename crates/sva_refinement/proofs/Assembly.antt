@@ -7,7 +7,8 @@ use Rattle.sva_step.specs.declared.steps.Step.{Step}
 use Rattle.sva_model.specs.Words.{put}
 use Rattle.sva_model.specs.State.{Endpoint, JobName, World}
 use Rattle.sva_model.specs.State.HostGroupState.{Job}
-use Rattle.sva_model.specs.Acts.{Act, LocalAct, act_alone, act, submitted_if, submits, bound, cookie_of}
+use Rattle.sva_model.specs.Unmappings.{submitted_if, submits, bound, cookie_of}
+use Rattle.sva_model.specs.Acts.{Act, LocalAct, act_alone, act}
 use Rattle.sva_model.specs.Acts.Act.{NewSpace, DropSpace, Map, Unmap, NewBinding, NewJob, Hold, LetGo, AtEndpoint}
 use Rattle.sva_model.specs.Refusals.{refusals}
 use Rattle.sva_model.specs.Outcomes.{outcome}

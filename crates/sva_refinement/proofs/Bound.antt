@@ -4,7 +4,7 @@ use Rattle.std.specs.Prelude.{Some, None, Option, option_map, ◌&&◌, ◌==◌
 use Rattle.std.proofs.lemmas.Bool.{eq-eqb, ne_eqb}
 use Rattle.sva_model.specs.State.{World}
 use Rattle.sva_model.specs.States.{is_unreleased}
-use Rattle.sva_model.specs.Acts.{bound}
+use Rattle.sva_model.specs.Unmappings.{bound}
 use Rattle.sva_model.specs.Wire.{BindingWire, number, binding_wire, wire}
 use Rattle.sva_lemmas.proofs.Words.{ℕ_cases, find_passes}
 use Rattle.sva_laws.proofs.Invariant.{Invariant}

@@ -8,7 +8,8 @@ use Rattle.sva_model.specs.State.{Stage, Endpoint, World}
 use Rattle.sva_model.specs.State.Stage.{Unbound, Live, Stopping, Draining, Invalidating, Quiet, Lost, Released}
 use Rattle.sva_model.specs.State.Order.{PasidOf, Wait}
 use Rattle.sva_model.specs.States.{is_unreleased}
-use Rattle.sva_model.specs.Acts.{LocalAct, act_alone, act, cut_off as cut_stage, marked}
+use Rattle.sva_model.specs.StateChanges.{cut_off as cut_stage, marked}
+use Rattle.sva_model.specs.Acts.{LocalAct, act_alone, act}
 use Rattle.sva_model.specs.Acts.Act.{AtEndpoint}
 use Rattle.sva_model.specs.Wire.{BindingWire, StageWire, number, cookie_number, stage_wire, binding_wire, wire}
 use Rattle.sva_model.specs.Wire.StageWire.{LiveWire, StoppingWire, DrainingWire, InvalidatingWire, QuietWire}

@@ -13,11 +13,11 @@ use Rattle.sva_model.specs.State.Order.{RangeOf, PasidOf, Wait}
 use Rattle.sva_model.specs.State.OrderState.{Completing}
 use Rattle.sva_model.specs.State.Subject.{InvalidateOf, InvalidatedOf, ResponseOf}
 use Rattle.sva_model.specs.States.{is_open, is_busy}
-use Rattle.sva_model.specs.Acts.{extent_of, scope_of, binding_of, is_last_left}
+use Rattle.sva_model.specs.StateChanges.{extent_of, scope_of, binding_of, is_last_left}
 use Rattle.sva_model.specs.Labels
 use Rattle.sva_model.specs.Outcomes as outcomes
 use Rattle.sva_model.specs.Wire.{BusyWire, number, group_wire, busy_wire, wire}
-use Rattle.sva_laws.specs.Laws.{IsVectorOf}
+use Rattle.sva_laws.specs.LabelLaws.{IsVectorOf}
 use Rattle.sva_lemmas.proofs.Counting.{count_placed}
 use Rattle.sva_lemmas.proofs.Lists.{tabulate_at}
 use Rattle.sva_labels.specs.Finding.{unit_of, group_at, busy_at}

@@ -14,7 +14,7 @@ use Rattle.sva_model.specs.State.RequestState.{Out, Doomed, Over}
 use Rattle.sva_model.specs.State.Phase.{Open, ResetSent, Cleared}
 use Rattle.sva_model.specs.State.Subject.{RequestOf, CompletionOf}
 use Rattle.sva_model.specs.States.{is_open, is_unreleased, is_live_stage, is_out}
-use Rattle.sva_model.specs.Acts.{is_replaced}
+use Rattle.sva_model.specs.StateChanges.{is_replaced}
 use Rattle.sva_model.specs.Outcomes as names
 use Rattle.sva_model.specs.Wire.{DeviceWire, number, insert_by, sorted_by, is_before, is_doomed, stage_wire, page_wire, request_wire, cached_wire}
 use Rattle.sva_model.specs.Wire.{device_wire, wire}

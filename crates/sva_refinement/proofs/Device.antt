@@ -8,7 +8,8 @@ use Rattle.sva_model.specs.Message.Message.{InvalidatedMessage, PageRequestMessa
 use Rattle.sva_model.specs.State.{Mappings, Endpoint, World}
 use Rattle.sva_model.specs.State.PasidState.{Off, On, Ending}
 use Rattle.sva_model.specs.States.{is_unreleased, is_off}
-use Rattle.sva_model.specs.Acts.{Act, LocalAct, act, act_alone, bound, submits, submitted, submitted_if}
+use Rattle.sva_model.specs.Unmappings.{bound, submits, submitted, submitted_if}
+use Rattle.sva_model.specs.Acts.{Act, LocalAct, act, act_alone}
 use Rattle.sva_model.specs.Acts.LocalAct.{Bind, Stop, Drain, Invalidate, Quieten, Release, Send, Pass, File, Reset, Hand, Respond, Discard, Ask, Begin, End}
 use Rattle.sva_model.specs.Acts.LocalAct.{Evict, Group, Request, Finish, Quit, Start_arrives, Stop_arrives, Reset_arrives, Keep, Forget, Take, Answered}
 use Rattle.sva_model.specs.Acts.LocalAct.{Complete, Count, Arrive, Miss, Mark, Ignore, Reopen}

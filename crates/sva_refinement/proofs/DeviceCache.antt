@@ -5,7 +5,8 @@ use Rattle.std.proofs.lemmas.Bool.Decides.{nat_tests}
 use Rattle.sva_model.specs.Words.{put, select, is_some, the}
 use Rattle.sva_model.specs.State.{Mappings, Endpoint}
 use Rattle.sva_model.specs.States.{is_unreleased, is_out, is_busy, covers}
-use Rattle.sva_model.specs.Acts.{act_alone, LocalAct, none_if, is_replaced, binding_of, extent_of}
+use Rattle.sva_model.specs.StateChanges.{none_if, is_replaced, binding_of, extent_of}
+use Rattle.sva_model.specs.Acts.{act_alone, LocalAct}
 use Rattle.sva_model.specs.Wire.{TranslationWire, sorted_by, insert_by, is_before, cached_wire, cache_wire, translation_wire}
 use Rattle.sva_lemmas.proofs.Words.{put-same, put-other, ℕ_cases}
 use Rattle.sva_laws.proofs.Legal.{LegalLocalAct}

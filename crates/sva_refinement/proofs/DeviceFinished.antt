@@ -8,7 +8,8 @@ use Rattle.sva_model.specs.State.OrderState.{Queued, Sent, Taken, Lapsed, Comple
 use Rattle.sva_model.specs.State.UseState.{Running, Dead, Ended}
 use Rattle.sva_model.specs.States.{is_unreleased, is_busy, is_running, covers}
 use Rattle.sva_model.specs.Labels
-use Rattle.sva_model.specs.Acts.{act_alone, LocalAct, binding_of, extent_of, completing_if, lapse}
+use Rattle.sva_model.specs.StateChanges.{binding_of, extent_of, completing_if, lapse}
+use Rattle.sva_model.specs.Acts.{act_alone, LocalAct}
 use Rattle.sva_model.specs.Wire.{chain, taken_by, is_noted, use_wire, translation_wire}
 use Rattle.sva_lemmas.proofs.Words.{put-same, put-other}
 use Rattle.sva_laws.proofs.Legal.{LegalLocalAct}

@@ -7,7 +7,8 @@ use Rattle.sva_model.specs.Message.{Code}
 use Rattle.sva_model.specs.State.{Mappings, GroupState, Endpoint}
 use Rattle.sva_model.specs.State.GroupState.{Collecting, Awaiting, Stale, Closed}
 use Rattle.sva_model.specs.States.{is_off, is_outstanding}
-use Rattle.sva_model.specs.Acts.{act_alone, LocalAct, sent_as, stale_if}
+use Rattle.sva_model.specs.StateChanges.{sent_as, stale_if}
+use Rattle.sva_model.specs.Acts.{act_alone, LocalAct}
 use Rattle.sva_model.specs.Wire.{GroupWire, group_wire}
 use Rattle.sva_lemmas.proofs.Words.{put-same, put-other}
 use Rattle.sva_lemmas.proofs.Counting.{count_same, count_zero}

@@ -6,7 +6,8 @@ use Rattle.sva_model.specs.Words.{tabulate, is_some, holds_of, the}
 use Rattle.sva_model.specs.State.{Owed, Mappings, UseState, Endpoint, World}
 use Rattle.sva_model.specs.State.UseState.{Running, Dead, Ended}
 use Rattle.sva_model.specs.States.{is_running, covers}
-use Rattle.sva_model.specs.Acts.{act, without_pages}
+use Rattle.sva_model.specs.Unmappings.{without_pages}
+use Rattle.sva_model.specs.Acts.{act}
 use Rattle.sva_model.specs.Acts.Act.{Map}
 use Rattle.sva_model.specs.Wire.{sorted_by, is_before, cached_wire, cache_wire, translation_wire, use_wire, is_noted, device_wire}
 use Rattle.sva_model.specs.Wire.UseWire.{RunningWire, DeadWire}

@@ -7,7 +7,9 @@ use Rattle.sva_model.specs.State.{Mappings, Order, OrderState, Endpoint}
 use Rattle.sva_model.specs.State.OrderState.{Queued, Sent, Taken, Lapsed, Completing, Done, Void}
 use Rattle.sva_model.specs.State.UseState.{Running}
 use Rattle.sva_model.specs.States.{is_unreleased, is_busy, is_taken, is_running, covers}
-use Rattle.sva_model.specs.Acts.{act_alone, LocalAct, binding_of, extent_of, void_queued, counted_if, is_last_left, submitted, range_at}
+use Rattle.sva_model.specs.Unmappings.{submitted, range_at}
+use Rattle.sva_model.specs.StateChanges.{binding_of, extent_of, void_queued, counted_if, is_last_left}
+use Rattle.sva_model.specs.Acts.{act_alone, LocalAct}
 use Rattle.sva_model.specs.Labels
 use Rattle.sva_model.specs.Wire.{chain, taken_by, is_noted}
 use Rattle.sva_lemmas.proofs.Words.{put-same, put-other, ℕ_cases}

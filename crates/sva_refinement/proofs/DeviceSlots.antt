@@ -5,7 +5,7 @@ use Rattle.sva_model.specs.Words.{put, tabulate}
 use Rattle.sva_model.specs.State.{Mappings, UseState, Endpoint}
 use Rattle.sva_model.specs.State.UseState.{Running, Dead, Ended}
 use Rattle.sva_model.specs.States.{is_unreleased, is_running}
-use Rattle.sva_model.specs.Acts
+use Rattle.sva_model.specs.StateChanges
 use Rattle.sva_model.specs.Acts.{act_alone, LocalAct}
 use Rattle.sva_model.specs.Wire.{UseWire, TranslationWire, use_wire, translation_wire}
 use Rattle.sva_model.specs.Wire.UseWire.{RunningWire, DeadWire}
@@ -102,7 +102,7 @@ slots_cleared ms n p c =
     row_map 16 p.at_slot (use_wire ms p) (use_wire ms (act_alone p n (LocalAct.Reset_arrives c))) killed refl
     (λ t u h. by_state (p.use_state u) (translation_wire ms p (p.use_binding u) (ms.page (p.use_mapping u)) (p.use_mapping u)))
   where
-    by_state : (s : UseState) (x : TranslationWire) → Some (seen_use (Acts.killed s) x) ≡ Some DeadWire
+    by_state : (s : UseState) (x : TranslationWire) → Some (seen_use (StateChanges.killed s) x) ≡ Some DeadWire
     by_state Running x = refl
     by_state Dead x = refl
     by_state Ended x = refl

@@ -8,7 +8,8 @@ use Rattle.sva_model.specs.State.RequestState.{Out, Doomed, Over}
 use Rattle.sva_model.specs.State.Order.{RangeOf, PasidOf, Wait}
 use Rattle.sva_model.specs.States.{is_unreleased, is_out, is_busy, is_wait, is_within, covers}
 use Rattle.sva_model.specs.States.Extent.{Pages, AllPages}
-use Rattle.sva_model.specs.Acts.{act_alone, LocalAct, doom_if, binding_of, extent_of}
+use Rattle.sva_model.specs.StateChanges.{doom_if, binding_of, extent_of}
+use Rattle.sva_model.specs.Acts.{act_alone, LocalAct}
 use Rattle.sva_model.specs.Wire.{RequestWire, request_wire, is_doomed}
 use Rattle.sva_lemmas.proofs.Words.{put-same, put-other, ℕ_cases}
 use Rattle.sva_laws.proofs.Legal.{LegalLocalAct}

@@ -4,7 +4,7 @@ use Rattle.std.specs.Prelude.{Option, Some, None, List}
 use Rattle.sva_model.specs.Words.{tabulate, holds_of}
 use Rattle.sva_model.specs.State.{Mappings, OrderState, Endpoint}
 use Rattle.sva_model.specs.State.OrderState.{Queued, Sent, Taken, Lapsed, Completing, Done, Void}
-use Rattle.sva_model.specs.Acts.{binding_of, extent_of}
+use Rattle.sva_model.specs.StateChanges.{binding_of, extent_of}
 use Rattle.sva_model.specs.Wire.{TakenWire, chain, taken_by, is_noted}
 use Rattle.sva_lemmas.proofs.Lists.{tabulate_same}
 

@@ -7,7 +7,8 @@ use Rattle.sva_model.specs.Message.{Message}
 use Rattle.sva_model.specs.Message.Message.{StartMessage, StopMessage, ResetMessage, InvalidateMessage, ResponseMessage, RequestMessage}
 use Rattle.sva_model.specs.Message.Message.{InvalidatedMessage, PageRequestMessage, MarkerMessage, ResetDoneMessage}
 use Rattle.sva_model.specs.State.{Subject, Endpoint, World}
-use Rattle.sva_model.specs.Acts.{LocalAct, act_alone, act, sends, scope_of, extent_of, binding_of, count_field}
+use Rattle.sva_model.specs.StateChanges.{scope_of, extent_of, binding_of, count_field}
+use Rattle.sva_model.specs.Acts.{LocalAct, act_alone, act, sends}
 use Rattle.sva_model.specs.Acts.Act.{AtEndpoint}
 use Rattle.sva_model.specs.Wire.{FlightWire, number, flight_wire, wire}
 use Rattle.sva_lemmas.proofs.Words.{put-same, put-other, ℕ_cases}

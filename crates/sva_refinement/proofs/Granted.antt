@@ -17,7 +17,8 @@ use Rattle.sva_model.specs.State.RequestState.{Out, Doomed, Over}
 use Rattle.sva_model.specs.State.Subject.{StartOf, StopOf, FunctionReset, CompletionOf, InvalidateOf, ResponseOf, RequestOf, InvalidatedOf, PageRequestOf}
 use Rattle.sva_model.specs.State.Subject.{MarkerOf, ResetDone}
 use Rattle.sva_model.specs.States.{is_open, is_wait}
-use Rattle.sva_model.specs.Acts.{Act, LocalAct, act, sends, cookies_of, submits}
+use Rattle.sva_model.specs.Unmappings.{submits}
+use Rattle.sva_model.specs.Acts.{Act, LocalAct, act, sends, cookies_of}
 use Rattle.sva_model.specs.Acts.Act.{NewSpace, Map, Unmap, NewBinding, LetGo, AtEndpoint}
 use Rattle.sva_model.specs.Labels
 use Rattle.sva_model.specs.Refusals.{Cause, refusals, unbind_refusals, advance_refusals, sends_invalidate, delivery_sends}

@@ -7,7 +7,8 @@ use Rattle.sva_model.specs.State.{HostGroupState, Mappings, Endpoint}
 use Rattle.sva_model.specs.State.HostGroupState.{InHand, Discarded, InHandDiscarded}
 use Rattle.sva_model.specs.State.Phase.{Open}
 use Rattle.sva_model.specs.States.{is_open, is_open_group}
-use Rattle.sva_model.specs.Acts.{LocalAct, act_alone, discarded}
+use Rattle.sva_model.specs.StateChanges.{discarded}
+use Rattle.sva_model.specs.Acts.{LocalAct, act_alone}
 use Rattle.sva_model.specs.Wire.{number, ask_wire, asks_wire, host_group_wire, host_groups_wire, begins_open, is_part}
 use Rattle.sva_lemmas.proofs.Words.{put-same, put-other, ℕ_cases}
 use Rattle.sva_laws.proofs.Legal.{LegalLocalAct}

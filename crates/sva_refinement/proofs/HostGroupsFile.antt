@@ -10,7 +10,8 @@ use Rattle.sva_model.specs.State.PageRequestState.{Arrived, Dropped}
 use Rattle.sva_model.specs.State.HostGroupState.{NotFiled, PartFiled, Job, InHand, Replied, Discarded, InHandDiscarded}
 use Rattle.sva_model.specs.State.Phase.{Open}
 use Rattle.sva_model.specs.States.{is_open_group, is_outstanding, is_before_invalidating}
-use Rattle.sva_model.specs.Acts.{LocalAct, act_alone, filed_as}
+use Rattle.sva_model.specs.StateChanges.{filed_as}
+use Rattle.sva_model.specs.Acts.{LocalAct, act_alone}
 use Rattle.sva_model.specs.Wire.{number, ask_wire, asks_wire, page_request_wire, host_group_wire, host_groups_wire, group_job, begins_open, is_part}
 use Rattle.sva_model.specs.Wire.{AskWire, HostGroupWire}
 use Rattle.sva_lemmas.proofs.Lists.{none_below}

@@ -7,7 +7,8 @@ use Rattle.sva_model.specs.Words.{put, select}
 use Rattle.sva_model.specs.State.{HostGroupState, Mappings, Endpoint, World}
 use Rattle.sva_model.specs.State.HostGroupState.{InHand}
 use Rattle.sva_model.specs.States.{is_job}
-use Rattle.sva_model.specs.Acts.{LocalAct, act_alone, act, discarded}
+use Rattle.sva_model.specs.StateChanges.{discarded}
+use Rattle.sva_model.specs.Acts.{LocalAct, act_alone, act}
 use Rattle.sva_model.specs.Acts.Act.{AtEndpoint}
 use Rattle.sva_model.specs.Labels
 use Rattle.sva_model.specs.Wire.{AskWire, number, ask_wire, asks_wire, group_job, job_wire, wire}

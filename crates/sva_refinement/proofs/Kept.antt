@@ -2,7 +2,7 @@
 -- groups that are open. It is what `moved` leaves at the endpoint of the move.
 use Rattle.std.specs.Prelude.{ℕ, suc, true, false, ◌||◌, not, Some, None, List, [], ◌∷◌, ◌++◌, map, filter, drop, slice_set}
 use Rattle.sva_model.specs.State.PasidState.{Off, On, Ending}
-use Rattle.sva_model.specs.Acts.{disables, sent_as}
+use Rattle.sva_model.specs.StateChanges.{disables, sent_as}
 use Rattle.sva_model.specs.Wire.{EndpointWire, DeviceWire, UnitWire, PageRequestWire, HostGroupWire}
 use Rattle.sva_model.specs.Wire.UseWire.{RunningWire}
 use Rattle.sva_model.specs.Wire.BusyWire.{Fresh}

@@ -11,8 +11,8 @@ use Rattle.sva_model.specs.State.Order.{RangeOf, PasidOf, Wait}
 use Rattle.sva_model.specs.State.OrderState.{Queued, Sent, Taken, Lapsed, Completing, Done, Void}
 use Rattle.sva_model.specs.States as states
 use Rattle.sva_model.specs.States.{is_open, is_done, is_queued, is_wait}
-use Rattle.sva_model.specs.Acts as acts
-use Rattle.sva_model.specs.Acts.{bound, waits_at, waits_by_stage, submits_at}
+use Rattle.sva_model.specs.Unmappings as unmappings
+use Rattle.sva_model.specs.Unmappings.{bound, waits_at, waits_by_stage, submits_at}
 use Rattle.sva_model.specs.Refusals.{is_queue_short}
 use Rattle.sva_model.specs.Labels
 use Rattle.sva_model.specs.Wire.{TargetWire, number, end_number, cookie_number, stage_wire, binding_wire, descriptor, unit_wire, wire}
@@ -98,22 +98,22 @@ pub submits_seen : (first e : ℕ) (p : Endpoint) (o : Option ℕ) → submits_b
 submits_seen first e p None = refl
 submits_seen first e p (Some b) = ap (λ t. is_open p.phase && t) (before_there first p (p.stage b))
 
-pub submits_there : (w : World) (s e : ℕ) → Invariant w → e < w.config.endpoints → submits (wire w) (number w.config.first s) e ≡ acts.submits w s e
+pub submits_there : (w : World) (s e : ℕ) → Invariant w → e < w.config.endpoints → submits (wire w) (number w.config.first s) e ≡ unmappings.submits w s e
 submits_there w s e i l = ap₂ submits_by (unit_seen w e l) (bound_is w e s i) ∙ submits_seen w.config.first e (w.part e) (bound w e s)
 
-pub needed_there : (w : World) (s : ℕ) → Invariant w → waits_needed (wire w) (number w.config.first s) ≡ count_below w.config.endpoints (acts.submits w s)
+pub needed_there : (w : World) (s : ℕ) → Invariant w → waits_needed (wire w) (number w.config.first s) ≡ count_below w.config.endpoints (unmappings.submits w s)
 needed_there w s i =
     ap (λ n. count_below n (submits (wire w) (number w.config.first s))) (endpoints_seen w)
-    ∙ count_same w.config.endpoints (submits (wire w) (number w.config.first s)) (acts.submits w s) (λ e l. submits_there w s e i l)
+    ∙ count_same w.config.endpoints (submits (wire w) (number w.config.first s)) (unmappings.submits w s) (λ e l. submits_there w s e i l)
 
 pub full_there :
     (w : World) (s k : ℕ) → Invariant w
     → any_below (length (wire w).parts) (λ e. submits (wire w) (number w.config.first s) e && not (has_room (unit_of (wire w) e) k))
-    ≡ any_below w.config.endpoints (λ e. acts.submits w s e && is_queue_short (w.part e) k)
+    ≡ any_below w.config.endpoints (λ e. unmappings.submits w s e && is_queue_short (w.part e) k)
 full_there w s k i =
     ap (λ n. any_below n (λ e. submits (wire w) (number w.config.first s) e && not (has_room (unit_of (wire w) e) k))) (endpoints_seen w)
     ∙ any_same w.config.endpoints (λ e. submits (wire w) (number w.config.first s) e && not (has_room (unit_of (wire w) e) k))
-    (λ e. acts.submits w s e && is_queue_short (w.part e) k)
+    (λ e. unmappings.submits w s e && is_queue_short (w.part e) k)
     (λ e l. ap₂ (λ a b. a && b) (submits_there w s e i l) (ap (λ u. not (has_room u k)) (unit_seen w e l) ∙ room_there w.config.first k (w.part e)))
 
 -- Is there something to wait for?
@@ -162,14 +162,15 @@ within n m p l = both_ways (any_below m (λ e. nat_lt e n && p e)) (any_below n 
 
 pub waits_there :
     (w : World) (s : ℕ) → Invariant w → ((e : ℕ) → HasFront w.cookies (w.part e)) → w.config.endpoints ≤ 8
-    → waits (wire w) (number w.config.first s) ≡ any_below w.config.endpoints (acts.waits w s)
+    → waits (wire w) (number w.config.first s) ≡ any_below w.config.endpoints (unmappings.waits w s)
 waits_there w s i f most =
-    any_same 8 (λ e. is_some (slice_index_or (targets_of (wire w) (number w.config.first s)) e None)) (λ e. nat_lt e w.config.endpoints && acts.waits w s e)
+    any_same 8 (λ e. is_some (slice_index_or (targets_of (wire w) (number w.config.first s)) e None))
+    (λ e. nat_lt e w.config.endpoints && unmappings.waits w s e)
     (λ e l. ap is_some (tabulate_at 8 target e None l)
     ∙ ap (λ n. is_some
     (if nat_lt e n then target_by (unit_of (wire w) e) (cookie_at (wire w) (number w.config.first s) e)
     (bound_at (wire w) e (number w.config.first s)) else None)) (endpoints_seen w) ∙ go e (nat_lt e w.config.endpoints) refl)
-    ∙ within w.config.endpoints 8 (acts.waits w s) most
+    ∙ within w.config.endpoints 8 (unmappings.waits w s) most
   where
     target : ℕ → Option TargetWire
     target e =
@@ -180,7 +181,7 @@ waits_there w s i f most =
         (e : ℕ) (b : Bool) → nat_lt e w.config.endpoints ≡ b
         → is_some
         (if b then target_by (unit_of (wire w) e) (cookie_at (wire w) (number w.config.first s) e) (bound_at (wire w) e (number w.config.first s))
-        else None) ≡ (b && acts.waits w s e)
+        else None) ≡ (b && unmappings.waits w s e)
     go e false h = refl
     go e true h =
         let l : e < w.config.endpoints = ltb-true e w.config.endpoints h in

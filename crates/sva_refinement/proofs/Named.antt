@@ -3,7 +3,8 @@ use Rattle.std.specs.Prelude.{ℕ, List, [], ◌∷◌}
 use Rattle.sva_model.specs.Message.{Message}
 use Rattle.sva_model.specs.Message.Message.{InvalidatedMessage}
 use Rattle.sva_model.specs.State.{Mappings, Endpoint, World}
-use Rattle.sva_model.specs.Acts.{Act, LocalAct, act, binding_of, extent_of}
+use Rattle.sva_model.specs.StateChanges.{binding_of, extent_of}
+use Rattle.sva_model.specs.Acts.{Act, LocalAct, act}
 use Rattle.sva_model.specs.Wire.{number, cookie_number, translation_wire, page_request_wire, group_job, job_wire}
 use Rattle.sva_labels.specs.Moves.{Move}
 use Rattle.sva_labels.specs.Outcomes.{count_read}

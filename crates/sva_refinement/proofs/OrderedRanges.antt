@@ -11,7 +11,8 @@ use Rattle.sva_step.specs.declared.steps.Step.TheVariants as step
 use Rattle.sva_model.specs.Range.{Range, IsRange}
 use Rattle.sva_model.specs.State.{PasidRule, Endpoint, World, opened}
 use Rattle.sva_model.specs.State.Order.{RangeOf}
-use Rattle.sva_model.specs.Acts.{Act, LocalAct, act, act_alone, range_at, submitted, submitted_if, submits, bound, cookie_of}
+use Rattle.sva_model.specs.Unmappings.{range_at, submitted, submitted_if, submits, bound, cookie_of}
+use Rattle.sva_model.specs.Acts.{Act, LocalAct, act, act_alone}
 use Rattle.sva_model.specs.Acts.Act.{NewSpace, DropSpace, Map, Unmap, NewBinding, NewJob, Hold, LetGo, AtEndpoint}
 use Rattle.sva_model.specs.Labels
 use Rattle.sva_model.specs.Replies.{response_to}

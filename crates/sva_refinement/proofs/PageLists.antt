@@ -6,7 +6,7 @@ use Rattle.std.proofs.lemmas.Bool.{eq-eqb, eqb-true, ne_eqb}
 use Rattle.sva_model.specs.Words.{put, any_below, tabulate}
 use Rattle.sva_model.specs.State.{Owed, Mappings, World}
 use Rattle.sva_model.specs.States.{is_present}
-use Rattle.sva_model.specs.Acts.{without_pages}
+use Rattle.sva_model.specs.Unmappings.{without_pages}
 use Rattle.sva_model.specs.Wire.{PageWire, PlaceWire, insert_by, is_lower_page, is_page_of, page_wire, pages_below, pages_wire}
 use Rattle.sva_lemmas.proofs.Words.{put-same, put-other, ℕ_cases}
 use Rattle.sva_lemmas.proofs.Lists.{tabulate_same, tabulate_set}

@@ -9,7 +9,8 @@ use Rattle.sva_model.specs.State.PageRequestState.{InFlight, Arrived, Filed, Dro
 use Rattle.sva_model.specs.State.Subject.{PageRequestOf}
 use Rattle.sva_model.specs.State.Stage.{Unbound}
 use Rattle.sva_model.specs.States.{is_arrived, is_before_invalidating}
-use Rattle.sva_model.specs.Acts.{LocalAct, act_alone, dropped_arrived}
+use Rattle.sva_model.specs.StateChanges.{dropped_arrived}
+use Rattle.sva_model.specs.Acts.{LocalAct, act_alone}
 use Rattle.sva_model.specs.Labels.{is_waiting}
 use Rattle.sva_model.specs.Wire.{page_request_wire, page_queue_wire, PageRequestWire}
 use Rattle.sva_lemmas.proofs.Words.{put-same, put-other}

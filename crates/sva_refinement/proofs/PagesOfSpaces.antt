@@ -8,7 +8,8 @@ use Rattle.sva_model.specs.Words.{count_below}
 use Rattle.sva_model.specs.State.{Owed, MappingState, World}
 use Rattle.sva_model.specs.State.MappingState.{Unmade, Present, Gone}
 use Rattle.sva_model.specs.States.{is_present}
-use Rattle.sva_model.specs.Acts.{act, gone_if}
+use Rattle.sva_model.specs.Unmappings.{gone_if}
+use Rattle.sva_model.specs.Acts.{act}
 use Rattle.sva_model.specs.Acts.Act.{Map}
 use Rattle.sva_model.specs.Wire.{PageWire, insert_by, is_lower_page, is_page_of, page_wire, pages_below, pages_wire}
 use Rattle.sva_lemmas.proofs.Words.{put-same, put-other, ℕ_cases}

@@ -7,7 +7,7 @@ use Rattle.sva_model.specs.Words.{any_below, tabulate}
 use Rattle.sva_model.specs.State.{Owed, MappingState, World}
 use Rattle.sva_model.specs.State.MappingState.{Unmade, Present, Gone}
 use Rattle.sva_model.specs.States.{is_present, place}
-use Rattle.sva_model.specs.Acts.{gone_if, without_pages}
+use Rattle.sva_model.specs.Unmappings.{gone_if, without_pages}
 use Rattle.sva_model.specs.Wire.{PlaceWire, is_page_of, pages_wire, place_wire_by, places_wire}
 use Rattle.sva_model.specs.Wire.PlaceWire.{FreeWire, MappedWire}
 use Rattle.sva_lemmas.proofs.Words.{any_below-true, any_below-false}

@@ -5,7 +5,8 @@ use Rattle.sva_step.specs.declared.limits.Config.{Config}
 use Rattle.sva_step.specs.declared.steps.Step.{Step}
 use Rattle.sva_model.specs.State.{PasidRule, World}
 use Rattle.sva_model.specs.Steps.{world_after}
-use Rattle.sva_laws.specs.Laws.{IsCarried, IsUnderWay}
+use Rattle.sva_laws.specs.LabelLaws.{IsCarried}
+use Rattle.sva_laws.specs.UnderWay.{IsUnderWay}
 use Rattle.sva_laws.proofs.Invariant.{Invariant}
 use Rattle.sva_laws.proofs.Runs.{always}
 use Rattle.sva_laws.proofs.Found.{under_way}

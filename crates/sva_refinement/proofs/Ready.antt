@@ -17,7 +17,8 @@ use Rattle.sva_model.specs.State.RequestState.{Out, Doomed, Over}
 use Rattle.sva_model.specs.State.Subject.{StartOf, StopOf, FunctionReset, CompletionOf, InvalidateOf, ResponseOf, RequestOf, InvalidatedOf, PageRequestOf}
 use Rattle.sva_model.specs.State.Subject.{MarkerOf, ResetDone}
 use Rattle.sva_model.specs.States.{is_open, is_queued}
-use Rattle.sva_model.specs.Acts.{LocalAct, act, act_alone, filed_as}
+use Rattle.sva_model.specs.StateChanges.{filed_as}
+use Rattle.sva_model.specs.Acts.{LocalAct, act, act_alone}
 use Rattle.sva_model.specs.Acts.Act.{Map, LetGo, AtEndpoint}
 use Rattle.sva_model.specs.Labels
 use Rattle.sva_model.specs.Refusals.{refusals}

@@ -10,7 +10,7 @@ use Rattle.sva_model.specs.State.{Stage, Order, World}
 use Rattle.sva_model.specs.State.PasidRule.{PerSpace}
 use Rattle.sva_model.specs.State.Stage.{Unbound, Live, Stopping, Draining, Invalidating, Quiet, Lost, Released}
 use Rattle.sva_model.specs.States.{is_unreleased, is_wait, drains}
-use Rattle.sva_model.specs.Acts.{bound}
+use Rattle.sva_model.specs.Unmappings.{bound}
 use Rattle.sva_model.specs.Refusals as names
 use Rattle.sva_model.specs.Refusals.{Cause, refusals}
 use Rattle.sva_model.specs.Outcomes.{unbind_outcome, advance_outcome}

@@ -9,7 +9,7 @@ use Rattle.sva_model.specs.Words.{all_below, any_below, count_below}
 use Rattle.sva_model.specs.State.{Owed, MappingState, World}
 use Rattle.sva_model.specs.State.MappingState.{Unmade, Present, Gone}
 use Rattle.sva_model.specs.States.{answered, place, place_at, place_by, place_of_gone}
-use Rattle.sva_model.specs.Acts as acts
+use Rattle.sva_model.specs.Unmappings as unmappings
 use Rattle.sva_model.specs.Refusals.{Cause, refusals, page_range, unmap_refusals, unmap_range_refusals}
 use Rattle.sva_model.specs.Outcomes.{frames_at, mapped_in, unmap_answer, unmap_range_answer, look_answer as look_said}
 use Rattle.sva_model.specs.Labels
@@ -147,7 +147,7 @@ unmap_says w n q count i f most =
           let num = space_number w n e in
           ap₂ (λ b fs. by_one (unmap_answer b fs) (Move.Unmap n q count 0)) (ap (waits (wire w)) (sym num) ∙ waits_there w (Labels.name w n) i f most)
           (ap (λ pages. frames_of pages q count) (pages_there w n e) ∙ frames_there w (Labels.name w n) q count i.mapped (not-false _ k.1.1.1.0))
-          ∙ ap (λ m. by_one (unmap_answer (any_below w.config.endpoints (acts.waits w (Labels.name w n))) (frames_at w (Labels.name w n) q count))
+          ∙ ap (λ m. by_one (unmap_answer (any_below w.config.endpoints (unmappings.waits w (Labels.name w n))) (frames_at w (Labels.name w n) q count))
           (Move.Unmap m q count 0)) (sym num);
     }
 
@@ -183,6 +183,6 @@ range_says w n q order i f most =
           ∙ count_same (2 ^ order) (λ j. is_mapped (pages_wire w.mappings (Labels.name w n)) (q + j))
           (λ j. Labels.is_mapped w (Labels.name w n) (q + j)) (λ j l. mapped_there w (Labels.name w n) (q + j) i.mapped))
           ∙ ap (λ m. by_one
-          (unmap_range_answer (any_below w.config.endpoints (acts.waits w (Labels.name w n))) (mapped_in w (Labels.name w n) q order))
+          (unmap_range_answer (any_below w.config.endpoints (unmappings.waits w (Labels.name w n))) (mapped_in w (Labels.name w n) q order))
           (Move.Unmap m q 1 order)) (sym num);
     }

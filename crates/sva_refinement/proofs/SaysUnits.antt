@@ -15,7 +15,7 @@ use Rattle.sva_model.specs.State.Order.{RangeOf, PasidOf, Wait}
 use Rattle.sva_model.specs.State.OrderState.{Void}
 use Rattle.sva_model.specs.States.{Extent, is_queued, is_busy, is_wait}
 use Rattle.sva_model.specs.States.Extent.{Pages, AllPages}
-use Rattle.sva_model.specs.Acts.{binding_of, extent_of}
+use Rattle.sva_model.specs.StateChanges.{binding_of, extent_of}
 use Rattle.sva_model.specs.Refusals as names
 use Rattle.sva_model.specs.Refusals.{Cause, refusals}
 use Rattle.sva_model.specs.Outcomes as outcomes

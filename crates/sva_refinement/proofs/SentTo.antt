@@ -6,7 +6,8 @@ use Rattle.sva_step.specs.declared.limits.Config.{Config}
 use Rattle.sva_step.specs.declared.steps.Step.{Step}
 use Rattle.sva_model.specs.Words.{put, put_range, is_some}
 use Rattle.sva_model.specs.State.{PasidRule, Mappings, Endpoint, World, opened}
-use Rattle.sva_model.specs.Acts.{Act, LocalAct, act, act_alone, sends, submitted_if, submits, bound, cookie_of}
+use Rattle.sva_model.specs.Unmappings.{submitted_if, submits, bound, cookie_of}
+use Rattle.sva_model.specs.Acts.{Act, LocalAct, act, act_alone, sends}
 use Rattle.sva_model.specs.Acts.Act.{NewSpace, DropSpace, Map, Unmap, NewBinding, NewJob, Hold, LetGo, AtEndpoint}
 use Rattle.sva_model.specs.Steps.{decide, next, run, after_acts, world_after}
 use Rattle.sva_lemmas.proofs.Words.{ℕ_cases, put-same, put-other}

@@ -10,11 +10,11 @@ use Rattle.sva_model.specs.State.PageRequestState.{Arrived}
 use Rattle.sva_model.specs.State.Subject.{StartOf, StopOf, FunctionReset, CompletionOf, InvalidateOf, ResponseOf, RequestOf, InvalidatedOf, PageRequestOf}
 use Rattle.sva_model.specs.State.Subject.{MarkerOf, ResetDone}
 use Rattle.sva_model.specs.States.{is_open, is_unreleased}
-use Rattle.sva_model.specs.Acts.{binding_of}
+use Rattle.sva_model.specs.StateChanges.{binding_of}
 use Rattle.sva_model.specs.Labels.{outstanding, is_waiting}
 use Rattle.sva_model.specs.Wire.{BindingWire, FlightWire, PageRequestWire, number, flight_wire, binding_wire, page_request_wire, stage_wire}
 use Rattle.sva_model.specs.Wire.{host_groups_wire, wire}
-use Rattle.sva_laws.specs.Laws.{IsCarried}
+use Rattle.sva_laws.specs.LabelLaws.{IsCarried}
 use Rattle.sva_laws.proofs.Bindings.{before_unreleased, unmarked_unreleased}
 use Rattle.sva_laws.proofs.Found.{found}
 use Rattle.sva_laws.proofs.Invariant.{Invariant}

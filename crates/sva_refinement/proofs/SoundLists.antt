@@ -5,7 +5,7 @@ use Rattle.std.proofs.lemmas.Option.{slice_get-map, slice_get_within}
 use Rattle.std.proofs.lemmas.List.{append-nil}
 use Rattle.sva_model.specs.Words.{select, tabulate}
 use Rattle.sva_lemmas.proofs.Words.{ℕ_cases}
-use Rattle.sva_lemmas.proofs.Lists.{tabulate_length}
+use Rattle.sva_lemmas.proofs.Lists.{get_before, get_end, tabulate_length}
 
 -- at a place of a list with one more at its end
 push_get : {A : Type 0} (xs : List A) (a x : A) (k : ℕ) → slice_get (xs ++ a ∷ []) k ≡ Some x → (slice_get xs k ≡ Some x) ⊎ ((k ≡ length xs) × (x ≡ a))
@@ -17,15 +17,6 @@ push_get (y ∷ xs) a x (suc k) h = go (push_get xs a x k h)
     go : (slice_get xs k ≡ Some x) ⊎ ((k ≡ length xs) × (x ≡ a)) → (slice_get xs k ≡ Some x) ⊎ ((suc k ≡ suc (length xs)) × (x ≡ a))
     go (inl e) = inl e
     go (inr e) = inr (ap suc e.0, e.1)
-
-old_get : {A : Type 0} (xs : List A) (a x : A) (k : ℕ) → slice_get xs k ≡ Some x → slice_get (xs ++ a ∷ []) k ≡ Some x
-old_get [] a x k h = absurd (cc (h))
-old_get (y ∷ xs) a x zero h = h
-old_get (y ∷ xs) a x (suc k) h = old_get xs a x k h
-
-end_get : {A : Type 0} (xs : List A) (a : A) → slice_get (xs ++ a ∷ []) (length xs) ≡ Some a
-end_get [] a = refl
-end_get (y ∷ xs) a = end_get xs a
 
 -- a table
 pub table_get : {A : Type 0} (n : ℕ) (f : ℕ → A) (k : ℕ) (x : A) → slice_get (tabulate n f) k ≡ Some x → (k < n) × (x ≡ f k)
@@ -94,13 +85,13 @@ select_there zero p x l t = absurd (omega (arith, l))
 select_there (suc n) p x l t = go (λ m. select_there n p x m t) (p n) refl (ℕ_cases x n)
   where
     more : (b : Bool) (k : ℕ) → slice_get (select n p) k ≡ Some x → slice_get (select n p ++ (if b then n ∷ [] else [])) k ≡ Some x
-    more true k e = old_get (select n p) n x k e
+    more true k e = get_before (select n p) (n ∷ []) k x e
     more false k e = subst (λ xs. slice_get xs k ≡ Some x) (sym (append-nil (select n p))) e
 
     go :
         (x < n → (k : ℕ) × (slice_get (select n p) k ≡ Some x)) → (b : Bool) → p n ≡ b → (x ≡ n) ⊎ (x ≢ n)
         → (k : ℕ) × (slice_get (select n p ++ (if b then n ∷ [] else [])) k ≡ Some x)
-    go rest true e (inl s) = (length (select n p), end_get (select n p) n ∙ ap Some (sym s))
+    go rest true e (inl s) = (length (select n p), get_end (select n p) n ∙ ap Some (sym s))
     go rest false e (inl s) = absurd (cc (sym t ∙ ap p s ∙ e))
     go rest b e (inr ne) = let r = rest (omega (arith, l, ne)) in (r.0, more b r.0 r.1)
 

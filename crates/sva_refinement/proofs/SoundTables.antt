@@ -5,7 +5,7 @@ use Rattle.std.proofs.lemmas.List.{length-map}
 use Rattle.sva_model.specs.Words.{select, is_some}
 use Rattle.sva_model.specs.State.{Mappings, Endpoint}
 use Rattle.sva_model.specs.Wire.{insert_by, sorted_by, is_before, cached_wire, cache_wire}
-use Rattle.sva_laws.specs.Laws.{cached_translations}
+use Rattle.sva_laws.specs.LimitLaws.{cached_translations}
 use Rattle.sva_lemmas.proofs.Lists.{select_length}
 
 -- a sorted list is as long

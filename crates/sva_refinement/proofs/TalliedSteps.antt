@@ -17,7 +17,8 @@ use Rattle.sva_model.specs.State.Subject.{StartOf, StopOf, FunctionReset, Comple
 use Rattle.sva_model.specs.State.Subject.{MarkerOf, ResetDone}
 use Rattle.sva_model.specs.States.{Place, is_open, is_running, place}
 use Rattle.sva_model.specs.States.Place.{Free, Mapped, Withheld}
-use Rattle.sva_model.specs.Acts.{Act, LocalAct, waits}
+use Rattle.sva_model.specs.Unmappings.{waits}
+use Rattle.sva_model.specs.Acts.{Act, LocalAct}
 use Rattle.sva_model.specs.Acts.Act.{Unmap, LetGo, AtEndpoint}
 use Rattle.sva_model.specs.Labels
 use Rattle.sva_model.specs.Refusals.{Cause, refusals}

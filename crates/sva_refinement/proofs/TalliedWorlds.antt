@@ -9,7 +9,8 @@ use Rattle.sva_model.specs.Words.{put, count_below, is_some, tabulate}
 use Rattle.sva_model.specs.State.{PasidRule, Mappings, Endpoint, World}
 use Rattle.sva_model.specs.State.Stage.{Unbound, Live, Quiet, Released}
 use Rattle.sva_model.specs.States.{is_unreleased}
-use Rattle.sva_model.specs.Acts.{Act, LocalAct, act, act_alone, submits, bound, cookie_of}
+use Rattle.sva_model.specs.Unmappings.{submits, bound, cookie_of}
+use Rattle.sva_model.specs.Acts.{Act, LocalAct, act, act_alone}
 use Rattle.sva_model.specs.Acts.Act.{NewSpace, DropSpace, Map, Unmap, NewBinding, NewJob, Hold, LetGo, AtEndpoint}
 use Rattle.sva_model.specs.Steps.{decide, next, after_acts, world_after, reply}
 use Rattle.sva_model.specs.Wire.{EndpointWire, UseWire, use_wire, part_wire, wire}

@@ -4,7 +4,7 @@ use Rattle.sva_model.specs.State.{Mappings, Endpoint}
 use Rattle.sva_model.specs.State.OrderState.{Queued}
 use Rattle.sva_model.specs.Acts.{LocalAct, act_alone}
 use Rattle.sva_model.specs.Wire.{number, unit_wire}
-use Rattle.sva_laws.specs.Laws.{IsCarried}
+use Rattle.sva_laws.specs.LabelLaws.{IsCarried}
 use Rattle.sva_laws.proofs.Legal.{LegalLocalAct}
 use Rattle.sva_laws.proofs.Invariant.{PartInvariant}
 use Rattle.sva_laws.proofs.Cookies.{HasCookie}

@@ -7,12 +7,13 @@ use Rattle.sva_model.specs.Words.{unless}
 use Rattle.sva_model.specs.State.{Mappings, OrderState, Endpoint}
 use Rattle.sva_model.specs.State.OrderState.{Completing}
 use Rattle.sva_model.specs.States.{is_queued, is_busy}
-use Rattle.sva_model.specs.Acts.{LocalAct, act_alone, counted, counted_if, is_last_left}
+use Rattle.sva_model.specs.StateChanges.{counted, counted_if, is_last_left}
+use Rattle.sva_model.specs.Acts.{LocalAct, act_alone}
 use Rattle.sva_model.specs.Labels.{is_set}
 use Rattle.sva_model.specs.Wire.{end_number, busy_wire, unit_wire, BusyWire}
 use Rattle.sva_model.specs.Wire.BusyWire.{Fresh, Counting}
 use Rattle.sva_lemmas.proofs.Lists.{tabulate_same, tabulate_at}
-use Rattle.sva_laws.specs.Laws.{count_read}
+use Rattle.sva_laws.specs.LabelLaws.{count_read}
 use Rattle.sva_laws.proofs.Legal.{LegalLocalAct}
 use Rattle.sva_laws.proofs.Labels.{Labels}
 use Rattle.sva_laws.proofs.Vectors.{IsOwedFor, AreOwed}

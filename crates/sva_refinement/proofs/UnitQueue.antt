@@ -8,7 +8,8 @@ use Rattle.sva_model.specs.State.Order.{RangeOf, PasidOf, Wait}
 use Rattle.sva_model.specs.State.OrderState.{Queued, Sent, Done, Void}
 use Rattle.sva_model.specs.State.Stage.{Unbound}
 use Rattle.sva_model.specs.States.{is_open, is_queued, is_busy, is_wait}
-use Rattle.sva_model.specs.Acts.{LocalAct, act_alone, binding_of, end_of}
+use Rattle.sva_model.specs.StateChanges.{binding_of, end_of}
+use Rattle.sva_model.specs.Acts.{LocalAct, act_alone}
 use Rattle.sva_model.specs.Wire.{number, end_number, cookie_number, descriptor, busy_wire, unit_wire, BusyWire, Descriptor}
 use Rattle.sva_model.specs.Wire.BusyWire.{Fresh}
 use Rattle.sva_model.specs.Wire.Descriptor.{RangeDescriptor, PasidDescriptor, WaitDescriptor}

@@ -7,7 +7,8 @@ use Rattle.sva_model.specs.Words.{put, select, tabulate}
 use Rattle.sva_model.specs.State.{Mappings, OrderState, Endpoint}
 use Rattle.sva_model.specs.State.OrderState.{Queued, Sent, Taken, Lapsed, Completing, Done, Void}
 use Rattle.sva_model.specs.States.{is_open, is_queued, is_taken}
-use Rattle.sva_model.specs.Acts.{LocalAct, act_alone, void_queued, void_undone, lapse, completing_if}
+use Rattle.sva_model.specs.StateChanges.{void_queued, void_undone, lapse, completing_if}
+use Rattle.sva_model.specs.Acts.{LocalAct, act_alone}
 use Rattle.sva_model.specs.Wire.{end_number, descriptor, busy_wire, unit_wire, BusyWire}
 use Rattle.sva_model.specs.Wire.BusyWire.{Fresh}
 use Rattle.sva_lemmas.proofs.Words.{put-same, put-other, ℕ_cases}

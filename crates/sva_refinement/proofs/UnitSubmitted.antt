@@ -8,7 +8,8 @@ use Rattle.sva_model.specs.State.{Mappings, Order, OrderState, Endpoint}
 use Rattle.sva_model.specs.State.Order.{RangeOf, Wait}
 use Rattle.sva_model.specs.State.OrderState.{Queued, Sent, Taken, Lapsed, Completing, Done, Void}
 use Rattle.sva_model.specs.States.{is_open, is_queued, is_busy, is_running, covers}
-use Rattle.sva_model.specs.Acts.{submitted, range_at, binding_of, extent_of}
+use Rattle.sva_model.specs.Unmappings.{submitted, range_at}
+use Rattle.sva_model.specs.StateChanges.{binding_of, extent_of}
 use Rattle.sva_model.specs.Wire.{number, end_number, descriptor, busy_wire, taken_by, chain, unit_wire, device_wire, page_queue_wire, host_groups_wire}
 use Rattle.sva_model.specs.Wire.{UnitWire, BusyWire, TakenWire, Descriptor}
 use Rattle.sva_model.specs.Wire.Descriptor.{RangeDescriptor}

@@ -7,7 +7,9 @@ use Rattle.sva_model.specs.Words.{count_below, select, tabulate, is_some}
 use Rattle.sva_model.specs.State.{Owed, Mappings, Endpoint, World, Stage}
 use Rattle.sva_model.specs.State.Stage.{Unbound, Live, Stopping, Draining, Invalidating, Quiet, Lost, Released}
 use Rattle.sva_model.specs.States.{is_unreleased, is_job}
-use Rattle.sva_model.specs.Acts.{act, bound, submits, submits_at, cookie_of, owed_by, submitted, submitted_if, part_after_unmap, in_range, without_pages}
+use Rattle.sva_model.specs.Unmappings.{bound, submits, submits_at, cookie_of, owed_by, submitted, submitted_if, part_after_unmap, in_range}
+use Rattle.sva_model.specs.Unmappings.{without_pages}
+use Rattle.sva_model.specs.Acts.{act}
 use Rattle.sva_model.specs.Acts.Act.{Unmap}
 use Rattle.sva_model.specs.Wire.{BindingWire, EndpointWire, StageWire, number, cookie_number, target_wire, stage_wire, binding_wire, bindings_wire}
 use Rattle.sva_model.specs.Wire.{part_wire, pages_wire, places_wire, group_job, wire}

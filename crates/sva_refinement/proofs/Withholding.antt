@@ -12,7 +12,7 @@ use Rattle.sva_model.specs.State.Stage.{Unbound, Live, Stopping, Draining, Inval
 use Rattle.sva_model.specs.State.Order.{RangeOf, PasidOf, Wait}
 use Rattle.sva_model.specs.State.OrderState.{Done}
 use Rattle.sva_model.specs.States.{is_open, is_before_invalidating, is_done, is_wait, answered}
-use Rattle.sva_model.specs.Acts.{submits_at, owed_by, owed_by_stage, owed_by_unit, submitted, submitted_if, range_at}
+use Rattle.sva_model.specs.Unmappings.{submits_at, owed_by, owed_by_stage, owed_by_unit, submitted, submitted_if, range_at}
 use Rattle.sva_model.specs.Wire.{TargetWire, number, end_number, cookie_number, target_of, target_wire, stage_wire, binding_wire, unit_wire}
 use Rattle.sva_model.specs.Wire.PlaceWire.{FreeWire, WithheldWire}
 use Rattle.sva_model.specs.Wire.TargetWire.{Cookie, ResetEnd}

@@ -105,8 +105,3 @@ pub lacks_moved : (lacking one : Bool) (all threads : List ThreadView) (thread :
 lacks_moved true one all threads thread whole is told before = before
 lacks_moved false one all threads thread whole is told before =
     ap (λ b. b || one_lacks threads) told ∙ sym (ap one_lacks is ∙ lacks_last threads thread) ∙ before
-
--- none of two lacks
-pub neither : (a b : Bool) → (a || b) ≡ false → (a ≡ false) × (b ≡ false)
-neither true b h = absurd (cc h)
-neither false b h = (refl, h)

@@ -7,4 +7,6 @@ mod asserted;
 #[cfg(test)]
 mod memories;
 #[cfg(test)]
+mod pages_of_jobs;
+#[cfg(test)]
 mod units;

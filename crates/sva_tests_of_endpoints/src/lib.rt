@@ -7,6 +7,8 @@ mod asserted;
 #[cfg(test)]
 mod caches;
 #[cfg(test)]
+mod endpoint_calls;
+#[cfg(test)]
 mod endpoints;
 #[cfg(test)]
 mod plain;

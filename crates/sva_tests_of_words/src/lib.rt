@@ -6,6 +6,8 @@
 #[cfg(test)]
 mod asserted;
 #[cfg(test)]
+mod binding_calls;
+#[cfg(test)]
 mod messages;
 #[cfg(test)]
 mod pasids;

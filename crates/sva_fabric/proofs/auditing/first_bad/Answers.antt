@@ -1,5 +1,5 @@
 use Rattle.std.proofs.Common.{◌≡◌, ◌+◌, List, ℕ, length, ap, subst, inr}
-use Rattle.sva_journal.specs.declared.receipts.Receipt.{Receipt}
+use Rattle.sva_core.specs.declared.receipts.Receipt.{Receipt}
 use Rattle.sva_fabric.specs.Receipts.{PortState}
 use Rattle.sva_fabric.specs.Audits.{AllStand, EachStands, IsFirstBadOf}
 use Rattle.sva_fabric.specs.Once.{AllRise}

@@ -66,7 +66,9 @@ loop-count-preserved c =
     let next = walk_on text start count n c.loop-count.invariant.len c.loop-count.invariant.counted is inside
     (λ lf. more.1 (sym (get_or-drop start text n 0) ∙ lf)) in
     let first : take (start + n - start) rest ≡ take n rest = ap (λ m. take m rest) (omega arith) in
-    let left : drop count words ≡ take (start + n - start) rest ∷ words_of (line_in (drop (start + n + 1) text)) = c.loop-count.invariant.left ∙ next.2 ∙ ap (λ w. w ∷ words_of (line_in (drop (start + n + 1) text))) (sym first) in
+    let left : drop count words ≡ take (start + n - start) rest ∷ words_of (line_in (drop (start + n + 1) text)) =
+    c.loop-count.invariant.left ∙ next.2 ∙ ap (λ w. w ∷ words_of (line_in (drop (start + n + 1) text)))
+    (sym first) in
     let kept : map (λ word. word.now) c.if-count-lt-MOST_PLACES.places ≡ in_places 7 (take (suc count) words) =
     elim c.if-count-lt-MOST_PLACES.branch [
       | then-count-lt-MOST_PLACES w ↦

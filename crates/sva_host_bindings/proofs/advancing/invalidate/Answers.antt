@@ -113,7 +113,8 @@ pub invariant_of-host : goal.invariant_of-host
 invariant_of-host c =
     record {
       sound = c.host.invariant.sound;
-      staged = if_staged c.invalidate.result _ c.args.binding c.host.inside.bindings c.invalidate.new.bindings c.invalidate.ensures.moves c.host.invariant.staged;
+      staged = if_staged c.invalidate.result _ c.args.binding c.host.inside.bindings c.invalidate.new.bindings
+          c.invalidate.ensures.moves c.host.invariant.staged;
     }
 
 pub invariant_of-host-2 : goal.invariant_of-host-2

@@ -12,12 +12,14 @@ use Rattle.sva_host_bindings.proofs.advancing.may_advance.Goals as goal
 
 pub returns-in_default : goal.returns-in_default
 returns-in_default c =
-    no_such_binding c.args.host.now c.args.groups_open c.args.binding (binding_at c.host.inside c.args.host.now c.args.binding _ c.host.view_is c.in_default.ensures)
+    no_such_binding c.args.host.now c.args.groups_open c.args.binding
+    (binding_at c.host.inside c.args.host.now c.args.binding _ c.host.view_is c.in_default.ensures)
 
 pub returns-then-is_quiet : goal.returns-then-is_quiet
 returns-then-is_quiet c =
     ap Ok c.next_course.ensures
-    ∙ quiet_goes c.args.host.now c.args.groups_open c.args.binding _ (binding_at c.host.inside c.args.host.now c.args.binding _ c.host.view_is c.in-Some.ensures)
+    ∙ quiet_goes c.args.host.now c.args.groups_open c.args.binding _
+    (binding_at c.host.inside c.args.host.now c.args.binding _ c.host.view_is c.in-Some.ensures)
     (sym c.is_quiet.ensures ∙ c.if-is_quiet.true)
 
 pub bounds-deref-place : goal.bounds-deref-place

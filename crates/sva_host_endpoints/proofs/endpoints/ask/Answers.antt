@@ -40,7 +40,8 @@ invariant_of-host-2 c =
     (sound_after _ (call.Ask c.args.pasid c.args.page) (ap is_ok (sym c.in_ok-asking.ensures.answer)) is.sound)
     (rewritten c.host.inside _ c.args.endpoint c.in_ok-at.at _ _ c.index-deref-at.result c.index-deref_mut-at.result c.ask.new.self tables
     c.host.view_is c.in_ok-at.ensures c.deref.ensures.0 c.deref_mut.ensures.value
-    (left_by_ask (slice_index_or c.deref_mut.result.now c.in_ok-at.at c.index-deref_mut-at.result).device c.ask.new.self c.args.pasid c.args.page c.in_ok-asking.asking
+    (left_by_ask (slice_index_or c.deref_mut.result.now c.in_ok-at.at c.index-deref_mut-at.result).device c.ask.new.self
+    c.args.pasid c.args.page c.in_ok-asking.asking
     (slice_index_or c.deref.result.now c.in_ok-at.at c.index-deref-at.result).device c.in_ok-asking.ensures.answer c.ask.ensures))
 
 pub returns : goal.returns
@@ -51,7 +52,8 @@ returns c =
     ended c.host.inside _ (step.Ask c.args.endpoint c.args.pasid c.args.page) (answer.Tag c.in_ok-asking.asking.tag) _ _ _ c.send.new.bag c.host.view_is
     (rewritten c.host.inside _ c.args.endpoint c.in_ok-at.at _ _ c.index-deref-at.result c.index-deref_mut-at.result c.ask.new.self tables
     c.host.view_is c.in_ok-at.ensures c.deref.ensures.0 c.deref_mut.ensures.value
-    (left_by_ask (slice_index_or c.deref_mut.result.now c.in_ok-at.at c.index-deref_mut-at.result).device c.ask.new.self c.args.pasid c.args.page c.in_ok-asking.asking
+    (left_by_ask (slice_index_or c.deref_mut.result.now c.in_ok-at.at c.index-deref_mut-at.result).device c.ask.new.self
+    c.args.pasid c.args.page c.in_ok-asking.asking
     (slice_index_or c.deref.result.now c.in_ok-at.at c.index-deref-at.result).device c.in_ok-asking.ensures.answer c.ask.ensures))
     refl
     (ask_done c.host.inside c.args.endpoint c.args.pasid c.args.page _ c.in_ok-asking.asking c.kind.result c.send.new.bag is c.in_ok-asking.ensures.answer

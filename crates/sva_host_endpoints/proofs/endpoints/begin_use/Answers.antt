@@ -31,7 +31,8 @@ invariant_of-host c =
     (sound_after _ (call.BeginUse c.args.pasid c.args.page c.args.write) (ap is_ok (sym c.in_ok-using.ensures.answer)) is.sound)
     (rewritten c.host.inside _ c.args.endpoint c.in_ok-at.at _ _ c.index-deref-at.result c.index-deref_mut-at.result c.begin_use.new.self
     tables c.host.view_is c.in_ok-at.ensures c.deref.ensures.0 c.deref_mut.ensures.value
-    (left_by_use (slice_index_or c.deref_mut.result.now c.in_ok-at.at c.index-deref_mut-at.result).device c.begin_use.new.self c.args.pasid c.args.page c.args.write c.in_ok-using.using
+    (left_by_use (slice_index_or c.deref_mut.result.now c.in_ok-at.at c.index-deref_mut-at.result).device
+    c.begin_use.new.self c.args.pasid c.args.page c.args.write c.in_ok-using.using
     (slice_index_or c.deref.result.now c.in_ok-at.at c.index-deref-at.result).device c.in_ok-using.ensures.answer c.begin_use.ensures))
 
 pub returns-clause-step : goal.returns-clause-step
@@ -43,7 +44,8 @@ returns-clause-step c =
     (answer.Use c.in_ok-using.using.slot c.in_ok-using.using.begun.frame) _ _ _ c.host.inside.in_flight c.host.view_is
     (rewritten c.host.inside _ c.args.endpoint c.in_ok-at.at _ _ c.index-deref-at.result c.index-deref_mut-at.result c.begin_use.new.self
     tables c.host.view_is c.in_ok-at.ensures c.deref.ensures.0 c.deref_mut.ensures.value
-    (left_by_use (slice_index_or c.deref_mut.result.now c.in_ok-at.at c.index-deref_mut-at.result).device c.begin_use.new.self c.args.pasid c.args.page c.args.write c.in_ok-using.using
+    (left_by_use (slice_index_or c.deref_mut.result.now c.in_ok-at.at c.index-deref_mut-at.result).device
+    c.begin_use.new.self c.args.pasid c.args.page c.args.write c.in_ok-using.using
     (slice_index_or c.deref.result.now c.in_ok-at.at c.index-deref-at.result).device c.in_ok-using.ensures.answer c.begin_use.ensures))
     (refl)
     (use_done c.host.inside c.args.endpoint c.args.pasid c.args.page c.args.write _ c.in_ok-using.using is c.in_ok-using.ensures.answer)
@@ -54,7 +56,8 @@ returns-in_err-at-clause-memory c = not_for_memory _ _ c.from_residual.ensures (
 pub returns-in_err-using-clause-memory : goal.returns-in_err-using-clause-memory
 returns-in_err-using-clause-memory c =
     not_for_memory _ _ c.from_residual-in_err-using.ensures
-    (use_other (slice_index_or c.deref.result.now c.in_ok-at.at c.index-deref-at.result).device c.args.pasid c.args.page c.args.write _ c.in_err-using.ensures.answer)
+    (use_other (slice_index_or c.deref.result.now c.in_ok-at.at c.index-deref-at.result).device c.args.pasid c.args.page
+    c.args.write _ c.in_err-using.ensures.answer)
 
 pub port-requires : goal.port-requires
 port-requires c = tt

@@ -42,7 +42,8 @@ invariant_of-host-2 c =
     (sound_after _ (call.SendFault c.args.fault.now) (ap is_ok (sym c.in_ok-faulting.ensures.answer)) is.sound)
     (rewritten c.host.inside _ c.args.endpoint c.in_ok-at.at _ _ c.index-deref-at.result c.index-deref_mut-at.result c.fault.new.self tables
     c.host.view_is c.in_ok-at.ensures c.deref.ensures.0 c.deref_mut.ensures.value
-    (left_by_fault (slice_index_or c.deref_mut.result.now c.in_ok-at.at c.index-deref_mut-at.result).device c.fault.new.self c.args.fault.now c.in_ok-faulting.faulting
+    (left_by_fault (slice_index_or c.deref_mut.result.now c.in_ok-at.at c.index-deref_mut-at.result).device
+    c.fault.new.self c.args.fault.now c.in_ok-faulting.faulting
     (slice_index_or c.deref.result.now c.in_ok-at.at c.index-deref-at.result).device c.in_ok-faulting.ensures.answer c.fault.ensures))
 
 pub returns : goal.returns
@@ -54,7 +55,8 @@ returns c =
     c.args.fault.now.group c.args.fault.now.last) (answer.Group c.in_ok-faulting.faulting.request.index) _ _ _ c.send.new.bag c.host.view_is
     (rewritten c.host.inside _ c.args.endpoint c.in_ok-at.at _ _ c.index-deref-at.result c.index-deref_mut-at.result c.fault.new.self tables
     c.host.view_is c.in_ok-at.ensures c.deref.ensures.0 c.deref_mut.ensures.value
-    (left_by_fault (slice_index_or c.deref_mut.result.now c.in_ok-at.at c.index-deref_mut-at.result).device c.fault.new.self c.args.fault.now c.in_ok-faulting.faulting
+    (left_by_fault (slice_index_or c.deref_mut.result.now c.in_ok-at.at c.index-deref_mut-at.result).device
+    c.fault.new.self c.args.fault.now c.in_ok-faulting.faulting
     (slice_index_or c.deref.result.now c.in_ok-at.at c.index-deref-at.result).device c.in_ok-faulting.ensures.answer c.fault.ensures))
     refl
     (fault_done c.host.inside c.args.endpoint c.args.fault.now _ c.in_ok-faulting.faulting c.kind.result c.send.new.bag is c.in_ok-faulting.ensures.answer

@@ -41,7 +41,8 @@ invariant_of-host-2 c =
     (sound_after _ (call.Finish c.args.vector c.args.count) (ap is_ok (sym c.in_ok-finishing.ensures.answer)) is.sound)
     (rewritten c.host.inside _ c.args.endpoint c.in_ok-at.at _ _ c.index-deref-at.result c.index-deref_mut-at.result c.finish.new.self tables
     c.host.view_is c.in_ok-at.ensures c.deref.ensures.0 c.deref_mut.ensures.value
-    (left_by_finish (slice_index_or c.deref_mut.result.now c.in_ok-at.at c.index-deref_mut-at.result).device c.finish.new.self c.args.vector c.args.count c.in_ok-finishing.finishing
+    (left_by_finish (slice_index_or c.deref_mut.result.now c.in_ok-at.at c.index-deref_mut-at.result).device
+    c.finish.new.self c.args.vector c.args.count c.in_ok-finishing.finishing
     (slice_index_or c.deref.result.now c.in_ok-at.at c.index-deref-at.result).device c.in_ok-finishing.ensures.answer c.finish.ensures))
 
 pub returns : goal.returns
@@ -52,7 +53,8 @@ returns c =
     ended c.host.inside _ (step.Finish c.args.endpoint c.args.vector c.args.count) (answer.Sent c.get-copies.result) _ _ _ c.send.new.bag c.host.view_is
     (rewritten c.host.inside _ c.args.endpoint c.in_ok-at.at _ _ c.index-deref-at.result c.index-deref_mut-at.result c.finish.new.self tables
     c.host.view_is c.in_ok-at.ensures c.deref.ensures.0 c.deref_mut.ensures.value
-    (left_by_finish (slice_index_or c.deref_mut.result.now c.in_ok-at.at c.index-deref_mut-at.result).device c.finish.new.self c.args.vector c.args.count c.in_ok-finishing.finishing
+    (left_by_finish (slice_index_or c.deref_mut.result.now c.in_ok-at.at c.index-deref_mut-at.result).device
+    c.finish.new.self c.args.vector c.args.count c.in_ok-finishing.finishing
     (slice_index_or c.deref.result.now c.in_ok-at.at c.index-deref-at.result).device c.in_ok-finishing.ensures.answer c.finish.ensures))
     (ap answer.Sent c.get-copies.ensures.value)
     (finish_done c.host.inside c.args.endpoint c.args.vector c.args.count _ c.in_ok-finishing.finishing c.kind.result c.send.new.bag _

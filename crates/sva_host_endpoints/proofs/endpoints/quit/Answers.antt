@@ -40,7 +40,8 @@ invariant_of-host-2 c =
     (sound_after _ (call.Quit c.args.pasid) (ap is_ok (sym c.in_ok-quitting.ensures.answer)) is.sound)
     (rewritten c.host.inside _ c.args.endpoint c.in_ok-at.at _ _ c.index-deref-at.result c.index-deref_mut-at.result c.quit.new.self tables
     c.host.view_is c.in_ok-at.ensures c.deref.ensures.0 c.deref_mut.ensures.value
-    (left_by_quit (slice_index_or c.deref_mut.result.now c.in_ok-at.at c.index-deref_mut-at.result).device c.quit.new.self c.args.pasid c.in_ok-quitting.quitting
+    (left_by_quit (slice_index_or c.deref_mut.result.now c.in_ok-at.at c.index-deref_mut-at.result).device
+    c.quit.new.self c.args.pasid c.in_ok-quitting.quitting
     (slice_index_or c.deref.result.now c.in_ok-at.at c.index-deref-at.result).device c.in_ok-quitting.ensures.answer c.quit.ensures))
 
 pub returns : goal.returns
@@ -51,7 +52,8 @@ returns c =
     ended c.host.inside _ (step.Quit c.args.endpoint c.args.pasid) (answer.Marker) _ _ _ c.send.new.bag c.host.view_is
     (rewritten c.host.inside _ c.args.endpoint c.in_ok-at.at _ _ c.index-deref-at.result c.index-deref_mut-at.result c.quit.new.self tables
     c.host.view_is c.in_ok-at.ensures c.deref.ensures.0 c.deref_mut.ensures.value
-    (left_by_quit (slice_index_or c.deref_mut.result.now c.in_ok-at.at c.index-deref_mut-at.result).device c.quit.new.self c.args.pasid c.in_ok-quitting.quitting
+    (left_by_quit (slice_index_or c.deref_mut.result.now c.in_ok-at.at c.index-deref_mut-at.result).device
+    c.quit.new.self c.args.pasid c.in_ok-quitting.quitting
     (slice_index_or c.deref.result.now c.in_ok-at.at c.index-deref-at.result).device c.in_ok-quitting.ensures.answer c.quit.ensures))
     (refl)
     (quit_done c.host.inside c.args.endpoint c.args.pasid _ c.in_ok-quitting.quitting c.kind.result c.send.new.bag is c.in_ok-quitting.ensures.answer

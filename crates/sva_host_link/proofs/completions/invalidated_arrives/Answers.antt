@@ -21,12 +21,14 @@ deliver_found-requires-clause-may c =
     (numbered c.host.inside _ c.host.view_is c.requires.sound) c.requires.arriving
 
 pub bounds-deref-at : goal.bounds-deref-at
-bounds-deref-at c = arriving_within c.host.inside _ c.args.flight.now.number c.args.flight.now.message.endpoint (Invalidated c.args.vector c.args.count) c.deref.result.now
+bounds-deref-at c = arriving_within c.host.inside _ c.args.flight.now.number c.args.flight.now.message.endpoint
+    (Invalidated c.args.vector c.args.count) c.deref.result.now
     c.host.view_is c.requires.sound c.requires.arriving c.deref.ensures.0
 
 pub offset_bounds-deref-at : goal.offset_bounds-deref-at
 offset_bounds-deref-at c =
-    let within = arriving_within c.host.inside _ c.args.flight.now.number c.args.flight.now.message.endpoint (Invalidated c.args.vector c.args.count) c.deref.result.now
+    let within = arriving_within c.host.inside _ c.args.flight.now.number c.args.flight.now.message.endpoint
+    (Invalidated c.args.vector c.args.count) c.deref.result.now
     c.host.view_is c.requires.sound c.requires.arriving c.deref.ensures.0 in
     omega (arith, within, c.deref.type_inv)
 
@@ -35,42 +37,53 @@ returns-then-not-is_open-clause-step c =
     uncounted c.host.inside _ c.args.flight.now.number c.args.flight.now.message.endpoint c.args.vector c.args.count
     (slice_index_or c.deref.result.now c.args.flight.now.message.endpoint c.index-deref-at.result) c.deliver_found.new.self c.host.view_is
     (numbered c.host.inside _ c.host.view_is c.requires.sound)
-    (port_there c.host.inside _ c.args.flight.now.number c.args.flight.now.message.endpoint (Invalidated c.args.vector c.args.count) c.deref.result.now c.index-deref-at.result
+    (port_there c.host.inside _ c.args.flight.now.number c.args.flight.now.message.endpoint
+    (Invalidated c.args.vector c.args.count) c.deref.result.now c.index-deref-at.result
     c.host.invariant c.host.view_is c.requires.sound c.requires.arriving c.deref.ensures.0)
     c.requires.arriving (sym c.is_open.ensures ∙ c.if-not-is_open.true) c.deliver_found.ensures
 
 pub bounds-deref_mut-at : goal.bounds-deref_mut-at
 bounds-deref_mut-at c =
-    arriving_within c.host.inside _ c.args.flight.now.number c.args.flight.now.message.endpoint (Invalidated c.args.vector c.args.count) c.deref_mut.result.now c.host.view_is
+    arriving_within c.host.inside _ c.args.flight.now.number c.args.flight.now.message.endpoint
+    (Invalidated c.args.vector c.args.count) c.deref_mut.result.now c.host.view_is
     c.requires.sound c.requires.arriving c.deref_mut.ensures.value
 
 pub offset_bounds-deref_mut-at : goal.offset_bounds-deref_mut-at
 offset_bounds-deref_mut-at c =
-    let within = arriving_within c.host.inside _ c.args.flight.now.number c.args.flight.now.message.endpoint (Invalidated c.args.vector c.args.count) c.deref_mut.result.now
+    let within = arriving_within c.host.inside _ c.args.flight.now.number c.args.flight.now.message.endpoint
+    (Invalidated c.args.vector c.args.count) c.deref_mut.result.now
     c.host.view_is c.requires.sound c.requires.arriving c.deref_mut.ensures.value in
     omega (arith, within, c.deref_mut.ensures.fits)
 
 pub invariant_of-host-2 : goal.invariant_of-host-2
 invariant_of-host-2 c =
-    let for = arriving_port _ c.args.flight.now.number c.args.flight.now.message.endpoint (Invalidated c.args.vector c.args.count) c.requires.sound c.requires.arriving in
-    let is = port_there c.host.inside _ c.args.flight.now.number c.args.flight.now.message.endpoint (Invalidated c.args.vector c.args.count) c.deref_mut.result.now
+    let for = arriving_port _ c.args.flight.now.number c.args.flight.now.message.endpoint
+    (Invalidated c.args.vector c.args.count) c.requires.sound c.requires.arriving in
+    let is = port_there c.host.inside _ c.args.flight.now.number c.args.flight.now.message.endpoint
+    (Invalidated c.args.vector c.args.count) c.deref_mut.result.now
     c.index-deref_mut-at.result c.host.invariant c.host.view_is c.requires.sound c.requires.arriving c.deref_mut.ensures.value in
-    with_unit_host c.host.inside _ c.args.flight.now.message.endpoint (slice_index_or c.deref_mut.result.now c.args.flight.now.message.endpoint c.index-deref_mut-at.result) _
+    with_unit_host c.host.inside _ c.args.flight.now.message.endpoint
+    (slice_index_or c.deref_mut.result.now c.args.flight.now.message.endpoint c.index-deref_mut-at.result) _
     c.host.invariant is.sound
-    (unit_rewritten c.host.inside _ c.args.flight.now.message.endpoint c.args.flight.now.message.endpoint c.deref_mut.result.now c.deref_mut.result.now c.index-deref_mut-at.result
+    (unit_rewritten c.host.inside _ c.args.flight.now.message.endpoint c.args.flight.now.message.endpoint
+    c.deref_mut.result.now c.deref_mut.result.now c.index-deref_mut-at.result
     c.index-deref_mut-at.result c.complete-freed.new.self (with_counted c.args.vector c.from_field.result) c.host.view_is for
     c.deref_mut.ensures.value c.deref_mut.ensures.value c.complete-freed.ensures.unit) c.host.invariant.staged
 
 pub returns-clause-step : goal.returns-clause-step
 returns-clause-step c =
-    let for = arriving_port _ c.args.flight.now.number c.args.flight.now.message.endpoint (Invalidated c.args.vector c.args.count) c.requires.sound c.requires.arriving in
-    let is = port_there c.host.inside _ c.args.flight.now.number c.args.flight.now.message.endpoint (Invalidated c.args.vector c.args.count) c.deref_mut.result.now
+    let for = arriving_port _ c.args.flight.now.number c.args.flight.now.message.endpoint
+    (Invalidated c.args.vector c.args.count) c.requires.sound c.requires.arriving in
+    let is = port_there c.host.inside _ c.args.flight.now.number c.args.flight.now.message.endpoint
+    (Invalidated c.args.vector c.args.count) c.deref_mut.result.now
     c.index-deref_mut-at.result c.host.invariant c.host.view_is c.requires.sound c.requires.arriving c.deref_mut.ensures.value in
-    let same = same_port c.host.inside _ c.args.flight.now.message.endpoint c.args.flight.now.message.endpoint c.deref.result.now c.deref_mut.result.now c.index-deref-at.result
+    let same = same_port c.host.inside _ c.args.flight.now.message.endpoint c.args.flight.now.message.endpoint
+    c.deref.result.now c.deref_mut.result.now c.index-deref-at.result
     c.index-deref_mut-at.result c.host.view_is for c.deref.ensures.0 c.deref_mut.ensures.value in
     ended_by c.host.inside _ (step.Deliver c.args.flight.now.number) (answer.Freed c.complete-freed.result) _
     (λ (ports : List Port). wire_of (record c.host.inside { ports = record { items = ports }; in_flight = c.deliver_found.new.self })) _ _ c.host.view_is
-    (unit_rewritten c.host.inside _ c.args.flight.now.message.endpoint c.args.flight.now.message.endpoint c.deref_mut.result.now c.deref_mut.result.now c.index-deref_mut-at.result
+    (unit_rewritten c.host.inside _ c.args.flight.now.message.endpoint c.args.flight.now.message.endpoint
+    c.deref_mut.result.now c.deref_mut.result.now c.index-deref_mut-at.result
     c.index-deref_mut-at.result c.complete-freed.new.self (with_counted c.args.vector c.from_field.result) c.host.view_is for
     c.deref_mut.ensures.value c.deref_mut.ensures.value c.complete-freed.ensures.unit)
     (ap answer.Freed c.complete-freed.ensures.freed)

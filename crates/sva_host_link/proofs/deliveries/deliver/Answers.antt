@@ -32,7 +32,8 @@ reset_arrives-requires-clause-there c =
 
 pub request_arrives-requires-clause-arriving : goal.request_arrives-requires-clause-arriving
 request_arrives-requires-clause-arriving c =
-    arrives c.host.inside _ c.in-Some.flight.number c.in-Some.flight.message (Request c.in-Request.tag c.in-Request.pasid c.in-Request.page) c.may_deliver_found.result c.host.view_is
+    arrives c.host.inside _ c.in-Some.flight.number c.in-Some.flight.message
+    (Request c.in-Request.tag c.in-Request.pasid c.in-Request.page) c.may_deliver_found.result c.host.view_is
     c.find.ensures.numbered (sym c.in-Some.ensures.found.1.found) c.may_deliver_found.ensures.0 c.if-not-may_deliver_found.false c.in-Request.is
 
 pub request_arrives-requires-clause-there : goal.request_arrives-requires-clause-there
@@ -41,7 +42,8 @@ request_arrives-requires-clause-there c =
 
 pub invalidated_arrives-requires-clause-arriving : goal.invalidated_arrives-requires-clause-arriving
 invalidated_arrives-requires-clause-arriving c =
-    arrives c.host.inside _ c.in-Some.flight.number c.in-Some.flight.message (Invalidated c.in-Invalidated.vector c.in-Invalidated.count) c.may_deliver_found.result c.host.view_is
+    arrives c.host.inside _ c.in-Some.flight.number c.in-Some.flight.message
+    (Invalidated c.in-Invalidated.vector c.in-Invalidated.count) c.may_deliver_found.result c.host.view_is
     c.find.ensures.numbered (sym c.in-Some.ensures.found.1.found) c.may_deliver_found.ensures.0 c.if-not-may_deliver_found.false c.in-Invalidated.is
 
 pub invalidated_arrives-requires-clause-there : goal.invalidated_arrives-requires-clause-there
@@ -86,27 +88,33 @@ goes_down-requires-clause-there c =
 
 pub returns-in-Reset-clause-step : goal.returns-in-Reset-clause-step
 returns-in-Reset-clause-step c =
-    subst (λ (n : ℕ). ByLabels c.args.host.now (step.Deliver n) c.reset_arrives.result c.reset_arrives.new.host) c.in-Some.ensures.found.0 c.reset_arrives.ensures
+    subst (λ (n : ℕ). ByLabels c.args.host.now (step.Deliver n) c.reset_arrives.result c.reset_arrives.new.host)
+    c.in-Some.ensures.found.0 c.reset_arrives.ensures
 
 pub returns-in-Request-clause-step : goal.returns-in-Request-clause-step
 returns-in-Request-clause-step c =
-    subst (λ (n : ℕ). ByLabels c.args.host.now (step.Deliver n) c.request_arrives.result c.request_arrives.new.host) c.in-Some.ensures.found.0 c.request_arrives.ensures.step
+    subst (λ (n : ℕ). ByLabels c.args.host.now (step.Deliver n) c.request_arrives.result c.request_arrives.new.host)
+    c.in-Some.ensures.found.0 c.request_arrives.ensures.step
 
 pub returns-in-Invalidated-clause-step : goal.returns-in-Invalidated-clause-step
 returns-in-Invalidated-clause-step c =
-    subst (λ (n : ℕ). ByLabels c.args.host.now (step.Deliver n) c.invalidated_arrives.result c.invalidated_arrives.new.host) c.in-Some.ensures.found.0 c.invalidated_arrives.ensures.step
+    subst (λ (n : ℕ). ByLabels c.args.host.now (step.Deliver n) c.invalidated_arrives.result
+    c.invalidated_arrives.new.host) c.in-Some.ensures.found.0 c.invalidated_arrives.ensures.step
 
 pub returns-in-PageRequest-clause-step : goal.returns-in-PageRequest-clause-step
 returns-in-PageRequest-clause-step c =
-    subst (λ (n : ℕ). ByLabels c.args.host.now (step.Deliver n) c.page_request_arrives.result c.page_request_arrives.new.host) c.in-Some.ensures.found.0 c.page_request_arrives.ensures.step
+    subst (λ (n : ℕ). ByLabels c.args.host.now (step.Deliver n) c.page_request_arrives.result
+    c.page_request_arrives.new.host) c.in-Some.ensures.found.0 c.page_request_arrives.ensures.step
 
 pub returns-in-Marker-clause-step : goal.returns-in-Marker-clause-step
 returns-in-Marker-clause-step c =
-    subst (λ (n : ℕ). ByLabels c.args.host.now (step.Deliver n) c.marker_arrives.result c.marker_arrives.new.host) c.in-Some.ensures.found.0 c.marker_arrives.ensures.step
+    subst (λ (n : ℕ). ByLabels c.args.host.now (step.Deliver n) c.marker_arrives.result c.marker_arrives.new.host)
+    c.in-Some.ensures.found.0 c.marker_arrives.ensures.step
 
 pub returns-in-ResetDone-clause-step : goal.returns-in-ResetDone-clause-step
 returns-in-ResetDone-clause-step c =
-    subst (λ (n : ℕ). ByLabels c.args.host.now (step.Deliver n) c.reset_done_arrives.result c.reset_done_arrives.new.host) c.in-Some.ensures.found.0 c.reset_done_arrives.ensures.step
+    subst (λ (n : ℕ). ByLabels c.args.host.now (step.Deliver n) c.reset_done_arrives.result
+    c.reset_done_arrives.new.host) c.in-Some.ensures.found.0 c.reset_done_arrives.ensures.step
 
 pub returns-in-Reset-clause-memory : goal.returns-in-Reset-clause-memory
 returns-in-Reset-clause-memory c =

@@ -21,16 +21,19 @@ deliver_found-requires-clause-stands c = stands_at c.host.inside _ c.args.flight
 
 pub deliver_found-requires-clause-may : goal.deliver_found-requires-clause-may
 deliver_found-requires-clause-may c =
-    may_take c.host.inside _ c.args.flight.now.number c.args.flight.now.message.endpoint c.args.flight.now.message.kind c.host.view_is (numbered c.host.inside _ c.host.view_is c.requires.sound) c.requires.arriving
+    may_take c.host.inside _ c.args.flight.now.number c.args.flight.now.message.endpoint c.args.flight.now.message.kind
+    c.host.view_is (numbered c.host.inside _ c.host.view_is c.requires.sound) c.requires.arriving
 
 pub bounds-deref_mut-at : goal.bounds-deref_mut-at
 bounds-deref_mut-at c =
-    arriving_within c.host.inside _ c.args.flight.now.number c.args.flight.now.message.endpoint c.args.flight.now.message.kind _ c.host.view_is c.requires.sound c.requires.arriving
+    arriving_within c.host.inside _ c.args.flight.now.number c.args.flight.now.message.endpoint
+    c.args.flight.now.message.kind _ c.host.view_is c.requires.sound c.requires.arriving
     c.deref_mut.ensures.value
 
 pub offset_bounds-deref_mut-at : goal.offset_bounds-deref_mut-at
 offset_bounds-deref_mut-at c =
-    let within = arriving_within c.host.inside _ c.args.flight.now.number c.args.flight.now.message.endpoint c.args.flight.now.message.kind c.deref_mut.result.now c.host.view_is
+    let within = arriving_within c.host.inside _ c.args.flight.now.number c.args.flight.now.message.endpoint
+    c.args.flight.now.message.kind c.deref_mut.result.now c.host.view_is
     c.requires.sound c.requires.arriving c.deref_mut.ensures.value in
     omega (arith, within, c.deref_mut.ensures.fits)
 

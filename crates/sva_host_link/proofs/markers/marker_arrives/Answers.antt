@@ -12,25 +12,30 @@ deliver_found-requires-clause-stands c = stands_at c.host.inside _ c.args.flight
 
 pub deliver_found-requires-clause-may : goal.deliver_found-requires-clause-may
 deliver_found-requires-clause-may c =
-    may_take c.host.inside c.args.host.now c.args.flight.now.number c.args.flight.now.message.endpoint (Marker c.args.pasid) c.host.view_is (numbered c.host.inside _ c.host.view_is c.requires.sound)
+    may_take c.host.inside c.args.host.now c.args.flight.now.number c.args.flight.now.message.endpoint
+    (Marker c.args.pasid) c.host.view_is (numbered c.host.inside _ c.host.view_is c.requires.sound)
     c.requires.arriving
 
 pub bounds-deref-endpoint : goal.bounds-deref-endpoint
 bounds-deref-endpoint c =
-    arriving_within c.host.inside c.args.host.now c.args.flight.now.number c.args.flight.now.message.endpoint (Marker c.args.pasid) c.deref.result.now c.host.view_is
+    arriving_within c.host.inside c.args.host.now c.args.flight.now.number c.args.flight.now.message.endpoint
+    (Marker c.args.pasid) c.deref.result.now c.host.view_is
     c.requires.sound c.requires.arriving
     c.deref.ensures.0
 
 pub offset_bounds-deref-endpoint : goal.offset_bounds-deref-endpoint
 offset_bounds-deref-endpoint c =
-    let there = goes_to c.args.host.now c.args.flight.now.number c.args.flight.now.message.endpoint (Marker c.args.pasid) c.requires.sound c.requires.arriving in
+    let there = goes_to c.args.host.now c.args.flight.now.number c.args.flight.now.message.endpoint
+    (Marker c.args.pasid) c.requires.sound c.requires.arriving in
     omega (arith, there, c.requires.sound.few_parts)
 
 pub returns-then-not-is_open-clause-step : goal.returns-then-not-is_open-clause-step
 returns-then-not-is_open-clause-step c =
-    let within = arriving_within c.host.inside c.args.host.now c.args.flight.now.number c.args.flight.now.message.endpoint (Marker c.args.pasid) c.host.inside.ports.items
+    let within = arriving_within c.host.inside c.args.host.now c.args.flight.now.number
+    c.args.flight.now.message.endpoint (Marker c.args.pasid) c.host.inside.ports.items
     c.host.view_is c.requires.sound c.requires.arriving refl in
-    let unit = unit_there c.host.inside c.args.host.now c.args.flight.now.message.endpoint c.deref.result.now c.index-deref-endpoint.result c.host.view_is within
+    let unit = unit_there c.host.inside c.args.host.now c.args.flight.now.message.endpoint c.deref.result.now
+    c.index-deref-endpoint.result c.host.view_is within
     c.deref.ensures.0 in
     dropped c.host.inside c.args.host.now c.args.flight.now.number c.args.flight.now.message.endpoint c.args.pasid c.deliver_found.new.self c.host.view_is
     (numbered c.host.inside _ c.host.view_is c.requires.sound) c.requires.arriving
@@ -38,9 +43,11 @@ returns-then-not-is_open-clause-step c =
 
 pub unreachable-requires : goal.unreachable-requires
 unreachable-requires c =
-    let within = arriving_within c.host.inside c.args.host.now c.args.flight.now.number c.args.flight.now.message.endpoint (Marker c.args.pasid) c.host.inside.ports.items
+    let within = arriving_within c.host.inside c.args.host.now c.args.flight.now.number
+    c.args.flight.now.message.endpoint (Marker c.args.pasid) c.host.inside.ports.items
     c.host.view_is c.requires.sound c.requires.arriving refl in
-    let unit = unit_there c.host.inside c.args.host.now c.args.flight.now.message.endpoint c.deref.result.now c.index-deref-endpoint.result c.host.view_is within
+    let unit = unit_there c.host.inside c.args.host.now c.args.flight.now.message.endpoint c.deref.result.now
+    c.index-deref-endpoint.result c.host.view_is within
     c.deref.ensures.0 in
     none_borne c.args.host.now c.args.flight.now.message.endpoint c.args.pasid
     (markable c.args.host.now c.args.flight.now.number c.args.flight.now.message.endpoint c.args.pasid c.requires.sound c.requires.arriving
@@ -49,21 +56,28 @@ unreachable-requires c =
 
 pub mark-requires : goal.mark-requires
 mark-requires c =
-    let within = arriving_within c.host.inside c.args.host.now c.args.flight.now.number c.args.flight.now.message.endpoint (Marker c.args.pasid) c.host.inside.ports.items
+    let within = arriving_within c.host.inside c.args.host.now c.args.flight.now.number
+    c.args.flight.now.message.endpoint (Marker c.args.pasid) c.host.inside.ports.items
     c.host.view_is c.requires.sound c.requires.arriving refl in
-    let unit = unit_there c.host.inside c.args.host.now c.args.flight.now.message.endpoint c.deref.result.now c.index-deref-endpoint.result c.host.view_is within
+    let unit = unit_there c.host.inside c.args.host.now c.args.flight.now.message.endpoint c.deref.result.now
+    c.index-deref-endpoint.result c.host.view_is within
     c.deref.ensures.0 in
-    stopping_there c.host.inside c.args.host.now c.args.flight.now.message.endpoint c.args.pasid c.in-Some.place.now c.host.invariant c.host.view_is c.requires.sound
+    stopping_there c.host.inside c.args.host.now c.args.flight.now.message.endpoint c.args.pasid c.in-Some.place.now
+    c.host.invariant c.host.view_is c.requires.sound
     (markable c.args.host.now c.args.flight.now.number c.args.flight.now.message.endpoint c.args.pasid c.requires.sound c.requires.arriving
     (sym (c.is_open.ensures ∙ ap (λ u. u.is_open) unit) ∙ c.if-not-is_open.false))
     c.in-Some.ensures
 
 pub returns-clause-step : goal.returns-clause-step
 returns-clause-step c =
-    let within = arriving_within c.host.inside c.args.host.now c.args.flight.now.number c.args.flight.now.message.endpoint (Marker c.args.pasid) c.host.inside.ports.items
+    let within = arriving_within c.host.inside c.args.host.now c.args.flight.now.number
+    c.args.flight.now.message.endpoint (Marker c.args.pasid) c.host.inside.ports.items
     c.host.view_is c.requires.sound c.requires.arriving refl in
-    let unit = unit_there c.host.inside c.args.host.now c.args.flight.now.message.endpoint c.deref.result.now c.index-deref-endpoint.result c.host.view_is within
+    let unit = unit_there c.host.inside c.args.host.now c.args.flight.now.message.endpoint c.deref.result.now
+    c.index-deref-endpoint.result c.host.view_is within
     c.deref.ensures.0 in
-    marked c.host.inside c.args.host.now c.args.flight.now.number c.args.flight.now.message.endpoint c.args.pasid c.in-Some.place.now c.deliver_found.new.self c.mark.new.bindings
-    c.host.view_is (numbered c.host.inside _ c.host.view_is c.requires.sound) c.requires.arriving (sym (c.is_open.ensures ∙ ap (λ u. u.is_open) unit) ∙ c.if-not-is_open.false)
+    marked c.host.inside c.args.host.now c.args.flight.now.number c.args.flight.now.message.endpoint c.args.pasid
+    c.in-Some.place.now c.deliver_found.new.self c.mark.new.bindings
+    c.host.view_is (numbered c.host.inside _ c.host.view_is c.requires.sound) c.requires.arriving
+    (sym (c.is_open.ensures ∙ ap (λ u. u.is_open) unit) ∙ c.if-not-is_open.false)
     c.in-Some.ensures c.deliver_found.ensures c.mark.ensures

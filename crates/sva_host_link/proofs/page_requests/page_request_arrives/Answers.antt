@@ -27,65 +27,80 @@ bounds-deref-at c =
 
 pub offset_bounds-deref-at : goal.offset_bounds-deref-at
 offset_bounds-deref-at c =
-    let within = arriving_within c.host.inside _ c.args.flight.now.number c.args.flight.now.message.endpoint (PageRequest c.args.request) c.deref.result.now c.host.view_is
+    let within = arriving_within c.host.inside _ c.args.flight.now.number c.args.flight.now.message.endpoint
+    (PageRequest c.args.request) c.deref.result.now c.host.view_is
     c.requires.sound c.requires.arriving c.deref.ensures.0 in
     omega (arith, within, c.deref.type_inv)
 
 pub returns-then-not-is_open-clause-step : goal.returns-then-not-is_open-clause-step
 returns-then-not-is_open-clause-step c =
-    dropped c.host.inside _ c.args.flight.now.number c.args.flight.now.message.endpoint c.args.request (slice_index_or c.deref.result.now c.args.flight.now.message.endpoint c.index-deref-at.result)
+    dropped c.host.inside _ c.args.flight.now.number c.args.flight.now.message.endpoint c.args.request
+    (slice_index_or c.deref.result.now c.args.flight.now.message.endpoint c.index-deref-at.result)
     c.deliver_found.new.self c.host.view_is
     (numbered c.host.inside _ c.host.view_is c.requires.sound)
-    (port_there c.host.inside _ c.args.flight.now.number c.args.flight.now.message.endpoint (PageRequest c.args.request) c.deref.result.now c.index-deref-at.result c.host.invariant
+    (port_there c.host.inside _ c.args.flight.now.number c.args.flight.now.message.endpoint
+    (PageRequest c.args.request) c.deref.result.now c.index-deref-at.result c.host.invariant
     c.host.view_is c.requires.sound c.requires.arriving c.deref.ensures.0)
     c.requires.arriving (sym c.is_open.ensures ∙ c.if-not-is_open.true) c.deliver_found.ensures
 
 pub bounds-deref_mut-at : goal.bounds-deref_mut-at
 bounds-deref_mut-at c =
-    arriving_within c.host.inside _ c.args.flight.now.number c.args.flight.now.message.endpoint (PageRequest c.args.request) c.deref_mut.result.now c.host.view_is c.requires.sound
+    arriving_within c.host.inside _ c.args.flight.now.number c.args.flight.now.message.endpoint
+    (PageRequest c.args.request) c.deref_mut.result.now c.host.view_is c.requires.sound
     c.requires.arriving c.deref_mut.ensures.value
 
 pub offset_bounds-deref_mut-at : goal.offset_bounds-deref_mut-at
 offset_bounds-deref_mut-at c =
-    let within = arriving_within c.host.inside _ c.args.flight.now.number c.args.flight.now.message.endpoint (PageRequest c.args.request) c.deref_mut.result.now c.host.view_is
+    let within = arriving_within c.host.inside _ c.args.flight.now.number c.args.flight.now.message.endpoint
+    (PageRequest c.args.request) c.deref_mut.result.now c.host.view_is
     c.requires.sound c.requires.arriving c.deref_mut.ensures.value in
     omega (arith, within, c.deref_mut.ensures.fits)
 
 pub arrive-requires : goal.arrive-requires
 arrive-requires c =
     let for = arriving_port _ c.args.flight.now.number c.args.flight.now.message.endpoint (PageRequest c.args.request) c.requires.sound c.requires.arriving in
-    let same = same_port c.host.inside _ c.args.flight.now.message.endpoint c.args.flight.now.message.endpoint c.deref.result.now c.deref_mut.result.now c.index-deref-at.result
+    let same = same_port c.host.inside _ c.args.flight.now.message.endpoint c.args.flight.now.message.endpoint
+    c.deref.result.now c.deref_mut.result.now c.index-deref-at.result
     c.index-deref_mut-at.result c.host.view_is for c.deref.ensures.0 c.deref_mut.ensures.value in
     has_place c.host.inside _ c.args.flight.now.number c.args.flight.now.message.endpoint c.args.request _ c.host.view_is c.requires.sound
-    (port_there c.host.inside _ c.args.flight.now.number c.args.flight.now.message.endpoint (PageRequest c.args.request) c.deref_mut.result.now c.index-deref_mut-at.result
+    (port_there c.host.inside _ c.args.flight.now.number c.args.flight.now.message.endpoint
+    (PageRequest c.args.request) c.deref_mut.result.now c.index-deref_mut-at.result
     c.host.invariant c.host.view_is c.requires.sound c.requires.arriving c.deref_mut.ensures.value)
     c.requires.arriving (ap (λ (p : Port). p.unit.unit.is_open) same ∙ sym c.is_open.ensures ∙ c.if-not-is_open.false)
 
 pub invariant_of-host-2 : goal.invariant_of-host-2
 invariant_of-host-2 c =
     let for = arriving_port _ c.args.flight.now.number c.args.flight.now.message.endpoint (PageRequest c.args.request) c.requires.sound c.requires.arriving in
-    let is = port_there c.host.inside _ c.args.flight.now.number c.args.flight.now.message.endpoint (PageRequest c.args.request) c.deref_mut.result.now c.index-deref_mut-at.result
+    let is = port_there c.host.inside _ c.args.flight.now.number c.args.flight.now.message.endpoint
+    (PageRequest c.args.request) c.deref_mut.result.now c.index-deref_mut-at.result
     c.host.invariant c.host.view_is c.requires.sound c.requires.arriving c.deref_mut.ensures.value in
-    with_unit_host c.host.inside _ c.args.flight.now.message.endpoint (slice_index_or c.deref_mut.result.now c.args.flight.now.message.endpoint c.index-deref_mut-at.result) _ c.host.invariant
+    with_unit_host c.host.inside _ c.args.flight.now.message.endpoint
+    (slice_index_or c.deref_mut.result.now c.args.flight.now.message.endpoint c.index-deref_mut-at.result) _
+    c.host.invariant
     is.sound
-    (unit_rewritten c.host.inside _ c.args.flight.now.message.endpoint c.args.flight.now.message.endpoint c.deref_mut.result.now c.deref_mut.result.now c.index-deref_mut-at.result
+    (unit_rewritten c.host.inside _ c.args.flight.now.message.endpoint c.args.flight.now.message.endpoint
+    c.deref_mut.result.now c.deref_mut.result.now c.index-deref_mut-at.result
     c.index-deref_mut-at.result c.arrive.new.self (with_last c.args.request) c.host.view_is for
     c.deref_mut.ensures.value c.deref_mut.ensures.value c.arrive.ensures) c.host.invariant.staged
 
 pub returns-clause-step : goal.returns-clause-step
 returns-clause-step c =
     let for = arriving_port _ c.args.flight.now.number c.args.flight.now.message.endpoint (PageRequest c.args.request) c.requires.sound c.requires.arriving in
-    let is = port_there c.host.inside _ c.args.flight.now.number c.args.flight.now.message.endpoint (PageRequest c.args.request) c.deref_mut.result.now c.index-deref_mut-at.result
+    let is = port_there c.host.inside _ c.args.flight.now.number c.args.flight.now.message.endpoint
+    (PageRequest c.args.request) c.deref_mut.result.now c.index-deref_mut-at.result
     c.host.invariant c.host.view_is c.requires.sound c.requires.arriving c.deref_mut.ensures.value in
-    let same = same_port c.host.inside _ c.args.flight.now.message.endpoint c.args.flight.now.message.endpoint c.deref.result.now c.deref_mut.result.now c.index-deref-at.result
+    let same = same_port c.host.inside _ c.args.flight.now.message.endpoint c.args.flight.now.message.endpoint
+    c.deref.result.now c.deref_mut.result.now c.index-deref-at.result
     c.index-deref_mut-at.result c.host.view_is for c.deref.ensures.0 c.deref_mut.ensures.value in
     ended_by c.host.inside _ (step.Deliver c.args.flight.now.number) answer.Queued answer.Queued
     (λ (ports : List Port). wire_of (record c.host.inside { ports = record { items = ports }; in_flight = c.deliver_found.new.self })) _ _ c.host.view_is
-    (unit_rewritten c.host.inside _ c.args.flight.now.message.endpoint c.args.flight.now.message.endpoint c.deref_mut.result.now c.deref_mut.result.now c.index-deref_mut-at.result
+    (unit_rewritten c.host.inside _ c.args.flight.now.message.endpoint c.args.flight.now.message.endpoint
+    c.deref_mut.result.now c.deref_mut.result.now c.index-deref_mut-at.result
     c.index-deref_mut-at.result c.arrive.new.self (with_last c.args.request) c.host.view_is for
     c.deref_mut.ensures.value c.deref_mut.ensures.value c.arrive.ensures)
     refl
-    (queued c.host.inside c.args.flight.now.number c.args.flight.now.message.endpoint c.args.request (slice_index_or c.deref_mut.result.now c.args.flight.now.message.endpoint c.index-deref_mut-at.result)
+    (queued c.host.inside c.args.flight.now.number c.args.flight.now.message.endpoint c.args.request
+    (slice_index_or c.deref_mut.result.now c.args.flight.now.message.endpoint c.index-deref_mut-at.result)
     c.deliver_found.new.self (numbered c.host.inside _ c.host.view_is c.requires.sound) is
     (here c.host.inside _ _ _ _ c.host.view_is c.requires.arriving)
     (ap (λ (p : Port). p.unit.unit.is_open) same ∙ sym c.is_open.ensures ∙ c.if-not-is_open.false) c.deliver_found.ensures)

@@ -10,13 +10,15 @@ use Rattle.sva_host_link.proofs.requests.request_arrives.Goals as goal
 
 pub bounds-deref-at : goal.bounds-deref-at
 bounds-deref-at c =
-    arriving_within c.host.inside _ c.args.flight.now.number c.args.flight.now.message.endpoint (Request c.args.tag c.args.pasid c.args.page) c.deref.result.now c.host.view_is
+    arriving_within c.host.inside _ c.args.flight.now.number c.args.flight.now.message.endpoint
+    (Request c.args.tag c.args.pasid c.args.page) c.deref.result.now c.host.view_is
     c.requires.sound c.requires.arriving c.deref.ensures.0
 
 pub offset_bounds-deref-at : goal.offset_bounds-deref-at
 offset_bounds-deref-at c =
     let within =
-    arriving_within c.host.inside _ c.args.flight.now.number c.args.flight.now.message.endpoint (Request c.args.tag c.args.pasid c.args.page) c.deref.result.now c.host.view_is
+    arriving_within c.host.inside _ c.args.flight.now.number c.args.flight.now.message.endpoint
+    (Request c.args.tag c.args.pasid c.args.page) c.deref.result.now c.host.view_is
     c.requires.sound c.requires.arriving c.deref.ensures.0 in
     omega (arith, within, c.deref.type_inv)
 
@@ -46,7 +48,8 @@ deliver_found-requires-2-clause-stands c =
 pub deliver_found-requires-2-clause-may : goal.deliver_found-requires-2-clause-may
 deliver_found-requires-2-clause-may c =
     may_still c.host.inside.in_flight c.send.new.bag c.args.flight.now.number _ c.send.ensures.numbered
-    (may_take c.host.inside _ c.args.flight.now.number c.args.flight.now.message.endpoint (Request c.args.tag c.args.pasid c.args.page) c.host.view_is c.send.ensures.numbered
+    (may_take c.host.inside _ c.args.flight.now.number c.args.flight.now.message.endpoint
+    (Request c.args.tag c.args.pasid c.args.page) c.host.view_is c.send.ensures.numbered
     c.requires.arriving)
     c.in_ok-send.ensures.sends.1
 
@@ -55,7 +58,8 @@ returns-clause-step c =
     answered c.host.inside _ c.args.flight.now.number c.args.flight.now.message.endpoint c.args.tag c.args.pasid c.args.page
     (slice_index_or c.deref.result.now c.args.flight.now.message.endpoint c.index-deref-at.result) c.completion.result
     c.send.new.bag c.deliver_found-2.new.self c.host.view_is c.send.ensures.numbered
-    (may_take c.host.inside _ c.args.flight.now.number c.args.flight.now.message.endpoint (Request c.args.tag c.args.pasid c.args.page) c.host.view_is c.send.ensures.numbered
+    (may_take c.host.inside _ c.args.flight.now.number c.args.flight.now.message.endpoint
+    (Request c.args.tag c.args.pasid c.args.page) c.host.view_is c.send.ensures.numbered
     c.requires.arriving)
     (port_there c.host.inside _ c.args.flight.now.number c.args.flight.now.message.endpoint (Request c.args.tag c.args.pasid c.args.page) c.deref.result.now
     c.index-deref-at.result c.host.invariant c.host.view_is c.requires.sound

@@ -22,7 +22,8 @@ deliver_found-requires-clause-stands c =
 pub deliver_found-requires-clause-may : goal.deliver_found-requires-clause-may
 deliver_found-requires-clause-may c =
     may_still c.host.inside.in_flight c.send.new.bag c.args.flight.now.number _ c.send.ensures.numbered
-    (may_take c.host.inside _ c.args.flight.now.number c.args.flight.now.message.endpoint Reset c.host.view_is c.send.ensures.numbered c.requires.arriving) c.in_ok-send.ensures.sends.1
+    (may_take c.host.inside _ c.args.flight.now.number c.args.flight.now.message.endpoint Reset c.host.view_is
+    c.send.ensures.numbered c.requires.arriving) c.in_ok-send.ensures.sends.1
 
 pub bounds-deref_mut-at : goal.bounds-deref_mut-at
 bounds-deref_mut-at c =
@@ -31,36 +32,44 @@ bounds-deref_mut-at c =
 
 pub offset_bounds-deref_mut-at : goal.offset_bounds-deref_mut-at
 offset_bounds-deref_mut-at c =
-    let within = arriving_within c.host.inside _ c.args.flight.now.number c.args.flight.now.message.endpoint Reset c.deref_mut.result.now c.host.view_is c.requires.sound
+    let within = arriving_within c.host.inside _ c.args.flight.now.number c.args.flight.now.message.endpoint Reset
+    c.deref_mut.result.now c.host.view_is c.requires.sound
     c.requires.arriving c.deref_mut.ensures.value in
     omega (arith, within, c.deref_mut.ensures.fits)
 
 pub invariant_of-host-2 : goal.invariant_of-host-2
 invariant_of-host-2 c =
     let for = arriving_port _ c.args.flight.now.number c.args.flight.now.message.endpoint Reset c.requires.sound c.requires.arriving in
-    let is = port_found c.host.inside _ c.args.flight.now.message.endpoint c.args.flight.now.message.endpoint c.deref_mut.result.now c.index-deref_mut-at.result c.host.invariant c.host.view_is
+    let is = port_found c.host.inside _ c.args.flight.now.message.endpoint c.args.flight.now.message.endpoint
+    c.deref_mut.result.now c.index-deref_mut-at.result c.host.invariant c.host.view_is
     for c.deref_mut.ensures.value in
     let tables = λ (s : Tables). after_receive s Reset in
-    with_tables_host c.host.inside c.args.flight.now.message.endpoint (slice_index_or c.deref_mut.result.now c.args.flight.now.message.endpoint c.index-deref_mut-at.result) _
+    with_tables_host c.host.inside c.args.flight.now.message.endpoint
+    (slice_index_or c.deref_mut.result.now c.args.flight.now.message.endpoint c.index-deref_mut-at.result) _
     c.deliver_found.new.self _ c.host.invariant
     (sound_after _ (call.Receive Reset) refl is.sound)
-    (rewritten c.host.inside _ c.args.flight.now.message.endpoint c.args.flight.now.message.endpoint c.deref_mut.result.now c.deref_mut.result.now c.index-deref_mut-at.result
+    (rewritten c.host.inside _ c.args.flight.now.message.endpoint c.args.flight.now.message.endpoint
+    c.deref_mut.result.now c.deref_mut.result.now c.index-deref_mut-at.result
     c.index-deref_mut-at.result c.receive-received.new.self tables c.host.view_is for c.deref_mut.ensures.value c.deref_mut.ensures.value
     c.receive-received.ensures.after)
 
 pub returns : goal.returns
 returns c =
     let for = arriving_port _ c.args.flight.now.number c.args.flight.now.message.endpoint Reset c.requires.sound c.requires.arriving in
-    let is = port_found c.host.inside _ c.args.flight.now.message.endpoint c.args.flight.now.message.endpoint c.deref_mut.result.now c.index-deref_mut-at.result c.host.invariant c.host.view_is
+    let is = port_found c.host.inside _ c.args.flight.now.message.endpoint c.args.flight.now.message.endpoint
+    c.deref_mut.result.now c.index-deref_mut-at.result c.host.invariant c.host.view_is
     for c.deref_mut.ensures.value in
     let tables = λ (s : Tables). after_receive s Reset in
     let arriving = here c.host.inside _ _ _ _ c.host.view_is c.requires.arriving in
-    let may = may_take c.host.inside _ c.args.flight.now.number c.args.flight.now.message.endpoint Reset c.host.view_is c.send.ensures.numbered c.requires.arriving in
+    let may = may_take c.host.inside _ c.args.flight.now.number c.args.flight.now.message.endpoint Reset c.host.view_is
+    c.send.ensures.numbered c.requires.arriving in
     ended c.host.inside _ (step.Deliver c.args.flight.now.number) c.receive-received.result.answer answer.Reset _ _ c.deliver_found.new.self c.host.view_is
-    (rewritten c.host.inside _ c.args.flight.now.message.endpoint c.args.flight.now.message.endpoint c.deref_mut.result.now c.deref_mut.result.now c.index-deref_mut-at.result
+    (rewritten c.host.inside _ c.args.flight.now.message.endpoint c.args.flight.now.message.endpoint
+    c.deref_mut.result.now c.deref_mut.result.now c.index-deref_mut-at.result
     c.index-deref_mut-at.result c.receive-received.new.self tables c.host.view_is for c.deref_mut.ensures.value c.deref_mut.ensures.value
     c.receive-received.ensures.after)
     c.receive-received.ensures.answer
-    (reset_delivered c.host.inside c.args.flight.now.number c.args.flight.now.message.endpoint (slice_index_or c.deref_mut.result.now c.args.flight.now.message.endpoint c.index-deref_mut-at.result)
+    (reset_delivered c.host.inside c.args.flight.now.number c.args.flight.now.message.endpoint
+    (slice_index_or c.deref_mut.result.now c.args.flight.now.message.endpoint c.index-deref_mut-at.result)
     c.send.new.bag c.deliver_found.new.self c.send.ensures.numbered may is arriving
     c.in_ok-send.ensures.sends c.deliver_found.ensures)

@@ -18,7 +18,8 @@ pub returns-then-left-eq0 : goal.returns-then-left-eq0
 returns-then-left-eq0 c =
     let over : 2 ^ 63 ≤ c.host.inside.in_flight.next = omega (arith, c.left.ensures.left, c.if-left-eq0.true) in
     success_spent c.host.inside c.args.host.now c.args.job.now c.args.space c.args.pasid c.host.view_is
-    (c.in_ok-may_map_all.ensures ∙ ap (λ (asks : List Ask). may_map_all c.host.inside.address_spaces c.args.space (asks_seen asks)) c.asks-asks.ensures.asks) over
+    (c.in_ok-may_map_all.ensures ∙ ap (λ (asks : List Ask). may_map_all c.host.inside.address_spaces c.args.space
+    (asks_seen asks)) c.asks-asks.ensures.asks) over
 
 pub returns-in_default : goal.returns-in_default
 returns-in_default c =
@@ -32,7 +33,8 @@ returns-then-is_err c =
     let under : c.host.inside.in_flight.next < 2 ^ 63 = omega (arith, c.left.ensures.left, c.if-left-eq0.false) in
     taken_back_all c.host.inside c.args.host.now c.args.job.now c.args.space c.args.pasid c.in-Ok.pages.items c.map_all.new.self c.take_back.new.self
     c.send.new.bag c.send.result c.host.view_is
-    (c.in_ok-may_map_all.ensures ∙ ap (λ (asks : List Ask). may_map_all c.host.inside.address_spaces c.args.space (asks_seen asks)) c.asks-asks.ensures.asks) under
+    (c.in_ok-may_map_all.ensures ∙ ap (λ (asks : List Ask). may_map_all c.host.inside.address_spaces c.args.space
+    (asks_seen asks)) c.asks-asks.ensures.asks) under
     (c.take_back.ensures ∙ ap (taken_back c.map_all.new.self c.args.space) c.deref.ensures.0) c.in-Ok.ensures.back
     (named c.host.inside.in_flight c.send.new.bag c.args.job.now c.unit.result c.index.result c.args.pasid Success c.send.result c.unit.ensures
     c.index.ensures c.send.ensures.sends)
@@ -43,7 +45,8 @@ returns c =
     let under : c.host.inside.in_flight.next < 2 ^ 63 = omega (arith, c.left.ensures.left, c.if-left-eq0.false) in
     success_done c.host.inside c.args.host.now c.args.job.now c.args.space c.args.pasid c.len.result c.in-Ok.pages.items c.map_all.new.self c.send.new.bag
     c.send.result c.host.view_is
-    (c.in_ok-may_map_all.ensures ∙ ap (λ (asks : List Ask). may_map_all c.host.inside.address_spaces c.args.space (asks_seen asks)) c.asks-asks.ensures.asks) under
+    (c.in_ok-may_map_all.ensures ∙ ap (λ (asks : List Ask). may_map_all c.host.inside.address_spaces c.args.space
+    (asks_seen asks)) c.asks-asks.ensures.asks) under
     (c.in-Ok.ensures.pages ∙ ap (λ (asks : List Ask). new_pages c.host.inside.address_spaces c.args.space
     (asks_seen asks)) c.asks-asks.ensures.asks) c.len.ensures.value
     (subst (λ (asks : List Ask). AllMoves

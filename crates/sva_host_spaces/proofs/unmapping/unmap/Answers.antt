@@ -24,7 +24,8 @@ returns-in_err-plan-clause-step c =
     (units_refuse c.host.inside _ c.args.space c.args.page c.args.count _ c.host.view_is c.in_ok-may_unmap.ensures c.in_err-plan.ensures)
 
 pub submit-requires-clause-plan : goal.submit-requires-clause-plan
-submit-requires-clause-plan c = plan_itself c.args.host.now c.args.space (c.args.count + 1) (suc c.args.count) c.in_ok-plan.plan (omega arith) c.in_ok-plan.ensures.0
+submit-requires-clause-plan c = plan_itself c.args.host.now c.args.space (c.args.count + 1)
+    (suc c.args.count) c.in_ok-plan.plan (omega arith) c.in_ok-plan.ensures.0
 
 pub submit-requires-clause-cookies : goal.submit-requires-clause-cookies
 submit-requires-clause-cookies c =

@@ -53,7 +53,8 @@ returns-clause-step c =
 
 pub returns-in_err-may_unmap_range-clause-memory : goal.returns-in_err-may_unmap_range-clause-memory
 returns-in_err-may_unmap_range-clause-memory c =
-    not_for_memory _ _ c.from_residual.ensures (range_other c.host.inside.address_spaces c.args.space c.args.page c.args.order _ c.in_err-may_unmap_range.ensures)
+    not_for_memory _ _ c.from_residual.ensures (range_other c.host.inside.address_spaces c.args.space c.args.page
+    c.args.order _ c.in_err-may_unmap_range.ensures)
 
 pub returns-in_err-plan-clause-memory : goal.returns-in_err-plan-clause-memory
 returns-in_err-plan-clause-memory c =

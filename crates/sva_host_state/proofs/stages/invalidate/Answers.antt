@@ -18,7 +18,9 @@ returns-in-Ok-clause-moves c =
 
 pub returns-in-Err-clause-due : goal.returns-in-Err-clause-due
 returns-in-Err-clause-due c own seen done =
-    let here = seen_here _ c.args.binding c.args.bindings.now _ (Draining c.in-Some-Draining.draining) c.take.ensures.stage (c.in-Some-Draining.is ∙ ap Some c.in-Some-Draining.field-0-is) refl in
+    let here = seen_here _ c.args.binding c.args.bindings.now _
+    (Draining c.in-Some-Draining.draining) c.take.ensures.stage
+    (c.in-Some-Draining.is ∙ ap Some c.in-Some-Draining.field-0-is) refl in
     let same = draining_cookie c.in-Some-Draining.draining.cookie own c.args.binding c.args.bindings.now here seen in
     let told = ap (λ (w : Wait). w.waited) c.drained.ensures
     ∙ told_waited c.args.unit.now.unit c.in-Some-Draining.draining (ap (is_wait_done c.args.unit.now.unit) same ∙ done) in
@@ -28,7 +30,8 @@ pub returns-in-Err-clause-moves : goal.returns-in-Err-clause-moves
 returns-in-Err-clause-moves c =
     let kept = ap (λ (w : Wait). w.cookie) (c.in-Err.ensures.err.1 ∙ c.drained.ensures) ∙ told_cookie c.args.unit.now.unit c.in-Some-Draining.draining in (
       DrainingWire c.in-Some-Draining.draining.cookie,
-      seen_here _ c.args.binding c.args.bindings.now _ (Draining c.in-Some-Draining.draining) c.take.ensures.stage (c.in-Some-Draining.is ∙ ap Some c.in-Some-Draining.field-0-is) refl,
+      seen_here _ c.args.binding c.args.bindings.now _ (Draining c.in-Some-Draining.draining) c.take.ensures.stage
+          (c.in-Some-Draining.is ∙ ap Some c.in-Some-Draining.field-0-is) refl,
       subst (λ (k : ℕ). MovesTo (DrainingWire k) c.args.binding c.args.bindings.now c.put-in-Err.new.self) kept
           (moves_to c.args.binding c.args.bindings.now c.take.new.self c.put-in-Err.new.self (Draining c.in-Err.draining) c.take.ensures.places
           c.put-in-Err.ensures),

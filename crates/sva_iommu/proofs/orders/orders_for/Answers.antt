@@ -3,7 +3,7 @@ use Rattle.sva_queue.specs.declared.descriptors.Descriptor.TheVariants.{Range, W
 use Rattle.std.proofs.lemmas.Nat.{pow_pos}
 use Rattle.sva_model.specs.Range as model
 use Rattle.sva_model.specs.Range.{pages_in}
-use Rattle.sva_model.specs.Acts.{range_at}
+use Rattle.sva_model.specs.Unmappings.{range_at}
 use Rattle.sva_iommu.specs.Seen.{ranges_for}
 use Rattle.sva_iommu.proofs.Ranges.{next_base, base_within, base_aligned}
 use Rattle.sva_iommu.proofs.Submitted.{no_ranges, more_ranges, ranges_length}

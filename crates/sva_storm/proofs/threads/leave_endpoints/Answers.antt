@@ -1,9 +1,10 @@
 use Rattle.std.proofs.Common.{◌≡◌, ◌∙◌, ◌++◌, ap, sym, subst, arith, List, length, take, drop}
 use Rattle.std.proofs.Math.Seq.{take-append_seam}
+use Rattle.std.proofs.lemmas.Bool.{or_parts}
 use Rattle.sva_fabric.specs.Receipts.{PortState}
 use Rattle.sva_storm.specs.Lacks.{one_lacks}
 use Rattle.sva_storm.specs.Played.{AreEach, IsOfEndpoint}
-use Rattle.sva_storm.proofs.Rows.{each_more, each_reversed, lacks_moved, neither}
+use Rattle.sva_storm.proofs.Rows.{each_more, each_reversed, lacks_moved}
 use Rattle.sva_storm.proofs.threads.leave_endpoints.Goals as goal
 
 pub loop-thread-preserved : goal.loop-thread-preserved
@@ -13,7 +14,7 @@ loop-thread-preserved g c =
       lacking = lacks_moved c.loop-thread.lacking c.leave-port.result.1 c.loop-thread.threads.items c.pop.new.self.items c.in-Some.thread
           (one_lacks c.args.threads.items) c.in-Some.ensures.items c.leave-port.ensures.lacking kept.lacking;
       played = λ none.
-          let both = neither c.loop-thread.lacking c.leave-port.result.1 none in
+          let both = or_parts c.loop-thread.lacking c.leave-port.result.1 none in
           subst (λ (ports : List PortState). AreEach (IsOfEndpoint g.C.Ledgers.config g.S.Plan.steps g.S.Plan.turns) ports) (sym c.push_reserved.ensures.items)
           (each_more (IsOfEndpoint g.C.Ledgers.config g.S.Plan.steps g.S.Plan.turns) c.loop-thread.ports.items c.leave-port.result.0 (kept.played both.0) (c.leave-port.ensures.played both.1));
       ports = omega (arith, c.in-Some.ensures.len, c.push_reserved.ensures.len, kept.ports);

@@ -9,5 +9,6 @@ returns c = (
   λ yes_room. subst (λ (m : AddressSpacesSeen). HaveRoom m.places (targets_seen c.args.waits.now)) c.self.view_is
       (room_seen c.self.inside.pool c.args.waits.now (c.has_room.ensures.0 yes_room)),
   λ room. c.has_room.ensures.1
-      (room_of c.self.inside.pool c.args.waits.now (subst (λ (m : AddressSpacesSeen). HaveRoom m.places (targets_seen c.args.waits.now)) (sym c.self.view_is) room)),
+      (room_of c.self.inside.pool c.args.waits.now
+      (subst (λ (m : AddressSpacesSeen). HaveRoom m.places (targets_seen c.args.waits.now)) (sym c.self.view_is) room)),
 )

@@ -20,6 +20,7 @@ returns c =
     let live = c.index.result.now in
     let at = has_space c.self.inside c.args.space c.in-Some.place live _ c.self.invariant c.in-Some.ensures c.deref.ensures.value c.index.ensures in
     c.may_unmap_range.ensures
-    ∙ a_space (λ pages. page_causes_of_unmap_range pages c.args.page c.args.order) (pages_of (spaces_in c.self.inside).spaces c.args.space) (pages_seen live.space)
+    ∙ a_space (λ pages. page_causes_of_unmap_range pages c.args.page c.args.order)
+    (pages_of (spaces_in c.self.inside).spaces c.args.space) (pages_seen live.space)
     (pages_of-at c.self.inside.spaces.items c.args.space c.in-Some.place live at.there at.is_number at.once)
     ∙ ap (λ (m : AddressSpacesSeen). unmapping.may_unmap_range m c.args.space c.args.page c.args.order) c.self.view_is

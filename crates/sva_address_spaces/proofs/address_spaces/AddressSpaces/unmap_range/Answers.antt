@@ -28,7 +28,8 @@ take_mapped-requires-clause-few c =
     let at = has_space c.self.inside c.args.space c.in-Some.place live _ c.self.invariant c.in-Some.ensures c.deref.ensures.value c.index_mut.ensures.value in
     size-most c.args.order
     (may_unmap_range-tests (pages_seen live.space) c.args.page c.args.order
-    (tested (λ pages. page_causes_of_unmap_range pages c.args.page c.args.order) (pages_of (spaces_in c.self.inside).spaces c.args.space) (pages_seen live.space)
+    (tested (λ pages. page_causes_of_unmap_range pages c.args.page c.args.order)
+    (pages_of (spaces_in c.self.inside).spaces c.args.space) (pages_seen live.space)
     (pages_of-at c.self.inside.spaces.items c.args.space c.in-Some.place live at.there at.is_number at.once)
     (subst (λ (m : AddressSpacesSeen). IsOk (may_unmap_range m c.args.space c.args.page c.args.order)) (sym c.self.view_is) c.requires.may))).small
 
@@ -56,7 +57,8 @@ returns-clause-frames c =
     let at = has_space c.self.inside c.args.space c.in-Some.place live _ c.self.invariant c.in-Some.ensures c.deref.ensures.value c.index_mut.ensures.value in
     let there = pages_of-at c.self.inside.spaces.items c.args.space c.in-Some.place live at.there at.is_number at.once in
     let tests = may_unmap_range-tests (pages_seen live.space) c.args.page c.args.order
-    (tested (λ pages. page_causes_of_unmap_range pages c.args.page c.args.order) (pages_of (spaces_in c.self.inside).spaces c.args.space) (pages_seen live.space) there
+    (tested (λ pages. page_causes_of_unmap_range pages c.args.page c.args.order)
+    (pages_of (spaces_in c.self.inside).spaces c.args.space) (pages_seen live.space) there
     (subst (λ (m : AddressSpacesSeen). IsOk (may_unmap_range m c.args.space c.args.page c.args.order)) (sym c.self.view_is) c.requires.may)) in
     c.take_mapped.ensures.frames ∙ count_mapped-is (pages_seen live.space) c.args.page _ (2 ^ c.args.order) (size c.args.order tests.small)
     ∙ sym (ap (λ (o : Option (List PageWire)). count_below (2 ^ c.args.order) (λ j. is_mapped (or_no_pages o) (c.args.page + j))) there)
@@ -68,7 +70,8 @@ returns-clause-after c =
     let at = has_space c.self.inside c.args.space c.in-Some.place live _ c.self.invariant c.in-Some.ensures c.deref.ensures.value c.index_mut.ensures.value in
     let there = pages_of-at c.self.inside.spaces.items c.args.space c.in-Some.place live at.there at.is_number at.once in
     let tests = may_unmap_range-tests (pages_seen live.space) c.args.page c.args.order
-    (tested (λ pages. page_causes_of_unmap_range pages c.args.page c.args.order) (pages_of (spaces_in c.self.inside).spaces c.args.space) (pages_seen live.space) there
+    (tested (λ pages. page_causes_of_unmap_range pages c.args.page c.args.order)
+    (pages_of (spaces_in c.self.inside).spaces c.args.space) (pages_seen live.space) there
     (subst (λ (m : AddressSpacesSeen). IsOk (may_unmap_range m c.args.space c.args.page c.args.order)) (sym c.self.view_is) c.requires.may)) in
     let targets = targets_seen c.args.waits.now in
     taken_out (spaces_in c.self.inside) c.args.space c.args.page (2 ^ c.args.order) targets (pages_seen live.space)

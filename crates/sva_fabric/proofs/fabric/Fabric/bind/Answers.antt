@@ -2,7 +2,7 @@ use Rattle.std.proofs.Common.{ap}
 use Rattle.std.specs.Prelude.{Ok}
 use Rattle.sva_step.specs.declared.answers.Answer.{Answer}
 use Rattle.sva_step.specs.declared.steps.Step.TheVariants as step
-use Rattle.sva_journal.specs.Books.{TokenCounts}
+use Rattle.sva_core.specs.Books.{TokenCounts}
 use Rattle.sva_fabric.specs.Tokens.{IsFault}
 use Rattle.sva_fabric.proofs.Calls.{of_reply, passed_on, passed_by}
 use Rattle.sva_fabric.proofs.fabric.Fabric.bind.Goals as goal

@@ -1,5 +1,5 @@
 use Rattle.std.proofs.Common.{ℕ, Option, sym, ap, subst, ◌∙◌}
-use Rattle.sva_journal.specs.declared.receipts.Receipt.{Receipt}
+use Rattle.sva_core.specs.declared.receipts.Receipt.{Receipt}
 use Rattle.sva_fabric.specs.Receipts.{PortState, IsAnswered, last_of}
 use Rattle.sva_fabric.proofs.Standing.{answered, port_more, rise_more, counts_more}
 use Rattle.sva_fabric.proofs.fabric.Fabric.call.Goals as goal

@@ -1,6 +1,6 @@
 use Rattle.std.proofs.Common.{ℕ, Option, subst}
 use Rattle.std.specs.Prelude.{IfOk, IfErr}
-use Rattle.sva_journal.specs.declared.receipts.Receipt.{Receipt}
+use Rattle.sva_core.specs.declared.receipts.Receipt.{Receipt}
 use Rattle.sva_fabric.specs.Receipts.{IsCounted, IsAstray, last_of}
 use Rattle.sva_fabric.proofs.Standing.{counted, astray}
 use Rattle.sva_fabric.proofs.fabric.Fabric.counts.Goals as goal

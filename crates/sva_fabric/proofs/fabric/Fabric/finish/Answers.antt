@@ -1,7 +1,7 @@
 use Rattle.std.proofs.Common.{◌≡◌, ℕ, ◌≤◌, length, List, refl, sym, ap, subst, ◌∙◌, arith}
 use Rattle.std.specs.Prelude.{Result}
 use Rattle.sva_step.specs.declared.limits.Config.{Config}
-use Rattle.sva_journal.specs.Journal.{History, bindings_of, uses_of}
+use Rattle.sva_core.specs.Journal.{History, bindings_of, uses_of}
 use Rattle.sva_fabric.specs.declared.audits.Audit.{Audit}
 use Rattle.sva_fabric.specs.declared.audits.FirstBadReceipt.{FirstBadReceipt}
 use Rattle.sva_fabric.specs.Receipts.{PortState}

@@ -1,6 +1,6 @@
 use Rattle.std.proofs.Common.{sym, subst}
-use Rattle.sva_journal.specs.Books.{TokenCounts, IsHandedIn}
-use Rattle.sva_journal.proofs.TokenLemmas.{plain_handed}
+use Rattle.sva_core.specs.Books.{TokenCounts, IsHandedIn}
+use Rattle.sva_core.proofs.TokenLemmas.{plain_handed}
 use Rattle.sva_fabric.proofs.fabric.Fabric.step.Goals as goal
 
 pub call-requires : goal.call-requires

@@ -11,7 +11,8 @@ use Rattle.sva_grammar.proofs.words.Words.word.Goals as goal
 pub returns-then-place-lt-MOST_PLACES : goal.returns-then-place-lt-MOST_PLACES
 returns-then-place-lt-MOST_PLACES c =
     sym (get_or-map (λ w. w.now) c.self.inside.places c.args.place (record { ref_ptr = (0, 0); now = [] })) ∙ ap (word c.args.place) c.self.invariant.placed
-    ∙ word-in_places 7 c.args.place (words_of c.self.inside.line.now) c.if-place-lt-MOST_PLACES.true ∙ ap (λ line. word c.args.place (words_of line)) c.self.view_is
+    ∙ word-in_places 7 c.args.place (words_of c.self.inside.line.now) c.if-place-lt-MOST_PLACES.true
+    ∙ ap (λ line. word c.args.place (words_of line)) c.self.view_is
 
 pub returns : goal.returns
 returns c =

@@ -40,7 +40,8 @@ submit_ranges-requires-clause-opened c =
     let there : e < length w.parts = omega arith in
     let at = port_now c.loop-endpoint.host-inside w n c.args.page c.args.count c.args.order e c.deref_mut.result.now c.index-deref_mut-endpoint.result
     c.loop-endpoint.invariant.1 c.loop-endpoint.invariant.0 there c.deref_mut.ensures.value in
-    let asked = asked_some w n e c.in-Some.pasid (sym c.in-Some.is ∙ planned_at w n (suc c.args.count) e _ c.args.self.now c.requires.plan there (omega arith)) in
+    let asked = asked_some w n e c.in-Some.pasid (sym c.in-Some.is
+    ∙ planned_at w n (suc c.args.count) e _ c.args.self.now c.requires.plan there (omega arith)) in
     ap (λ (p : EndpointWire). p.unit.is_open)
     (part_now c.loop-endpoint.host-inside w n c.args.page c.args.count c.args.order e _ c.loop-endpoint.invariant.0 there at)
     ∙ opened_there w n e asked.0
@@ -55,7 +56,8 @@ submit_ranges-requires-clause-room c =
     let there : e < length w.parts = omega arith in
     let at = port_now c.loop-endpoint.host-inside w n c.args.page c.args.count c.args.order e c.deref_mut.result.now c.index-deref_mut-endpoint.result
     c.loop-endpoint.invariant.1 c.loop-endpoint.invariant.0 there c.deref_mut.ensures.value in
-    let asked = asked_some w n e c.in-Some.pasid (sym c.in-Some.is ∙ planned_at w n (suc c.args.count) e _ c.args.self.now c.requires.plan there (omega arith)) in
+    let asked = asked_some w n e c.in-Some.pasid (sym c.in-Some.is
+    ∙ planned_at w n (suc c.args.count) e _ c.args.self.now c.requires.plan there (omega arith)) in
     ap (λ (p : EndpointWire). has_room p.unit (suc c.args.count))
     (part_now c.loop-endpoint.host-inside w n c.args.page c.args.count c.args.order e _ c.loop-endpoint.invariant.0 there at)
     ∙ room_there w n (suc c.args.count) e c.requires.plan.room there asked.0
@@ -83,7 +85,8 @@ submit_ranges-requires-clause-number c =
     let parts = parts_seen c.host.inside w c.host.view_is in
     let most = c.len-endpoint-end.ensures.fits in
     let there : e < length w.parts = omega arith in
-    let asked = asked_some w n e c.in-Some.pasid (sym c.in-Some.is ∙ planned_at w n (suc c.args.count) e _ c.args.self.now c.requires.plan there (omega arith)) in
+    let asked = asked_some w n e c.in-Some.pasid (sym c.in-Some.is
+    ∙ planned_at w n (suc c.args.count) e _ c.args.self.now c.requires.plan there (omega arith)) in
     let low = cookie_low w n e (2 ^ 63) (subst (λ (k : ℕ). w.next_cookie + k ≤ 2 ^ 63) c.requires.plan.cookies c.requires.cookies) there asked.0 in
     let cookie = ap (λ (u : Wire). u.next_cookie) c.loop-endpoint.invariant.0 in
     omega arith
@@ -96,7 +99,8 @@ overflow_add-host c =
     let parts = parts_seen c.host.inside w c.host.view_is in
     let most = c.len-endpoint-end.ensures.fits in
     let there : e < length w.parts = omega arith in
-    let asked = asked_some w n e c.in-Some.pasid (sym c.in-Some.is ∙ planned_at w n (suc c.args.count) e _ c.args.self.now c.requires.plan there (omega arith)) in
+    let asked = asked_some w n e c.in-Some.pasid (sym c.in-Some.is
+    ∙ planned_at w n (suc c.args.count) e _ c.args.self.now c.requires.plan there (omega arith)) in
     let low = cookie_low w n e (2 ^ 63) (subst (λ (k : ℕ). w.next_cookie + k ≤ 2 ^ 63) c.requires.plan.cookies c.requires.cookies) there asked.0 in
     let cookie = ap (λ (u : Wire). u.next_cookie) c.loop-endpoint.invariant.0 in
     omega arith

@@ -4,13 +4,13 @@ use Rattle.sva_itags.specs.Tags.{lowest_free}
 use Rattle.sva_queue.specs.declared.descriptors.Pumped.TheVariants.{Issued}
 use Rattle.sva_queue.specs.Queue.{Queue, next_of}
 use Rattle.sva_queue.proofs.Kept.{pump-in_order}
-use Rattle.sva_queue.proofs.Looked.{tag_at}
+use Rattle.sva_queue.proofs.Waits.{issued_lowest}
 use Rattle.sva_queue.proofs.units.Unit.send.Goals as goal
 
 pub take_lowest-requires : goal.take_lowest-requires
 take_lowest-requires c =
     ap (λ (q : Queue). lowest_free q.tags) c.self.view_is
-    ∙ tag_at c.args.self.now c.requires.0 c.args.self.now.descriptors c.args.itag c.requires.1
+    ∙ issued_lowest c.args.self.now c.requires.0 c.args.itag c.args.self.now.descriptors c.requires.1
 
 pub invariant_of-self : goal.invariant_of-self
 invariant_of-self c =

@@ -1,12 +1,12 @@
-use Rattle.sva_storm.proofs.Rows.{neither}
+use Rattle.std.proofs.lemmas.Bool.{or_parts}
 use Rattle.sva_storm.proofs.threads.ThreadStates.into_parts.Goals as goal
 
 pub returns-clause-played : goal.returns-clause-played
 returns-clause-played g c none =
-    let all = neither _ _ none in
-    let most = neither _ _ all.0 in
-    let three = neither _ _ most.0 in
-    let two = neither _ _ three.0 in
+    let all = or_parts _ _ none in
+    let most = or_parts _ _ all.0 in
+    let three = or_parts _ _ most.0 in
+    let two = or_parts _ _ three.0 in
     record {
       host = c.leave-host.ensures.played two.0;
       link = c.leave-link.ensures.played two.1;

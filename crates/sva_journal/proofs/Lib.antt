@@ -1,4 +1,0 @@
-pub mod Entries
-pub mod Same
-pub mod Suiting
-pub mod TokenLemmas

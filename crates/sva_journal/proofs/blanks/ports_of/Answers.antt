@@ -1,5 +1,0 @@
-use Rattle.std.proofs.Common.{rules}
-use Rattle.sva_journal.proofs.blanks.ports_of.Goals as goal
-
-pub returns : goal.returns
-returns c = search rules

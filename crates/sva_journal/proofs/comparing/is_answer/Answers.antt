@@ -1,6 +1,0 @@
-use Rattle.std.proofs.Common.{sym, ◌∙◌}
-use Rattle.sva_journal.proofs.Same.{same_answer}
-use Rattle.sva_journal.proofs.comparing.is_answer.Goals as goal
-
-pub returns-clause-yes : goal.returns-clause-yes
-returns-clause-yes c is = same_answer c.args.one.now c.args.other.now (sym c.eq.ensures ∙ is)

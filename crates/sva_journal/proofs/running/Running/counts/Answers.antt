@@ -1,6 +1,0 @@
-use Rattle.std.proofs.Common.{subst}
-use Rattle.sva_journal.specs.Journal.{History, CountsOf}
-use Rattle.sva_journal.proofs.running.Running.counts.Goals as goal
-
-pub returns-clause-counts : goal.returns-clause-counts
-returns-clause-counts g c = subst (λ (h : History). CountsOf h c.counts-counts.result) c.self.view_is c.counts-counts.ensures.counts

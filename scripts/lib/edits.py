@@ -182,6 +182,29 @@ def must_fail(crate):
     return found
 
 
+class Refused:
+    """What must not compile: a file of no-compile/, by its name, its rule and the file that it changes, which is none where it is code above the crate."""
+
+    def __init__(self, crate, path):
+        lines = text_of(path).splitlines()
+        self.crate, self.name = crate, os.path.basename(path)[: -len(".txt")]
+        self.rule, self.file = word_of(lines[:1], "# "), word_of(lines, "file:")
+
+
+def no_compile(crate):
+    """What scripts/no-compile tries of a crate."""
+    return [Refused(crate, path) for path in files_below(f"{ROOT}/crates/{crate}/no-compile", ".txt")]
+
+
+def planted():
+    """The wrong outcomes that the gate's scripts plant in their own runs, each by the words that name it, by script."""
+    found = {}
+    for script in ("refused-memory", "cuts"):
+        told = re.findall(r'^    (?:    )?"([^"]+)": (?:lambda|refused|behind_a_refusal|unrefused|unmet)\b', text_of(f"{ROOT}/scripts/{script}"), re.M)
+        found[script] = list(dict.fromkeys(told))
+    return found
+
+
 def blocks_of(path):
     """The lines of a file of more-edits/: of its head, and of each block, which begins with its line of words, or with its name where it has none."""
     blocks, is_rule = [[]], False

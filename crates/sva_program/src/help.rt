@@ -111,6 +111,29 @@ An endpoint's steps, under a PASID P:
                            completions
     quit E P               the PASID isn't used any more
 
+These steps send a message, and no others. Behind it stands what its delivery is answered:
+
+    bind                   Start: `started`
+    unbind                 Stop: `stopping`; none where a reset has cut the binding off
+    reset                  Reset: `reset`. Its delivery sends ResetDone: `reset done`
+    pump, if `itag T`      Invalidate: `taken`
+    answer                 Response: `answered`, or `stale`; none where it is `dropped`
+    ask                    Request: `completion`. Its delivery sends Completion: `held`, `full`,
+                           `none` or `dropped`
+    fault                  PageRequest: `queued`
+    finish                 COUNT times Invalidated: `freed K`, the ITags that are free by it
+    quit                   Marker: `marked`
+
+They are numbered together, from 0, as they are sent, and come in any order, but that of one endpoint
+Start, Stop and Reset stay behind each older message to it that is no Completion; a PageRequest with
+`last` and a Marker stay behind each older PageRequest; and a ResetDone stays behind all. Else
+`deliver` is refused 33. At a unit in reset each message to the host but ResetDone is `dropped`.
+
+A binding is live, and then by `unbind` stopping, until its endpoint has got the Stop, has quit, and
+the Marker has come; by `advance` draining, until its page requests are filed and answered and the
+wait is done; by `advance` invalidating, until its invalidation is answered and the wait is done; by
+`advance` quiet; and by `advance` released.
+
 A frame whose page is unmapped is free at once where no endpoint can hold its translation, and else
 withheld until each has answered an invalidation.
 

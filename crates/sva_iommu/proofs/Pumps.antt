@@ -11,7 +11,8 @@ use Rattle.sva_queue.specs.declared.descriptors.Pumped.{Pumped}
 use Rattle.sva_queue.specs.declared.descriptors.Pumped.TheVariants as was
 use Rattle.sva_queue.specs.Queue.{Queue, is_complete, answer_at, next_of as answer_of, after_answer}
 use Rattle.sva_queue.specs.Heads.{sending_of, send_next, next_by, look_of, IsAnswered}
-use Rattle.sva_queue.proofs.Looked.{range_looked, tag_at}
+use Rattle.sva_queue.proofs.Looked.{range_looked}
+use Rattle.sva_queue.proofs.Waits.{issued_lowest}
 use Rattle.sva_model.specs.Wire.{DeviceWire, HostGroupWire, Descriptor as DescriptorWire}
 use Rattle.sva_model.specs.Wire.Descriptor.{RangeDescriptor, PasidDescriptor, WaitDescriptor}
 use Rattle.sva_labels.specs.Outcomes.{pump_result, send_result, wait_result}
@@ -139,4 +140,4 @@ looked q requests e empty = sym (heads q requests e empty)
 
 pub sent : (q : Queue) (requests : List PageRequest) (t : ℕ) → IsAnswered q (was.Issued t)
     → seen (after_answer (was.Issued t) q) requests ≡ with_unit (seen q requests) (unit_sent (unit_seen q) t)
-sent q requests t (e, is) = after_issue q requests t (tag_at q e q.descriptors t is)
+sent q requests t (e, is) = after_issue q requests t (issued_lowest q e t q.descriptors is)

@@ -11,6 +11,7 @@ mod fault_texts;
 mod journal;
 mod journal_agreement;
 mod ledgers;
+mod reading;
 mod receipts;
 mod running;
 mod token_book;

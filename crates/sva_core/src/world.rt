@@ -10,6 +10,9 @@ ghost use Rattle.sva_model.specs.Wire.{wire};
 ghost use Rattle.sva_core.specs.Reached.{Follows, IsReached, IsOpenRefusal, CountsOf, AddsUp};
 ghost use Rattle.sva_core.specs.Headline.{IsAgreed};
 ghost use Rattle.sva_host.specs.Applied.{TakesNoMemory};
+ghost use Rattle.sva_host.specs.Steps.{ByLabels};
+ghost use Rattle.sva_labels.specs.Host.{first_wire};
+ghost use Rattle.sva_address_spaces.specs.Steps.{Counted};
 
 use std::alloc::Global;
 use std::marker::Model;
@@ -21,7 +24,7 @@ use sva_step::{Answer, Config, Refusal, Step};
 /// list of steps leads there.
 #[derive(Drop)]
 pub struct World {
-    host: Host,
+    pub(crate) host: Host,
 }
 
 impl Model for World {
@@ -40,6 +43,7 @@ impl World {
     /// `BadConfig`; the only other refusal is `OutOfMemory`.
     pub fn open(alloc: Global, config: Config) -> Result<World, Refusal>
         ensures ok { IfOk result (λ world. (Fits config) × (world ≡ wire (opened PerSpace config))) }
+        ensures labels { IfOk result (λ world. world ≡ first_wire config) }
         ensures agreed { IfOk result (λ world. (reached : IsReached world) → IsAgreed world reached) }
         ensures bad { (result ≡ Err refusal.BadConfig) ↔ (Fits config → ⊥) }
         ensures memory { IfErr result IsOpenRefusal }
@@ -58,6 +62,7 @@ impl World {
     /// step then, and that a step whose room was made before never answers so.
     pub fn apply(&mut self, step: &Step) -> Result<Answer, Refusal>
         ensures step { Follows self.old step.now result self.new }
+        ensures labels { ByLabels self.old step.now result self.new }
         ensures refused { OnErr result (self.new ≡ self.old) }
         ensures reached { IsReached self.new }
         ensures agreed { (reached : IsReached self.new) → IsAgreed self.new reached }
@@ -69,6 +74,7 @@ impl World {
     /// How many frames are free, mapped and withheld. Together they are all frames of the config.
     pub fn counts(&self) -> Counts
         ensures counts { CountsOf self.now result }
+        ensures labels { Counted self.now.places result }
         ensures adds_up { AddsUp self.now result }
         ensures reached { IsReached self.now }
         ensures agreed { (reached : IsReached self.now) → IsAgreed self.now reached }

@@ -6,3 +6,4 @@ pub mod VectorLemmas
 pub mod LawLemmas
 pub mod NameLemmas
 pub mod SizeLemmas
+pub mod SingleLemmas

@@ -2,7 +2,7 @@
 use Rattle.std.specs.Prelude.{◌≡◌, ℕ, ◌+◌, ◌^◌, ◌==◌, ◌&&◌, ◌||◌, not, nat_le, nat_lt, if◌then◌else◌, Bool, true, false, List, [], ◌∷◌, length, filter}
 use Rattle.std.specs.Prelude.{codes, slice_index_or, Option, Some, None, Result, Ok, Err}
 use Rattle.std.specs.Char.{is_ascii_digit}
-use Rattle.std.specs.List.{enumerate_from, list_all, onto_first, slice_split}
+use Rattle.std.specs.List.{enumerate_from, list_all, list_any, onto_first, slice_split}
 use Rattle.std.specs.Str.{all_ascii_digits, bytes_eq}
 use Rattle.std.specs.Str.Parse.{digits_value}
 use Rattle.sva_step.specs.declared.limits.Config.{Config}
@@ -343,6 +343,20 @@ step_of words =
     if bytes_eq (word 0 words) (codes "look") then look_step words else
     if bytes_eq (word 0 words) (codes "bearer") then bearer_step words else
     host_step words
+
+-- ---- One line by itself, which has no LF (10) in it
+
+-- it is read by these, or it isn't a line
+abbrev pub single : {A : Type 0} → (List (List ℕ) → Result A Cause) → List ℕ → Result A Cause
+single read line = if list_any (λ byte. byte == 10) line then Err BadWord else read (words_of line)
+
+-- the step that it writes
+abbrev pub step_read : List ℕ → Result Step Cause
+step_read line = single step_of line
+
+-- the config that it writes
+abbrev pub config_read : List ℕ → Result Config Cause
+config_read line = single config_of line
 
 -- ---- The whole text
 

@@ -240,7 +240,7 @@ fn ends_word(byte: u8) -> bool
 }
 
 /// A number: decimal digits without a leading zero, below 2^64.
-fn number_in(word: &[u8]) -> Result<u64, Cause>
+pub fn number_in(word: &[u8]) -> Result<u64, Cause>
     ensures { result ≡ number word.now }
 {
     if !begins_number(word) {
@@ -280,7 +280,7 @@ fn begins_number(word: &[u8]) -> bool
 
 /// `w` allows writing, `r` doesn't.
 #[tactic(auto, unfolding(crate::specs::Grammar::access))]
-fn access_in(word: &[u8]) -> Result<bool, Cause>
+pub fn access_in(word: &[u8]) -> Result<bool, Cause>
     ensures { result ≡ access word.now }
 {
     if word == b"w".as_slice() {
@@ -294,7 +294,7 @@ fn access_in(word: &[u8]) -> Result<bool, Cause>
 
 /// `r` asks to read, `w` to write, `rw` for both.
 #[tactic(auto, unfolding(crate::specs::Grammar::flags))]
-fn flags_in(word: &[u8]) -> Result<(bool, bool), Cause>
+pub fn flags_in(word: &[u8]) -> Result<(bool, bool), Cause>
     ensures { result ≡ flags word.now }
 {
     if word == b"r".as_slice() {
@@ -310,7 +310,7 @@ fn flags_in(word: &[u8]) -> Result<(bool, bool), Cause>
 
 /// `new`, or a group's index.
 #[tactic(auto, unfolding(crate::specs::Grammar::group))]
-fn group_in(word: &[u8]) -> Result<Option<u64>, Cause>
+pub fn group_in(word: &[u8]) -> Result<Option<u64>, Cause>
     ensures { result ≡ group word.now }
 {
     if word == b"new".as_slice() {
@@ -323,7 +323,7 @@ fn group_in(word: &[u8]) -> Result<Option<u64>, Cause>
 
 /// `last`, or `more` where more requests of the group follow.
 #[tactic(auto, unfolding(crate::specs::Grammar::is_last))]
-fn last_in(word: &[u8]) -> Result<bool, Cause>
+pub fn last_in(word: &[u8]) -> Result<bool, Cause>
     ensures { result ≡ is_last word.now }
 {
     if word == b"last".as_slice() {
@@ -337,7 +337,7 @@ fn last_in(word: &[u8]) -> Result<bool, Cause>
 
 /// `success`, `invalid` or `failure`.
 #[tactic(auto, unfolding(crate::specs::Grammar::verdict))]
-fn verdict_in(word: &[u8]) -> Result<Verdict, Cause>
+pub fn verdict_in(word: &[u8]) -> Result<Verdict, Cause>
     ensures { result ≡ verdict word.now }
 {
     if word == b"success".as_slice() {
@@ -352,7 +352,7 @@ fn verdict_in(word: &[u8]) -> Result<Verdict, Cause>
 }
 
 /// A vector: eight hexadecimal digits in lower case.
-fn vector_in(word: &[u8]) -> Result<u32, Cause>
+pub fn vector_in(word: &[u8]) -> Result<u32, Cause>
     ensures { result ≡ vector word.now }
 {
     if !is_vector(word) {

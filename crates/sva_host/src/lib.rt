@@ -7,6 +7,7 @@ mod host;
 mod host_steps;
 mod jobs;
 mod page_requests;
+mod reading;
 mod replying;
 mod resets;
 

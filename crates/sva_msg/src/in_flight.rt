@@ -29,8 +29,8 @@ pub struct Flight {
 /// Numbers are given in the order of sending, so a smaller one is older. They lie below 2^63, and none is given twice.
 #[derive(Drop)]
 pub struct Bag {
-    messages: IndexMap<u64, Message>,
-    next: u64,
+    pub(crate) messages: IndexMap<u64, Message>,
+    pub(crate) next: u64,
 }
 
 impl Model for Bag {

@@ -9,6 +9,7 @@ mod extents;
 mod in_flight;
 mod messages;
 mod ranges;
+mod reading;
 
 pub use extents::Extent;
 pub use in_flight::{Bag, Flight, laws};

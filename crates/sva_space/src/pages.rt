@@ -108,12 +108,10 @@ impl Space {
     pub fn first_between(&self, first: u64, end: u64) -> Option<u64>
         ensures { result ≡ option_map (λ mapping. mapping.0) (find (is_between first end) self.now) }
     {
-        if first > end {
-            return None;
-        }
-        match self.pages.range(first..end).next() {
-            Some((page, _)) => Some(*page),
-            None => None,
+        // The map searches for an end of a range too, and so it isn't given one.
+        match self.pages.range(first..).next() {
+            Some((page, _)) if *page < end => Some(*page),
+            _ => None,
         }
     }
 

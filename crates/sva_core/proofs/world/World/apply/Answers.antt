@@ -1,5 +1,6 @@
 use Rattle.sva_refinement.proofs.Said.{every_step}
 use Rattle.std.proofs.Common.{subst}
+use Rattle.sva_host.specs.Steps.{ByLabels}
 use Rattle.sva_core.specs.Reached.{IsReached}
 use Rattle.sva_core.proofs.Agreed.{agreed}
 use Rattle.sva_core.proofs.Reaching.{follows, reached, refused, follows_on, memory_on, sound_reached, spaces_reached}
@@ -15,6 +16,10 @@ pub returns-clause-step : goal.returns-clause-step
 returns-clause-step c =
     follows_on c.self.inside.host c.args.self.now c.args.step.now c.apply.result c.apply.new.self c.self.view_is
     (follows every_step c.self.inside.host c.args.step.now c.apply.result c.apply.new.self c.apply.ensures.step)
+
+pub returns-clause-labels : goal.returns-clause-labels
+returns-clause-labels c =
+    subst (λ seen. ByLabels seen c.args.step.now c.apply.result c.apply.new.self) c.self.view_is c.apply.ensures.step
 
 pub returns-clause-refused : goal.returns-clause-refused
 returns-clause-refused c =

@@ -1,0 +1,31 @@
+//! What is read of the messages in flight.
+
+ghost use Rattle.std.specs.Prelude.{◌≡◌, ◌≤◌, ◌^◌, length, option_map, slice_get};
+ghost use Rattle.sva_parts_by_labels.specs.Flights.{flight_seen};
+
+use crate::world::World;
+use sva_msg::Message;
+
+impl World {
+    /// The number that the next message gets, at most 2^63.
+    pub fn next_message(&self) -> u64
+        ensures next { result ≡ self.now.next_message }
+        ensures most { result ≤ 2 ^ 63 }
+    {
+        self.host.next_message()
+    }
+
+    /// How many messages are in flight.
+    pub fn messages(&self) -> usize
+        ensures { result ≡ length self.now.in_flight }
+    {
+        self.host.messages()
+    }
+
+    /// The message in flight at a place in the order of age, with its number: the oldest is at 0.
+    pub fn message(&self, place: usize) -> Option<(u64, Message)>
+        ensures { option_map flight_seen result ≡ slice_get self.now.in_flight place }
+    {
+        self.host.message(place)
+    }
+}

@@ -1,0 +1,8 @@
+pub mod Lines
+pub mod Places
+pub mod Reserved
+pub mod Names
+pub mod Numbers
+pub mod Pieces
+pub mod Resolve
+pub mod Expect

@@ -1,0 +1,28 @@
+//! The language of scripts: scenarios in which steps have names, messages are named by kind, and answers are expected.
+//!
+//! A script's line is resolved against what earlier lines were answered: each name becomes the number that it stands for at
+//! its place. What is left is a line of a scenario.
+#![tactic(auto)]
+
+mod expecting;
+mod faults;
+mod given;
+mod names;
+mod nearest;
+mod numbers;
+mod parts;
+mod placed_words;
+mod places;
+mod reserved;
+mod splitting;
+mod texts;
+
+pub use expecting::{expect, is_as_expected};
+pub use faults::{Stop, Wanted, Wrong, at_word};
+pub use given::{Given, Told};
+pub use names::{Names, is_name, name_and_nth};
+pub use parts::{Parts, parts_of, split};
+pub use placed_words::put_places;
+pub use places::{Place, places_of};
+pub use reserved::{is_kind, near_answer_word, near_kind, near_refusal, near_step};
+pub use texts::{is, put, put_number};

@@ -16,7 +16,8 @@ loop-thread-preserved g c =
       played = λ none.
           let both = or_parts c.loop-thread.lacking c.leave-port.result.1 none in
           subst (λ (ports : List PortState). AreEach (IsOfEndpoint g.C.Ledgers.config g.S.Plan.steps g.S.Plan.turns) ports) (sym c.push_reserved.ensures.items)
-          (each_more (IsOfEndpoint g.C.Ledgers.config g.S.Plan.steps g.S.Plan.turns) c.loop-thread.ports.items c.leave-port.result.0 (kept.played both.0) (c.leave-port.ensures.played both.1));
+          (each_more (IsOfEndpoint g.C.Ledgers.config g.S.Plan.steps g.S.Plan.turns) c.loop-thread.ports.items c.leave-port.result.0
+          (kept.played both.0) (c.leave-port.ensures.played both.1));
       ports = omega (arith, c.in-Some.ensures.len, c.push_reserved.ensures.len, kept.ports);
       room = omega (arith, c.push_reserved.ensures.capacity, kept.room);
       tickets = omega (arith, c.leave-port.ensures.len, c.leave-port.ensures.capacity, c.in-Some.ensures.len, kept.tickets);

@@ -1,5 +1,6 @@
 -- The items of a list, taken off one after another.
-use Rattle.std.proofs.Common.{◌≡◌, ◌+◌, ◌-◌, ◌∙◌, ap, sym, arith, ℕ, suc, List, [], ◌∷◌, Bool, true, false, cond, length, take, drop, refl, Some, None, ltb, not, ◌≤◌}
+use Rattle.std.proofs.Common.{◌≡◌, ◌+◌, ◌-◌, ◌∙◌, ap, sym, arith, ℕ, suc, List, [], ◌∷◌, Bool, true, false, cond, length, take, drop, refl, Some, None}
+use Rattle.std.proofs.Common.{ltb, not, ◌≤◌}
 use Rattle.std.specs.Prelude.{Result, Ok, Err}
 use Rattle.sva_grammar.specs.Grammar.{◌>>=◌, number}
 use Rattle.sva_script.specs.declared.faults.Wrong.{Wrong}

@@ -15,14 +15,16 @@ inserted_by : {K V : Type 0} (text : K → List ℕ) (eq : K → K → Bool) (ke
     → eq key entry.0 ≡ met
     → cond met (Some entry.1) (lookup (eq key) entries) ≡ None
     → (lookup (eq key) entries ≡ None
-    → map {B = List ℕ × V} (λ e. (text e.0, e.1)) (insert_entry eq entries key value) ≡ map {B = List ℕ × V} (λ e. (text e.0, e.1)) entries ++ (text key, value) ∷ [])
+    → map {B = List ℕ × V} (λ e. (text e.0, e.1)) (insert_entry eq entries key value)
+    ≡ map {B = List ℕ × V} (λ e. (text e.0, e.1)) entries ++ (text key, value) ∷ [])
     → map {B = List ℕ × V} (λ e. (text e.0, e.1)) (cond met ((entry.0, value) ∷ entries) (entry ∷ insert_entry eq entries key value))
     ≡ (text entry.0, entry.1) ∷ map {B = List ℕ × V} (λ e. (text e.0, e.1)) entries ++ (text key, value) ∷ []
 inserted_by text eq key value entry entries true is none rest = absurd (cc none)
 inserted_by text eq key value entry entries false is none rest = ap (λ l. (text entry.0, entry.1) ∷ l) (rest none)
 
 pub inserted : {K V : Type 0} (text : K → List ℕ) (eq : K → K → Bool) (key : K) (value : V) (entries : List (K × V)) → lookup (eq key) entries ≡ None
-    → map {B = List ℕ × V} (λ e. (text e.0, e.1)) (insert_entry eq entries key value) ≡ map {B = List ℕ × V} (λ e. (text e.0, e.1)) entries ++ (text key, value) ∷ []
+    → map {B = List ℕ × V} (λ e. (text e.0, e.1)) (insert_entry eq entries key value)
+    ≡ map {B = List ℕ × V} (λ e. (text e.0, e.1)) entries ++ (text key, value) ∷ []
 inserted text eq key value [] none = refl
 inserted text eq key value (entry ∷ entries) none =
     inserted_by text eq key value entry entries (eq key entry.0) refl none (inserted text eq key value entries)

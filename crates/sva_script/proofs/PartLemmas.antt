@@ -19,7 +19,8 @@ position_map f p xs =
     (λ i. cond (ltb (len i) (length-map xs f i)) (Some (len i)) None)
 
 -- there is no arrow
-pub parts_whole : (words : List (Bor (List ℕ))) → position (λ word. is_arrow word.now) words ≡ None → unnamed_parts None (texts words) ≡ split_at None (texts words) None
+pub parts_whole : (words : List (Bor (List ℕ))) → position (λ word. is_arrow word.now) words ≡ None
+    → unnamed_parts None (texts words) ≡ split_at None (texts words) None
 parts_whole words none = ap (split_at None (texts words)) (position_map now is_arrow words ∙ none)
 
 pub parts_split : (words : List (Bor (List ℕ))) (arrow : ℕ) → position (λ word. is_arrow word.now) words ≡ Some arrow

@@ -59,7 +59,8 @@ pub no_more_said : (at : ℕ) (known : Known) (place : Option Place) (words : Li
     → length words ≤ i → PutsRead {A = Unit {0}} (said_rest at known place (said (drop i words))) text text (Ok done)
 unfolding said_rest
 no_more_said at known place words i text done past =
-    subst (λ left. PutsRead {A = Unit {0}} (said_rest at known place (said left)) text text (Ok done)) (sym (drop_of_length-le words past)) (sym (append-nil text))
+    subst (λ left. PutsRead {A = Unit {0}} (said_rest at known place (said left)) text text (Ok done)) (sym (drop_of_length-le words past))
+    (sym (append-nil text))
 
 -- a word that was put, and what is put of the others
 pub word_said : (at : ℕ) (known : Known) (place : Option Place) (words : List (Bor (List ℕ))) (i : ℕ) (blank : Bor (List ℕ)) (old mid new : List ℕ)

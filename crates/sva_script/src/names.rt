@@ -2,7 +2,8 @@
 
 ghost use Rattle.std.specs.Prelude.{◌≡◌, ◌==◌, ◌<◌, IfSome, length, position, ◌∷◌, [], ◌++◌, None, OnOk, OnErr, option_map};
 ghost use Rattle.std.specs.List.{list_all};
-ghost use Rattle.sva_script.specs.Names.{begins_name, frames_in, given_of, is_name, is_name_byte, message_at, name_and_nth, name_by, nth_of, number_at, number_told, numbers_in};
+ghost use Rattle.sva_script.specs.Names.{begins_name, frames_in, given_of, is_name, is_name_byte, message_at, name_and_nth, name_by, nth_of, number_at};
+ghost use Rattle.sva_script.specs.Names.{number_told, numbers_in};
 
 use crate::given::{Given, Told};
 use crate::nearest::is_near;

@@ -1,7 +1,8 @@
 //! The words of a line, and its parts: a name, a step, and what the step is expected to be answered.
 
 ghost use Rattle.std.specs.Prelude.{◌≡◌, ◌+◌, ◌<◌, ◌≤◌, ◌++◌, None, length, map, option_map, position, IfSome, OnOk};
-ghost use Rattle.sva_script.specs.Lines.{begins_comment, expected_begins, is_arrow, name_before, parts_of, said_alone, script_words, step_begins, unnamed_parts};
+ghost use Rattle.sva_script.specs.Lines.{begins_comment, expected_begins, is_arrow, name_before, parts_of, said_alone, script_words, step_begins};
+ghost use Rattle.sva_script.specs.Lines.{unnamed_parts};
 
 use crate::splitting::first_part;
 use crate::texts::is;

@@ -6,7 +6,8 @@ ghost use Rattle.sva_script.specs.Pieces.{PutsRead, spaced};
 ghost use Rattle.std.specs.List.{slice_split};
 ghost use Rattle.sva_grammar.specs.Grammar.{number};
 ghost use Rattle.sva_script.specs.Numbers.{with_itag};
-ghost use Rattle.sva_script.specs.Resolve.{ended, is_plain, itag_added, itags_in, named_by, named_in, plain_rest, plain_word, with_item, with_items, with_named};
+ghost use Rattle.sva_script.specs.Resolve.{ended, is_plain, itag_added, itags_in, named_by, named_in, plain_rest, plain_word, with_item, with_items};
+ghost use Rattle.sva_script.specs.Resolve.{with_named};
 
 use crate::faults::{Stop, Wanted, Wrong, at_word};
 use crate::given::Given;

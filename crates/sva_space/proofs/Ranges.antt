@@ -1,19 +1,17 @@
 -- Ranges of pages: what is found of one, how many of it are mapped, and that all are.
-use Rattle.std.proofs.Common.{◌≡◌, ◌≢◌, ◌↔◌, ℕ, zero, suc, ◌+◌, ◌-◌, ◌<◌, ◌≤◌, ◌==◌, nat_lt, Bool, true, false, cond, not, inl, inr, Option, Some, None}
+use Rattle.std.proofs.Common.{◌≡◌, ◌≢◌, ◌↔◌, ℕ, zero, suc, ◌+◌, ◌-◌, ◌<◌, ◌≤◌, nat_lt, Bool, true, false, cond, not, inl, inr, Option, Some, None}
 use Rattle.std.proofs.Common.{List, [], ◌∷◌, length, refl, sym, ◌∙◌, ap, subst, arith}
-use Rattle.std.specs.Prelude.{◌&&◌, IsSome, IsTrue, MatchOption, is_some, find, filter, option_map, slice_get}
+use Rattle.std.specs.Prelude.{◌&&◌, IsSome, MatchOption, is_some, find, filter, option_map, slice_get}
 use Rattle.std.specs.BTreeMap.{is_at}
 use Rattle.std.specs.BTreeMap.Range.{entries_between, range_contains}
 use Rattle.std.specs.Ordering.{nat_cmp, is_le, MatchOrdering}
 use Rattle.std.specs.declared.cmp.Ordering.{Ordering}
 use Rattle.std.specs.declared.cmp.Ordering.TheVariants.{Less, Equal, Greater}
 use Rattle.std.specs.declared.ops.Bound.TheVariants.{Included, Excluded, Unbounded}
-use Rattle.std.specs.Map.{keys_of}
-use Rattle.std.specs.List.Sorted.{IsStrictlySortedBy}
-use Rattle.std.proofs.lemmas.Bool.{cases_Bool, cases_eq, eqb-true, eqb-false, eq-eqb, ne_eqb}
+use Rattle.std.proofs.lemmas.Bool.{cases_Bool, cases_eq, eq-eqb, ne_eqb}
 use Rattle.std.proofs.lemmas.Bool.Decides.{nat_tests}
-use Rattle.sva_space.specs.Pages.{IsRising, mapping_at, without_page, is_between, mappings_between, AllMapped}
-use Rattle.sva_space.specs.Calls.{Call, after_all}
+use Rattle.sva_space.specs.Pages.{IsRising, mapping_at, is_between, mappings_between, AllMapped}
+use Rattle.sva_space.specs.Calls.{after_all}
 use Rattle.sva_space.specs.Laws.{IsLowestBetween, LowestBetween}
 use Rattle.std.specs.Cmp.{ranked}
 use Rattle.sva_space.proofs.Mappings.{AllAbove, is_less, at_page, at_itself, above_others, rising_after_all, none_rising, rising_tail, rising_head}

@@ -1,6 +1,5 @@
-use Rattle.std.proofs.Common.{sym, ◌∙◌, ◌≡◌, subst, ap, IfNone, Option, None}
-use Rattle.std.specs.Prelude.{find}
-use Rattle.sva_space.specs.Pages.{IsRising, is_between}
+use Rattle.std.proofs.Common.{sym, ◌∙◌, subst}
+use Rattle.sva_space.specs.Pages.{IsRising}
 use Rattle.sva_space.proofs.Ranges.{found_taken, found_mapped}
 use Rattle.sva_space.proofs.pages.Space.unmap_first.Goals as goal
 

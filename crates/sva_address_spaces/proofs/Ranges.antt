@@ -8,6 +8,7 @@ use Rattle.std.proofs.lemmas.Option.{slice_get_within}
 use Rattle.sva_space.specs.Pages.{IsRising, without_page, mappings_between}
 use Rattle.sva_space.specs.Pages as space
 use Rattle.sva_space.proofs.Ranges.{lowest_found, first_of}
+use Rattle.sva_space.proofs.Rows.{found_behind, none_below, none_left_below}
 use Rattle.sva_frames.specs.declared.waits.Target.{Target}
 use Rattle.sva_frames.specs.Frames.{Holding, Mapped, after_waits}
 use Rattle.sva_frames.specs.Room.{HaveRoom}
@@ -251,11 +252,10 @@ pub record AllOut (old : List (ℕ × (ℕ × Bool))) (frames_old : List Holding
   pub places : places_seen frames ≡ placed (place_for (targets_seen waits)) (in_row page number old) (places_seen frames_old)
   pub counted : count ≡ count_mapped (pages_seen old) page number
 
-pub none_left : (old ms : List (ℕ × (ℕ × Bool))) (frames_old frames : List Holding) (waits : List (Option Target)) (q n count : ℕ)
-    → IsRising old → Leaving old frames_old waits q n ms frames count → find (space.is_between q (q + n)) ms ≡ None
+row_left : (old ms : List (ℕ × (ℕ × Bool))) (frames_old frames : List Holding) (waits : List (Option Target)) (q n count : ℕ)
+    → IsRising old → Leaving old frames_old waits q n ms frames count → in_row q n ms ≡ []
     → AllOut old frames_old waits q n ms frames count
-none_left old ms frames_old frames waits q n count old_rising left none =
-    let row : in_row q n ms ≡ [] = none_of_row ms q n none in
+row_left old ms frames_old frames waits q n count old_rising left row =
     let empty : length (in_row q n ms) ≡ 0 = ap (λ (ps : List PageWire). length ps) row in
     record {
       pages = sym (without_none q n (pages_seen ms) row) ∙ left.pages;
@@ -266,3 +266,127 @@ none_left old ms frames_old frames waits q n count old_rising left none =
   where
     all_counted : (count left all : ℕ) → count + left ≡ all → left ≡ 0 → count ≡ all
     all_counted count left all e f = omega (arith, e, f)
+
+pub none_left : (old ms : List (ℕ × (ℕ × Bool))) (frames_old frames : List Holding) (waits : List (Option Target)) (q n count : ℕ)
+    → IsRising old → Leaving old frames_old waits q n ms frames count → find (space.is_between q (q + n)) ms ≡ None
+    → AllOut old frames_old waits q n ms frames count
+none_left old ms frames_old frames waits q n count old_rising left none =
+    row_left old ms frames_old frames waits q n count old_rising left (none_of_row ms q n none)
+
+-- The lowest page of the range, and how many there are, as they are told.
+
+abbrev pub told : (q n : ℕ) → List (ℕ × (ℕ × Bool)) → Option (ℕ × (ℕ × Bool)) → Option (ℕ × ℕ)
+told q n ms found = option_map {T = ℕ × (ℕ × Bool)} {U = ℕ × ℕ} (λ m. (m.0, length (mappings_between q (q + n) ms))) found
+
+pub none_told : (ms : List (ℕ × (ℕ × Bool))) (q n : ℕ) → None ≡ told q n ms (find (space.is_between q (q + n)) ms)
+    → find (space.is_between q (q + n)) ms ≡ None
+none_told ms q n is = by_result (find (space.is_between q (q + n)) ms) is
+  where
+    by_result : (o : Option (ℕ × (ℕ × Bool))) → None ≡ told q n ms o → o ≡ None
+    by_result None h = refl
+    by_result (Some m) h = absurd (cc (h))
+
+record IsTold (ms : List (ℕ × (ℕ × Bool))) (q n lowest number : ℕ) : Type 0 where
+  value : ℕ × Bool
+  found : find (space.is_between q (q + n)) ms ≡ Some (lowest, value)
+  counted : number ≡ length (in_row q n ms)
+
+as_told : (ms : List (ℕ × (ℕ × Bool))) (q n lowest number : ℕ)
+    → Some (lowest, number) ≡ told q n ms (find (space.is_between q (q + n)) ms) → IsTold ms q n lowest number
+as_told ms q n lowest number is = by_result (find (space.is_between q (q + n)) ms) refl is
+  where
+    longer : (es : List (ℕ × (ℕ × Bool))) → length es ≡ length (pages_seen es)
+    longer [] = refl
+    longer (e ∷ es) = ap suc (longer es)
+
+    by_result : (o : Option (ℕ × (ℕ × Bool))) → find (space.is_between q (q + n)) ms ≡ o → Some (lowest, number) ≡ told q n ms o
+        → IsTold ms q n lowest number
+    by_result None e h = absurd (cc (h))
+    by_result (Some m) e h =
+        let both : ◌≡◌ {A = ℕ × ℕ} (lowest, number) (m.0, length (mappings_between q (q + n) ms)) = cc (h) in
+        record {
+          value = m.1;
+          found = e ∙ (λ i. Some ((sym both i).0, m.1));
+          counted = (λ i. (both i).1) ∙ longer (mappings_between q (q + n) ms)
+              ∙ ap (λ (ps : List PageWire). length ps) (between-seen q n ms);
+        }
+
+pub told_most : (ms : List (ℕ × (ℕ × Bool))) (q n lowest number : ℕ) → IsRising ms
+    → Some (lowest, number) ≡ told q n ms (find (space.is_between q (q + n)) ms) → number ≤ n
+told_most ms q n lowest number rising is =
+    let few = few_in_row ms q n rising in let counted = (as_told ms q n lowest number is).counted in omega (arith, few, counted)
+
+-- What is left of the range stands from a page on: those below it are out.
+pub record LeavingFrom (old : List (ℕ × (ℕ × Bool))) (frames_old : List Holding) (waits : List (Option Target)) (page number : ℕ)
+    (ms : List (ℕ × (ℕ × Bool))) (frames : List Holding) (count next : ℕ) : Type 0 where
+  pub leaving : Leaving old frames_old waits page number ms frames count
+  pub low : page ≤ next
+  pub out : find (space.is_between page next) ms ≡ None
+
+pub left_from : (ms : List (ℕ × (ℕ × Bool))) (frames : List Holding) (waits : List (Option Target)) (q n lowest number : ℕ)
+    → IsRising ms → HaveRoom frames waits → Some (lowest, number) ≡ told q n ms (find (space.is_between q (q + n)) ms)
+    → LeavingFrom ms frames waits q n ms frames 0 lowest
+left_from ms frames waits q n lowest number rising room is =
+    let own = as_told ms q n lowest number is in
+    record {
+      leaving = all_left ms frames waits q n rising room;
+      low = (lowest_found q (q + n) ms (lowest, own.value) rising own.found).from_first;
+      out = none_below q (q + n) (lowest, own.value) ms rising own.found;
+    }
+
+-- so what is found from there on is the lowest of the range
+pub found_from : (old ms : List (ℕ × (ℕ × Bool))) (frames_old frames : List Holding) (waits : List (Option Target)) (q n count next : ℕ)
+    (found : Option (ℕ × (ℕ × Bool))) → LeavingFrom old frames_old waits q n ms frames count next
+    → find (space.is_between next (q + n)) ms ≡ found → find (space.is_between q (q + n)) ms ≡ found
+found_from old ms frames_old frames waits q n count next found left is =
+    found_behind q next (q + n) ms left.low left.out ∙ is
+
+pub below_end : (old ms : List (ℕ × (ℕ × Bool))) (frames_old frames : List Holding) (waits : List (Option Target)) (q n count next : ℕ)
+    (m : ℕ × (ℕ × Bool)) → LeavingFrom old frames_old waits q n ms frames count next
+    → find (space.is_between next (q + n)) ms ≡ Some m → m.0 < q + n
+below_end old ms frames_old frames waits q n count next m left is =
+    (lowest_found q (q + n) ms m left.leaving.rising
+    (found_from old ms frames_old frames waits q n count next (Some m) left is)).below_end
+
+-- some are left as long as not all are counted
+pub more_from : (old ms : List (ℕ × (ℕ × Bool))) (frames_old frames : List Holding) (waits : List (Option Target))
+    (q n count next lowest number : ℕ) → LeavingFrom old frames_old waits q n ms frames count next
+    → Some (lowest, number) ≡ told q n old (find (space.is_between q (q + n)) old) → count < number
+    → find (space.is_between next (q + n)) ms ≡ None → ⊥
+more_from old ms frames_old frames waits q n count next lowest number left is more none =
+    let row = none_of_row ms q n (found_from old ms frames_old frames waits q n count next None left none) in
+    let empty : length (in_row q n ms) ≡ 0 = ap (λ (ps : List PageWire). length ps) row in
+    let counted = (as_told old q n lowest number is).counted in
+    absurd (omega (arith, empty, counted, left.leaving.counted, more))
+
+-- one less, and the next one is behind it
+pub next_from : (old ms ms_after : List (ℕ × (ℕ × Bool))) (frames_old frames frames_after : List Holding) (waits : List (Option Target))
+    (q n count next : ℕ) (m : ℕ × (ℕ × Bool)) → Owns old frames_old → LeavingFrom old frames_old waits q n ms frames count next
+    → find (space.is_between next (q + n)) ms ≡ Some m → ms_after ≡ without_page ms m.0 → IsRising ms_after
+    → frames_after ≡ set frames m.1.0 (after_waits waits)
+    → LeavingFrom old frames_old waits q n ms_after frames_after (count + 1) (m.0 + 1)
+next_from old ms ms_after frames_old frames frames_after waits q n count next m owned left is removed rising gave =
+    let first = found_from old ms frames_old frames waits q n count next (Some m) left is in
+    let low = (lowest_found q (q + n) ms m left.leaving.rising first).from_first in
+    record {
+      leaving = one_less old ms ms_after frames_old frames frames_after waits q n count (count + 1) m owned left.leaving first removed
+          rising gave refl;
+      low = omega (arith, low);
+      out = ap (find (space.is_between q (m.0 + 1))) removed ∙ none_left_below q (q + n) m ms left.leaving.rising first;
+    }
+
+-- none is left once all are counted
+pub all_from : (old ms : List (ℕ × (ℕ × Bool))) (frames_old frames : List Holding) (waits : List (Option Target))
+    (q n count next lowest number : ℕ) → IsRising old → LeavingFrom old frames_old waits q n ms frames count next
+    → Some (lowest, number) ≡ told q n old (find (space.is_between q (q + n)) old) → number ≤ count
+    → AllOut old frames_old waits q n ms frames number
+all_from old ms frames_old frames waits q n count next lowest number rising left is whole =
+    let counted = (as_told old q n lowest number is).counted in
+    let all : count ≡ number = omega (arith, counted, left.leaving.counted, whole) in
+    let none : length (in_row q n ms) ≡ 0 = omega (arith, counted, left.leaving.counted, whole) in
+    subst (AllOut old frames_old waits q n ms frames) all
+    (row_left old ms frames_old frames waits q n count rising left.leaving (empty (in_row q n ms) none))
+  where
+    empty : (ps : List PageWire) → length ps ≡ 0 → ps ≡ []
+    empty [] h = refl
+    empty (p ∷ ps) h = absurd (omega (arith, h))

@@ -152,14 +152,18 @@ pub(crate) fn take_mapped(
         ≡ placed (place_for (targets_seen waits.now)) (filter (is_between page count) (pages_seen space.old)) (places_seen pool.old) }
     ensures balanced { Balanced space.old pool.old space.new pool.new }
 {
-    // Read for the same reason.
-    let _pages = space.len();
-    let mut frames = 0;
-    while let Some((_lowest, frame, _write)) = space.unmap_first(page, page + count) {
+    let Some((lowest, number)) = space.mapped_between(page, page + count) else {
+        return 0;
+    };
+    let mut next = lowest;
+    for _turn in 0..number {
+        let Some((taken, frame, _write)) = space.unmap_first(next, page + count) else {
+            unreachable!();
+        };
         pool.withhold(frame, waits.copied());
-        frames += 1;
+        next = taken + 1;
     }
-    frames
+    number as u32
 }
 
 /// Ends a space: its frames are given back, and are free.

@@ -62,6 +62,6 @@ pub fn ports_of(config: &Config) -> u64
 {
     config
         .endpoints
-        .wrapping_add(config.workers)
-        .wrapping_add(3)
+        .saturating_add(config.workers)
+        .saturating_add(3)
 }

@@ -16,7 +16,8 @@ use sva_step::{Answer, Config, Refusal, Step};
 /// Opens a world and takes the steps one after another: the world at the end, and an answer for each step. The agreement
 /// holds after exactly the steps that were taken, and their answers are those of the definitions. A step that was
 /// answered `OutOfMemory` changed nothing, and is one that takes memory. The fault is `BadConfig` where the config is
-/// out of its limits; else `OutOfMemory` where there is no memory for the world or for the list of answers.
+/// out of its limits; else `OutOfMemory` where there is no memory for the world or for the list of answers. An answer takes
+/// some 200 bytes, since a list of frames has room for 48.
 pub fn run(
     alloc: Global,
     config: Config,

@@ -112,7 +112,7 @@ fn first_bad<C: Ledgers>(journaled: &Journaled, ports: &Ports<C>) -> Option<Firs
     first_bad_from(journaled, 3 + endpoints.len() as u64, workers)
 }
 
-// How many ports there are.
+/// How many ports there are.
 #[tactic(auto, using(crate::proofs::Sums::length_both))]
 fn count_of<C: Ledgers>(ports: &Ports<C>) -> u64
     ensures { result ≡ length (states_of ports.now) }
@@ -122,7 +122,7 @@ fn count_of<C: Ledgers>(ports: &Ports<C>) -> u64
     3 + endpoints.len() as u64 + workers.len() as u64
 }
 
-// Tells that the calls of all ports are so many.
+/// Tells that the calls of all ports are so many.
 #[tactic(auto, using(crate::proofs::Sums::calls_append))]
 fn adds_up<C: Ledgers>(calls: u64, ports: &Ports<C>) -> bool
     ensures yes { result ≡ true → calls_of (states_of ports.now) ≡ calls }

@@ -36,7 +36,7 @@ pub(crate) fn open_ports<C: Ledgers>(
     })
 }
 
-// So many ports, numbered from this number on.
+/// So many ports, numbered from this number on.
 #[tactic(auto, using(crate::proofs::Sums::new_ports_none, crate::proofs::Sums::new_ports_next))]
 fn row<C: Ledgers>(
     alloc: Global,

@@ -1,5 +1,6 @@
 pub mod StreamLemmas
 pub mod ScriptLemmas
 pub mod ReportLemmas
+pub mod HandedLemmas
 pub mod StormLemmas
 pub mod EndLemmas

@@ -16,9 +16,8 @@ use Rattle.sva_model.specs.State.{opened}
 use Rattle.sva_model.specs.Claims.{Fits}
 use Rattle.sva_grammar.specs.declared.faults.Cause.TheVariants.{TooLarge}
 use Rattle.sva_grammar.specs.declared.faults.LineFault.{LineFault}
-use Rattle.sva_grammar.specs.Faults.{line_fault_text}
 use Rattle.sva_grammar.specs.Grammar.{fault, lines_of, said_lines, Script, scenario_of, script_of}
-use Rattle.sva_scenario.specs.Report.{ConfigsAreTested, ended, is_fit, report_by, report_of, script_report, steps_report}
+use Rattle.sva_scenario.specs.Report.{ConfigsAreTested, ended, is_fit, script_report, steps_report}
 use Rattle.sva_scenario.specs.Streams.{AppendsPrefix, Writes}
 use Rattle.sva_scenario.specs.declared.streams.DriveFault.{DriveFault}
 use Rattle.sva_scenario.specs.declared.streams.Outcome.{Outcome}
@@ -140,9 +139,6 @@ writes_front old new bytes (Err fault) e front = front
 pub writes_as : {A : Type 0} (old new : Option (List ℕ)) (bytes other : List ℕ) (result : Result A DriveFault) → other ≡ bytes
     → Writes old new bytes result → Writes old new other result
 writes_as old new bytes other result e w = subst (λ b. Writes old new b result) (sym e) w
-
-pub read_fault : (text : List ℕ) (f : LineFault) → scenario_of text ≡ Err f → report_of text ≡ ended (line_fault_text f)
-read_fault text f h = ap report_by h
 
 pub ends_as : (result : Result Outcome DriveFault) (end other : Outcome) → other ≡ end → IfOk result (λ outcome. outcome ≡ end)
     → IfOk result (λ outcome. outcome ≡ other)

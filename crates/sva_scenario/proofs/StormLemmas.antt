@@ -12,12 +12,35 @@ use Rattle.std.proofs.KnownBytes.{Appends-nil}
 use Rattle.sva_step.specs.declared.refusals.Refusal.TheVariants.{BadConfig}
 use Rattle.sva_step.specs.Refusals.{refusal_text}
 use Rattle.sva_grammar.specs.Faults.{line_fault_text}
-use Rattle.sva_scenario.specs.Report.{ended, is_fit}
+use Rattle.sva_scenario.specs.Report.{HandedOut, ended, is_fit}
 use Rattle.sva_scenario.specs.Streams.{AppendsPrefix, Writes}
 use Rattle.sva_scenario.specs.Storms.{Judged, JudgedBy, JudgedOf, StormEnds, Storms, StormsBy, StormsOf, audit_outcome, audit_text}
+use Rattle.sva_scenario.proofs.HandedLemmas.{handed_lacking, nothing}
 use Rattle.sva_scenario.proofs.ScriptLemmas.{front_scenario}
+use Rattle.sva_scenario.proofs.StreamLemmas.{AppendsPrefix-longer}
 
 -- ---- What was judged
+
+-- nothing is handed out of a text, or there is a fault
+judged_by : (fit : Bool) (script : Script) (old new : Option (List ℕ)) (fault : DriveFault)
+    → HandedOut (Ok script) old new (Err fault) → JudgedBy fit script old new (Err fault)
+judged_by true script old new fault h = h
+judged_by false script old new fault h = (AppendsPrefix-longer old new [] (ended (refusal_text BadConfig)) h.0, tt)
+
+pub judged_fault : (read : Result Script LineFault) (old new : Option (List ℕ)) (fault : DriveFault)
+    (result : Result (Option Script) DriveFault) → HandedOut read old new (Err fault)
+    → IsErrAnd result (λ own. own ≡ fault) → Judged read old new result
+judged_fault read old new fault (Ok given) h is = absurd is
+judged_fault (Ok script) old new fault (Err own) h is =
+    subst (λ (f : DriveFault). JudgedBy (is_fit script.config) script old new (Err f)) (sym is)
+    (judged_by (is_fit script.config) script old new fault h)
+judged_fault (Err line) old new fault (Err own) h is =
+    subst (λ (f : DriveFault). HandedOut (Err line) old new (Err f)) (sym is) h
+
+pub judged_none : (read : Result Script LineFault) (old new : Option (List ℕ)) (given : Option Script) → given ≡ None
+    → HandedOut read old new (Ok given) → Judged read old new (Ok None)
+judged_none (Ok script) old new given none h = absurd (cc (sym none ∙ h.2))
+judged_none (Err line) old new given none h = (h.0, refl)
 
 -- a config within its limits
 pub fit_by : (fit : Bool) (script : Script) (seen : Option (List ℕ)) → fit ≡ true → JudgedBy fit script seen seen (Ok (Some script))
@@ -30,23 +53,11 @@ pub unfit_by : (fit : Bool) (script : Script) (old new : Option (List ℕ)) (res
 unfit_by true script old new result is w o = absurd (cc is)
 unfit_by false script old new result is w o = (w, o)
 
--- a line fault
-pub judged_fault : (read : Result Script LineFault) (fault : LineFault) (old new : Option (List ℕ)) (result : Result (Option Script) DriveFault)
-    → read ≡ Err fault → Writes old new (ended (line_fault_text fault)) result → IfOk result (λ o. o ≡ None) → Judged read old new result
-judged_fault read fault old new result is w o = subst (λ r. Judged r old new result) (sym is) (w, o)
-
-nothing : (seen : Option (List ℕ)) (bytes : List ℕ) → AppendsPrefix seen seen bytes
-nothing seen bytes = ([], bytes, refl, Appends-nil seen)
-
-lacking_by : (fit : Bool) (script : Script) (seen : Option (List ℕ)) (fault : DriveFault) → (fault ≡ Write → ⊥) → JudgedBy fit script seen seen (Err fault)
-lacking_by true script seen fault other = (nothing seen [], (λ wrong. other (cc wrong)), tt)
-lacking_by false script seen fault other = (nothing seen (ended (refusal_text BadConfig)), tt)
-
 -- nothing was written, and there is a fault, which isn't of writing
-pub judged_lacking : (read : Result Script LineFault) (seen : Option (List ℕ)) (fault : DriveFault) → (fault ≡ Write → ⊥)
+judged_lacking : (read : Result Script LineFault) (seen : Option (List ℕ)) (fault : DriveFault) → (fault ≡ Write → ⊥)
     → Judged read seen seen (Err fault)
-judged_lacking (Ok script) seen fault other = lacking_by (is_fit script.config) script seen fault other
-judged_lacking (Err own) seen fault other = (nothing seen (ended (line_fault_text own)), tt)
+judged_lacking read seen fault other =
+    judged_fault read seen seen fault (Err fault) (handed_lacking read seen fault other) refl
 
 -- of a whole text that couldn't be read
 pub judged_unread : (known seen : Option (List ℕ)) (fault : DriveFault) (result : Result (Option Script) DriveFault) → (fault ≡ Write → ⊥)

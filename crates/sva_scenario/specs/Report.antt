@@ -1,6 +1,6 @@
 -- The report of a whole text: what a run of its steps answers, a line for each, and how the run ended.
-use Rattle.std.specs.Prelude.{◌≡◌, ◌↔◌, ℕ, ◌^◌, ◌&&◌, nat_le, if◌then◌else◌, Bool, true, List, [], ◌∷◌, ◌++◌, codes, decimal, flat_map, length, Option}
-use Rattle.std.specs.Prelude.{Result, Ok, Err}
+use Rattle.std.specs.Prelude.{◌≡◌, ◌≢◌, ◌↔◌, ℕ, ◌^◌, ◌&&◌, nat_le, if◌then◌else◌, Bool, true, List, [], ◌∷◌, ◌++◌, codes, decimal, flat_map, length, Option}
+use Rattle.std.specs.Prelude.{Some, None, Result, Ok, Err, IfOk}
 use Rattle.sva_step.specs.declared.limits.Config.{Config}
 use Rattle.sva_step.specs.declared.refusals.Refusal.TheVariants.{BadConfig}
 use Rattle.sva_step.specs.declared.steps.Step.{Step}
@@ -13,6 +13,7 @@ use Rattle.sva_model.specs.Steps.{Counts, Reply, counts, replies, run, world_aft
 use Rattle.sva_model.specs.Wire.{Wire, wire}
 use Rattle.sva_grammar.specs.declared.faults.LineFault.{LineFault}
 use Rattle.sva_scenario.specs.declared.streams.DriveFault.{DriveFault}
+use Rattle.sva_scenario.specs.declared.streams.DriveFault.TheVariants.{Write}
 use Rattle.sva_scenario.specs.declared.streams.Outcome.{Outcome}
 use Rattle.sva_scenario.specs.declared.streams.Outcome.TheVariants.{Done, Faulted}
 use Rattle.sva_grammar.specs.Faults.{line_fault_text}
@@ -72,6 +73,17 @@ outcome_by (Err fault) = Faulted
 -- how `replay` of a whole text ends
 abbrev pub outcome_of : List ℕ → Outcome
 outcome_of text = outcome_by (scenario_of text)
+
+-- ---- What a text begins with
+
+-- of what was read: the scenario is handed out, and nothing is written, so no writing can fail; a line fault is
+-- written alone, and none is handed out
+abbrev pub HandedOut : Result Script LineFault → Option (List ℕ) → Option (List ℕ) → Result (Option Script) DriveFault
+    → Type 0
+HandedOut (Ok script) old new result =
+    Writes old new [] result × (result ≢ Err Write) × IfOk result (λ given. given ≡ Some script)
+HandedOut (Err fault) old new result =
+    Writes old new (ended (line_fault_text fault)) result × IfOk result (λ given. given ≡ None)
 
 -- ---- What `check` says
 

@@ -1,5 +1,5 @@
 -- What `svahost storm` prints. Which end a storm has depends on its threads, and so on no text alone.
-use Rattle.std.specs.Prelude.{◌≡◌, ◌≢◌, ℕ, List, [], ◌++◌, codes, decimal, Bool, true, false, Option, Some, None, Result, Ok, Err, IfOk}
+use Rattle.std.specs.Prelude.{◌≡◌, ℕ, List, [], ◌++◌, codes, decimal, Bool, true, false, Option, Some, None, Result, Ok, Err, IfOk}
 use Rattle.sva_step.specs.declared.refusals.Refusal.TheVariants.{BadConfig}
 use Rattle.sva_step.specs.Refusals.{refusal_text}
 use Rattle.sva_grammar.specs.declared.faults.LineFault.{LineFault}
@@ -10,21 +10,20 @@ use Rattle.sva_scenario.specs.declared.streams.DriveFault.{DriveFault}
 use Rattle.sva_scenario.specs.declared.streams.DriveFault.TheVariants.{Write}
 use Rattle.sva_scenario.specs.declared.streams.Outcome.{Outcome}
 use Rattle.sva_scenario.specs.declared.streams.Outcome.TheVariants.{Done, Faulted}
-use Rattle.sva_scenario.specs.Report.{ended, is_fit}
+use Rattle.sva_scenario.specs.Report.{HandedOut, ended, is_fit}
 use Rattle.sva_scenario.specs.Streams.{AppendsPrefix, Writes}
 
 -- ---- The scenario
 
--- a scenario whose config is within its limits is handed out, and nothing is written, so no writing can fail; of another that is written,
--- and none is handed out
+-- a scenario whose config is within its limits is handed out, and nothing is written; of another that is written, and none is handed out
 abbrev pub JudgedBy : Bool → Script → Option (List ℕ) → Option (List ℕ) → Result (Option Script) DriveFault → Type 0
-JudgedBy true script old new result = Writes old new [] result × (result ≢ Err Write) × IfOk result (λ given. given ≡ Some script)
+JudgedBy true script old new result = HandedOut (Ok script) old new result
 JudgedBy false script old new result = Writes old new (ended (refusal_text BadConfig)) result × IfOk result (λ given. given ≡ None)
 
 -- of what was read: a line fault is written alone, and none is handed out
 abbrev pub Judged : Result Script LineFault → Option (List ℕ) → Option (List ℕ) → Result (Option Script) DriveFault → Type 0
 Judged (Ok script) old new result = JudgedBy (is_fit script.config) script old new result
-Judged (Err fault) old new result = Writes old new (ended (line_fault_text fault)) result × IfOk result (λ given. given ≡ None)
+Judged (Err fault) old new result = HandedOut (Err fault) old new result
 
 -- of a whole text, as it stands before the storm: the scenario is handed out to be played, or what is wrong with it is written
 abbrev pub JudgedOf : List ℕ → Option (List ℕ) → Option (List ℕ) → Result (Option Script) DriveFault → Type 0

@@ -7,12 +7,12 @@ ghost use Rattle.sva_scenario.specs.Report.{check_of, check_outcome_of};
 ghost use Rattle.sva_scenario.specs.Streams.{IsNew, Tells, Writes};
 
 use crate::reading::read_all;
-use crate::report::{write_fault, write_steps};
+use crate::report::write_steps;
+use crate::scenarios::scenario_or_fault;
 use crate::streams::{DriveFault, Outcome};
 use crate::told::Told;
 use std::alloc::Global;
 use std::io::{Read, Write};
-use sva_grammar::{ParseFault, parse};
 
 /// Reads a scenario to its end, and writes how many steps it has, `steps K`, or its line fault. No step is run, and the
 /// limits of the config aren't asked. `Faulted` tells that there is a line fault. After `Write` or `Memory` a prefix of
@@ -49,16 +49,10 @@ fn check_text<W: Write>(
     ensures outcome { IfOk result (λ outcome. outcome ≡ check_outcome_of text.now) }
     ensures told { Tells writer.old writer.new result }
 {
+    let Some(scenario) = scenario_or_fault(alloc, text, writer)? else {
+        return Ok(Outcome::Faulted);
+    };
     let mut line = Vec::new(alloc);
-    match parse(alloc, text) {
-        Ok(scenario) => {
-            write_steps(&mut line, scenario.steps.as_slice().len(), writer)?;
-            Ok(Outcome::Done)
-        }
-        Err(ParseFault::Line(fault)) => {
-            write_fault(&mut line, &fault, writer)?;
-            Ok(Outcome::Faulted)
-        }
-        Err(ParseFault::Memory) => Err(DriveFault::Memory),
-    }
+    write_steps(&mut line, scenario.steps.as_slice().len(), writer)?;
+    Ok(Outcome::Done)
 }

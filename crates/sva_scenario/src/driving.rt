@@ -8,13 +8,13 @@ ghost use Rattle.sva_scenario.specs.Report.{is_fit, outcome_of, reply_text, repo
 ghost use Rattle.sva_scenario.specs.Streams.{IsNew, Tells, Writes};
 
 use crate::reading::read_all;
-use crate::report::{write_counts, write_fault, write_reply};
+use crate::report::{write_counts, write_reply};
+use crate::scenarios::scenario_or_fault;
 use crate::streams::{DriveFault, Outcome};
 use crate::told::Told;
 use std::alloc::Global;
 use std::io::{Read, Write};
 use sva_core::World;
-use sva_grammar::{ParseFault, parse};
 use sva_step::{Answer, Config, Refusal, Step};
 
 /// Reads a scenario to its end, runs its steps, and writes its report line by line. `Faulted` tells that the report is a
@@ -52,18 +52,12 @@ fn report_text<W: Write>(
     ensures outcome { IfOk result (λ outcome. outcome ≡ outcome_of text.now) }
     ensures told { Tells writer.old writer.new result }
 {
+    let Some(scenario) = scenario_or_fault(alloc, text, writer)? else {
+        return Ok(Outcome::Faulted);
+    };
     let mut line = Vec::new(alloc);
-    match parse(alloc, text) {
-        Ok(scenario) => {
-            let steps = scenario.steps.as_slice();
-            report_script(alloc, &mut line, scenario.config, steps, writer)
-        }
-        Err(ParseFault::Line(fault)) => {
-            write_fault(&mut line, &fault, writer)?;
-            Ok(Outcome::Faulted)
-        }
-        Err(ParseFault::Memory) => Err(DriveFault::Memory),
-    }
+    let steps = scenario.steps.as_slice();
+    report_script(alloc, &mut line, scenario.config, steps, writer)
 }
 
 /// Writes the report of a scenario.

@@ -7,6 +7,7 @@ mod configs;
 mod driving;
 mod reading;
 mod report;
+mod scenarios;
 mod storming;
 mod streams;
 mod told;

@@ -10,12 +10,13 @@ ghost use Rattle.sva_scenario.specs.Storms.{JudgedBy, JudgedOf, audit_outcome, a
 ghost use Rattle.sva_scenario.specs.Streams.{IsNew, Tells, Writes};
 
 use crate::reading::read_all;
-use crate::report::{write_audit, write_bad_audit, write_fault, write_reply};
+use crate::report::{write_audit, write_bad_audit, write_reply};
+use crate::scenarios::scenario_or_fault;
 use crate::streams::{DriveFault, Outcome};
 use crate::told::Told;
 use std::alloc::Global;
 use std::io::{Read, Write};
-use sva_grammar::{ParseFault, Scenario, parse};
+use sva_grammar::Scenario;
 use sva_step::Refusal;
 
 /// Reads a scenario to its end, and hands it out to be played. A line fault, or a config out of its limits, is written as in a report, and
@@ -52,15 +53,11 @@ fn judge<W: Write>(
     ensures fits { IfOk result (λ found. IfSome found (λ script. Fits script.config × (writer.new ≡ writer.old))) }
     ensures told { Tells writer.old writer.new result }
 {
+    let Some(scenario) = scenario_or_fault(alloc, text, writer)? else {
+        return Ok(None);
+    };
     let mut line = Vec::new(alloc);
-    match parse(alloc, text) {
-        Ok(scenario) => hand_out(&mut line, scenario, writer),
-        Err(ParseFault::Line(fault)) => {
-            write_fault(&mut line, &fault, writer)?;
-            Ok(None)
-        }
-        Err(ParseFault::Memory) => Err(DriveFault::Memory),
-    }
+    hand_out(&mut line, scenario, writer)
 }
 
 /// Hands out a scenario whose config is within its limits. Of another that is written.

@@ -1,2 +1,3 @@
 pub mod Mappings
 pub mod Ranges
+pub mod Rows

@@ -1,24 +1,22 @@
 -- Ranges of pages: what is found of one, how many of it are mapped, and that all are.
-use Rattle.std.proofs.Common.{◌≡◌, ◌≢◌, ◌↔◌, ℕ, zero, suc, ◌+◌, ◌-◌, ◌<◌, ◌≤◌, ◌==◌, nat_lt, Bool, true, false, cond, not, inl, inr, Option, Some, None}
+use Rattle.std.proofs.Common.{◌≡◌, ◌≢◌, ◌↔◌, ℕ, zero, suc, ◌+◌, ◌-◌, ◌<◌, ◌≤◌, nat_lt, Bool, true, false, cond, not, inl, inr, Option, Some, None}
 use Rattle.std.proofs.Common.{List, [], ◌∷◌, length, refl, sym, ◌∙◌, ap, subst, arith}
-use Rattle.std.specs.Prelude.{◌&&◌, IsSome, IsTrue, MatchOption, is_some, find, filter, option_map, slice_get}
+use Rattle.std.specs.Prelude.{◌&&◌, IsSome, MatchOption, is_some, find, filter, option_map, slice_get}
 use Rattle.std.specs.BTreeMap.{is_at}
 use Rattle.std.specs.BTreeMap.Range.{entries_between, range_contains}
 use Rattle.std.specs.Ordering.{nat_cmp, is_le, MatchOrdering}
 use Rattle.std.specs.declared.cmp.Ordering.{Ordering}
 use Rattle.std.specs.declared.cmp.Ordering.TheVariants.{Less, Equal, Greater}
-use Rattle.std.specs.declared.ops.Bound.TheVariants.{Included, Excluded, Unbounded}
-use Rattle.std.specs.Map.{keys_of}
-use Rattle.std.specs.List.Sorted.{IsStrictlySortedBy}
-use Rattle.std.proofs.lemmas.Bool.{cases_Bool, cases_eq, eqb-true, eqb-false, eq-eqb, ne_eqb}
+use Rattle.std.specs.declared.ops.Bound.TheVariants.{Included, Excluded}
+use Rattle.std.proofs.lemmas.Bool.{cases_Bool, cases_eq, eq-eqb, ne_eqb}
 use Rattle.std.proofs.lemmas.Bool.Decides.{nat_tests}
-use Rattle.sva_space.specs.Pages.{IsRising, mapping_at, without_page, is_between, mappings_between, AllMapped}
-use Rattle.sva_space.specs.Calls.{Call, after_all}
+use Rattle.sva_space.specs.Pages.{IsRising, mapping_at, is_between, mappings_between, AllMapped}
+use Rattle.sva_space.specs.Calls.{after_all}
 use Rattle.sva_space.specs.Laws.{IsLowestBetween, LowestBetween}
 use Rattle.std.specs.Cmp.{ranked}
-use Rattle.sva_space.proofs.Mappings.{AllAbove, is_less, at_page, at_itself, above_others, rising_after_all, none_rising, rising_tail, rising_head}
+use Rattle.sva_space.proofs.Mappings.{at_page, at_itself, above_others, rising_after_all, none_rising, rising_tail, rising_head}
 
-abbrev Mapping : Type 0
+abbrev pub Mapping : Type 0
 Mapping = ℕ × (ℕ × Bool)
 
 -- a range that runs backwards is empty
@@ -64,72 +62,6 @@ pub first_of : (t : Mapping → Bool) (ms : List Mapping) → slice_get (filter 
 first_of t [] = refl
 first_of t (m ∷ ms) = elim (cases_Bool (t m)) [ inl e ↦ rw e | inr e ↦ rw e (first_of t ms) ]
 
--- ---- the first page from a page on
-
-abbrev pub is_from : (first : ℕ) → Mapping → Bool
-is_from first m = not (nat_lt m.0 first)
-
-test_from : (first : ℕ) (m : Mapping) → range_contains nat_cmp (Included first) Unbounded m.0 ≡ is_from first m
-test_from first m = ap (λ (b : Bool). b && true) (test_le first m.0) ∙ and_true (is_from first m)
-  where
-    and_true : (b : Bool) → (b && true) ≡ b
-    and_true true = refl
-    and_true false = refl
-
-pub from-is : (first : ℕ) (ms : List Mapping) → entries_between nat_cmp (Included first) Unbounded ms ≡ filter (is_from first) ms
-from-is first [] = refl
-from-is first (m ∷ ms) =
-    let rest = from-is first ms in
-    let test = test_from first m in
-    λ i. cond (test i) (m ∷ rest i) (rest i)
-
--- below the end it is the first between
-pub first_below : (first end : ℕ) (ms : List Mapping) (y : Mapping) → find (is_from first) ms ≡ Some y → y.0 < end
-    → find (is_between first end) ms ≡ Some y
-first_below first end [] y h below = absurd (cc)
-first_below first end (x ∷ ms) y h below =
-    elim (cases_Bool (is_from first x)) [
-      | inl e ↦
-          let found : Some x ≡ Some y = rw e at h in
-          let same : x ≡ y = cc in
-          let high : nat_lt x.0 end ≡ true = let low : x.0 < end = rw same below in grind (arith, nat_tests) in
-          rw (e, high) found
-      | inr e ↦ let found : find (is_from first) ms ≡ Some y = rw e at h in rw e (first_below first end ms y found below)
-    ]
-
--- where it isn't below, none is between, and where there is none
-none_above : (first end page : ℕ) (ms : List Mapping) → end ≤ page → AllAbove page ms → find (is_between first end) ms ≡ None
-none_above first end page [] high all = refl
-none_above first end page (x ∷ ms) high all =
-    let above : page < x.0 = is_less page x.0 all.0 in
-    let past : nat_lt x.0 end ≡ false = grind (arith, nat_tests) in
-    elim (cases_Bool (is_from first x)) [
-      | inl e ↦ rw (e, past) (none_above first end page ms high all.1)
-      | inr e ↦ rw e (none_above first end page ms high all.1)
-    ]
-
-pub first_past : (first end : ℕ) (ms : List Mapping) (y : Mapping) → IsRising ms → find (is_from first) ms ≡ Some y → end ≤ y.0
-    → find (is_between first end) ms ≡ None
-first_past first end [] y rising h past = refl
-first_past first end (x ∷ ms) y rising h past =
-    elim (cases_Bool (is_from first x)) [
-      | inl e ↦
-          let found : Some x ≡ Some y = rw e at h in
-          let same : x ≡ y = cc in
-          let high : end ≤ x.0 = rw same past in
-          let over : nat_lt x.0 end ≡ false = grind (arith, nat_tests) in
-          rw (e, over) (none_above first end x.0 ms high (rising_head x ms rising))
-      | inr e ↦ let found : find (is_from first) ms ≡ Some y = rw e at h in rw e (first_past first end ms y (rising_tail x ms rising) found past)
-    ]
-
-pub first_of_none : (first end : ℕ) (ms : List Mapping) → find (is_from first) ms ≡ None → find (is_between first end) ms ≡ None
-first_of_none first end [] h = refl
-first_of_none first end (x ∷ ms) h =
-    elim (cases_Bool (is_from first x)) [
-      | inl e ↦ absurd (let found : Some x ≡ None = rw e at h in cc)
-      | inr e ↦ let found : find (is_from first) ms ≡ None = rw e at h in rw e (first_of_none first end ms found)
-    ]
-
 pub none_first : (t : Mapping → Bool) (ms : List Mapping) → filter t ms ≡ [] → find t ms ≡ None
 none_first t ms h = sym (first_of t ms) ∙ ap (λ (xs : List Mapping). slice_get xs 0) h
 
@@ -143,17 +75,17 @@ passes_between first end m h = by_tests (nat_lt m.0 first) (nat_lt m.0 end) refl
     by_tests false false e f h = absurd (cc)
     by_tests false true e f h = (grind (arith, nat_tests), grind (arith, nat_tests))
 
-is_in_range : (first end : ℕ) (m : Mapping) → first ≤ m.0 → m.0 < end → is_between first end m ≡ true
+pub is_in_range : (first end : ℕ) (m : Mapping) → first ≤ m.0 → m.0 < end → is_between first end m ≡ true
 is_in_range first end m l h =
     let low : nat_lt m.0 first ≡ false = grind (arith, nat_tests) in
     let high : nat_lt m.0 end ≡ true = grind (arith, nat_tests) in
     rw (low, high) refl
 
-is_there : (m : Mapping) (page : ℕ) (ms : List Mapping) → m.0 ≡ page → mapping_at (m ∷ ms) page ≡ Some m.1
+pub is_there : (m : Mapping) (page : ℕ) (ms : List Mapping) → m.0 ≡ page → mapping_at (m ∷ ms) page ≡ Some m.1
 is_there m page ms e =
     let t : is_at (nat_cmp page) m.0 ≡ true = at_page page m.0 ∙ eq-eqb m.0 page e in ap (λ b. cond b (Some m.1) (mapping_at ms page)) t
 
-is_behind : (m : Mapping) (page : ℕ) (ms : List Mapping) → m.0 ≢ page → mapping_at (m ∷ ms) page ≡ mapping_at ms page
+pub is_behind : (m : Mapping) (page : ℕ) (ms : List Mapping) → m.0 ≢ page → mapping_at (m ∷ ms) page ≡ mapping_at ms page
 is_behind m page ms n =
     let t : is_at (nat_cmp page) m.0 ≡ false = at_page page m.0 ∙ ne_eqb m.0 page n in ap (λ b. cond b (Some m.1) (mapping_at ms page)) t
 

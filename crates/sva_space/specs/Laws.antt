@@ -1,4 +1,4 @@
-use Rattle.std.specs.Prelude.{◌≡◌, ℕ, ◌+◌, ◌<◌, ◌≤◌, Bool, List, [], ◌∷◌, Option, Some, None, MatchOption, find, count_by}
+use Rattle.std.specs.Prelude.{◌≡◌, ℕ, ◌+◌, ◌<◌, ◌≤◌, Bool, List, [], ◌∷◌, Some, None, MatchOption, find, count_by}
 use Rattle.sva_space.specs.Pages.{IsRising, mapping_at, without_page, is_between, mappings_between}
 use Rattle.sva_space.specs.Calls.{Call, after_all, ArePermitted, left_at_all, brings, count_in, count_out}
 

@@ -108,11 +108,31 @@ impl Space {
     pub fn first_between(&self, first: u64, end: u64) -> Option<u64>
         ensures { result ≡ option_map (λ mapping. mapping.0) (find (is_between first end) self.now) }
     {
-        // The map searches for an end of a range too, and so it isn't given one.
-        match self.pages.range(first..).next() {
-            Some((page, _)) if *page < end => Some(*page),
-            _ => None,
+        if first > end {
+            return None;
         }
+        match self.pages.range(first..end).next() {
+            Some((page, _)) => Some(*page),
+            None => None,
+        }
+    }
+
+    /// The lowest mapped page of those from `first` on and below `end`, and how many of these are mapped. `None` where
+    /// none of them is.
+    pub fn mapped_between(&self, first: u64, end: u64) -> Option<(u64, usize)>
+        ensures mapped { result ≡ option_map (λ lowest. (lowest.0, length (mappings_between first end self.now)))
+            (find (is_between first end) self.now) }
+        ensures rising { IsRising self.now }
+    {
+        let pages = &self.pages;
+        if first > end {
+            return None;
+        }
+        let mut mapped = pages.range(first..end);
+        let Some((lowest, _)) = mapped.next() else {
+            return None;
+        };
+        Some((*lowest, mapped.count() + 1))
     }
 
     /// How many pages from `first` on and below `end` are mapped.
@@ -137,16 +157,38 @@ impl Space {
     /// Takes the lowest mapped page out of those from `first` on and below `end`, and answers it with its frame and
     /// whether it could be written. None, with nothing changed, where none of them is mapped.
     pub fn unmap_first(&mut self, first: u64, end: u64) -> Option<(u64, Frame, bool)>
-        ensures some { IfSome result (λ taken. find (is_between first end) self.old ≡ Some (taken.0, (taken.1, taken.2))) }
+        ensures some { IfSome result
+            (λ taken. find (is_between first end) self.old ≡ Some (taken.0, (taken.1, taken.2))) }
         ensures after { IfSome result (λ taken. self.new ≡ after self.old (Unmap taken.0)) }
         ensures none { IfNone result ((find (is_between first end) self.old ≡ None) × (self.new ≡ self.old)) }
         ensures rising { IsRising self.new }
     {
         // The pages rise, which is read of the map itself.
         let _pages = &self.pages;
+        // Pages are often mapped in a row, and then no search for the lowest one is needed.
+        if let Some(taken) = self.unmap_start(first, end) {
+            return Some(taken);
+        }
         let lowest = self.first_between(first, end)?;
         let (frame, write) = self.unmap(lowest)?;
         Some((lowest, frame, write))
+    }
+
+    /// Takes the first page of such a range out, where it is mapped; else nothing changes.
+    fn unmap_start(&mut self, first: u64, end: u64) -> Option<(u64, Frame, bool)>
+        ensures some { IfSome result
+            (λ taken. find (is_between first end) self.old ≡ Some (taken.0, (taken.1, taken.2))) }
+        ensures after { IfSome result (λ taken. self.new ≡ after self.old (Unmap taken.0)) }
+        ensures none { IfNone result (self.new ≡ self.old) }
+        ensures rising { IsRising self.new }
+    {
+        // Read for the same reason.
+        let _pages = &self.pages;
+        if first >= end {
+            return None;
+        }
+        let (frame, write) = self.unmap(first)?;
+        Some((first, frame, write))
     }
 
     /// Ends a space without pages.

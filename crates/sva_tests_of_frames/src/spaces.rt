@@ -22,6 +22,8 @@ enum Call {
     Find(u64, Option<(u32, bool)>),
     /// The lowest mapped page from one on and below another.
     First(u64, u64, Option<u64>),
+    /// That page, and how many of these are mapped.
+    Mapped(u64, u64, Option<(u64, usize)>),
     /// How many pages from one on and below another are mapped.
     Count(u64, u64, usize),
     /// Whether all pages from one on and below another are mapped.
@@ -82,6 +84,7 @@ fn tells(space: &Space, call: Call) -> bool {
     match call {
         Call::Find(page, found) => space.find(page) == found,
         Call::First(first, end, found) => space.first_between(first, end) == found,
+        Call::Mapped(first, end, found) => space.mapped_between(first, end) == found,
         Call::Count(first, end, count) => space.count_between(first, end) == count,
         Call::AreMapped(first, end, are) => space.are_mapped(first, end) == are,
         Call::Len(len) => space.len() == len,
@@ -122,7 +125,7 @@ fn run<R: Abort>(rt: &R, alloc: Global, calls: &[Call]) {
 }
 
 /// Pages 17 and 16 in this order; then page 16 goes as the lowest one of a range, and page 17 by its number.
-static TWO_PAGES: [Call; 21] = [
+static TWO_PAGES: [Call; 24] = [
     Call::IsEmpty(true),
     Call::Map(17, true),
     Call::Find(17, Some((0, true))),
@@ -133,6 +136,9 @@ static TWO_PAGES: [Call; 21] = [
     Call::First(0, 32, Some(16)),
     Call::First(17, 32, Some(17)),
     Call::First(18, 32, None),
+    Call::Mapped(0, 32, Some((16, 2))),
+    Call::Mapped(17, 32, Some((17, 1))),
+    Call::Mapped(18, 32, None),
     Call::Count(0, 17, 1),
     Call::Count(16, 18, 2),
     Call::AreMapped(16, 18, true),

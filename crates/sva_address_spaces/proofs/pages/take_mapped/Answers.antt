@@ -1,47 +1,65 @@
-use Rattle.std.proofs.Common.{ap, refl, ◌∙◌, set}
+use Rattle.std.proofs.Common.{ℕ, Bool, ap, set, ◌∙◌, arith}
 use Rattle.sva_frames.specs.Frames.{after_waits}
-use Rattle.sva_address_spaces.specs.Seen.{pages_seen}
-use Rattle.sva_address_spaces.proofs.Counting.{balanced-is}
-use Rattle.sva_address_spaces.proofs.Ranges.{all_left, lowest_mapped, one_less, shorter_row, none_left}
+use Rattle.sva_address_spaces.proofs.Counting.{balanced-none}
+use Rattle.sva_address_spaces.proofs.Ranges.{all_from, all_left, below_end, found_from, left_from, lowest_mapped, more_from, next_from, none_left, none_told}
 use Rattle.sva_address_spaces.proofs.pages.take_mapped.Goals as goal
 
-pub loop-lowest-init : goal.loop-lowest-init
-loop-lowest-init c = all_left c.args.space.now c.args.pool.now c.args.waits.now c.args.page c.args.count c.len-pages.ensures.rising c.requires.room
+pub returns-in_default : goal.returns-in_default
+returns-in_default c =
+    let rising = c.mapped_between.ensures.rising in
+    let none = none_told c.args.space.now c.args.page c.args.count c.in_default.ensures.mapped in
+    let out = none_left c.args.space.now c.args.space.now c.args.pool.now c.args.pool.now c.args.waits.now c.args.page c.args.count
+    0 rising (all_left c.args.space.now c.args.pool.now c.args.waits.now c.args.page c.args.count rising c.requires.room) none in
+    record { frames = out.counted; pages = out.pages; places = out.places; balanced = balanced-none c.args.space.now c.args.pool.now }
+
+pub loop-turn-init : goal.loop-turn-init
+loop-turn-init c =
+    left_from c.args.space.now c.args.pool.now c.args.waits.now c.args.page c.args.count c.in-Some.lowest c.in-Some.number
+    c.mapped_between.ensures.rising c.requires.room c.in-Some.ensures.mapped
+
+pub unreachable-requires : goal.unreachable-requires
+unreachable-requires c =
+    more_from c.args.space.now c.loop-turn.space c.args.pool.now c.loop-turn.pool c.args.waits.now c.args.page c.args.count
+    c.loop-turn._turn c.loop-turn.next c.in-Some.lowest c.in-Some.number c.loop-turn.invariant c.in-Some.ensures.mapped
+    c.loop-turn-test.true c.in_default-unmap_first.ensures.none.0
 
 pub withhold-requires-clause-mapped : goal.withhold-requires-clause-mapped
 withhold-requires-clause-mapped c =
-    lowest_mapped c.args.space.now c.loop-lowest.space c.args.pool.now c.loop-lowest.pool c.args.waits.now c.args.page c.args.count
-    c.loop-lowest.frames (c.in-Some._lowest, (c.in-Some.frame, c.in-Some._write)) c.requires.owned c.loop-lowest.invariant c.in-Some.ensures.some
+    let taken : ℕ × (ℕ × Bool) = (c.in-Some-unmap_first.taken, (c.in-Some-unmap_first.frame, c.in-Some-unmap_first._write)) in
+    lowest_mapped c.args.space.now c.loop-turn.space c.args.pool.now c.loop-turn.pool c.args.waits.now c.args.page c.args.count
+    c.loop-turn._turn taken c.requires.owned c.loop-turn.invariant.leaving
+    (found_from c.args.space.now c.loop-turn.space c.args.pool.now c.loop-turn.pool c.args.waits.now c.args.page c.args.count
+    c.loop-turn._turn c.loop-turn.next _ c.loop-turn.invariant c.in-Some-unmap_first.ensures.some)
 
-pub loop-lowest-smaller : goal.loop-lowest-smaller
-loop-lowest-smaller c =
-    shorter_row c.loop-lowest.space c.unmap_first.new.self c.args.page c.args.count (c.in-Some._lowest, (c.in-Some.frame, c.in-Some._write))
-    c.loop-lowest.invariant.rising c.in-Some.ensures.some c.in-Some.ensures.after
+pub overflow_add-next : goal.overflow_add-next
+overflow_add-next c =
+    let taken : ℕ × (ℕ × Bool) = (c.in-Some-unmap_first.taken, (c.in-Some-unmap_first.frame, c.in-Some-unmap_first._write)) in
+    let below = below_end c.args.space.now c.loop-turn.space c.args.pool.now c.loop-turn.pool c.args.waits.now c.args.page
+    c.args.count c.loop-turn._turn c.loop-turn.next taken c.loop-turn.invariant c.in-Some-unmap_first.ensures.some in
+    omega (arith, below, c.requires.range)
 
-pub loop-lowest-preserved : goal.loop-lowest-preserved
-loop-lowest-preserved c =
-    one_less c.args.space.now c.loop-lowest.space c.unmap_first.new.self c.args.pool.now c.loop-lowest.pool c.withhold.new.self
-    c.args.waits.now c.args.page c.args.count c.loop-lowest.frames _ (c.in-Some._lowest, (c.in-Some.frame, c.in-Some._write))
-    c.requires.owned c.loop-lowest.invariant c.in-Some.ensures.some c.in-Some.ensures.after c.unmap_first.ensures.rising
-    (c.withhold.ensures ∙ ap (λ ts. set c.loop-lowest.pool c.in-Some.frame (after_waits ts)) c.copied.ensures) refl
+pub loop-turn-preserved : goal.loop-turn-preserved
+loop-turn-preserved c =
+    let taken : ℕ × (ℕ × Bool) = (c.in-Some-unmap_first.taken, (c.in-Some-unmap_first.frame, c.in-Some-unmap_first._write)) in
+    next_from c.args.space.now c.loop-turn.space c.unmap_first.new.self c.args.pool.now c.loop-turn.pool c.withhold.new.self
+    c.args.waits.now c.args.page c.args.count c.loop-turn._turn c.loop-turn.next taken c.requires.owned c.loop-turn.invariant
+    c.in-Some-unmap_first.ensures.some c.in-Some-unmap_first.ensures.after c.unmap_first.ensures.rising
+    (c.withhold.ensures ∙ ap (λ ts. set c.loop-turn.pool c.in-Some-unmap_first.frame (after_waits ts)) c.copied.ensures)
 
 pub returns-clause-frames : goal.returns-clause-frames
 returns-clause-frames c =
-    (none_left c.args.space.now c.loop-lowest.space c.args.pool.now c.loop-lowest.pool c.args.waits.now c.args.page c.args.count
-    c.loop-lowest.frames c.len-pages.ensures.rising c.loop-lowest.invariant c.in_default.ensures.none.0).counted
+    (all_from c.args.space.now c.loop-turn.space c.args.pool.now c.loop-turn.pool c.args.waits.now c.args.page c.args.count
+    c.loop-turn._turn c.loop-turn.next c.in-Some.lowest c.in-Some.number c.mapped_between.ensures.rising c.loop-turn.invariant
+    c.in-Some.ensures.mapped c.loop-turn-test.false).counted
 
 pub returns-clause-pages : goal.returns-clause-pages
 returns-clause-pages c =
-    ap pages_seen c.in_default.ensures.none.1
-    ∙ (none_left c.args.space.now c.loop-lowest.space c.args.pool.now c.loop-lowest.pool c.args.waits.now c.args.page c.args.count
-    c.loop-lowest.frames c.len-pages.ensures.rising c.loop-lowest.invariant c.in_default.ensures.none.0).pages
+    (all_from c.args.space.now c.loop-turn.space c.args.pool.now c.loop-turn.pool c.args.waits.now c.args.page c.args.count
+    c.loop-turn._turn c.loop-turn.next c.in-Some.lowest c.in-Some.number c.mapped_between.ensures.rising c.loop-turn.invariant
+    c.in-Some.ensures.mapped c.loop-turn-test.false).pages
 
 pub returns-clause-places : goal.returns-clause-places
 returns-clause-places c =
-    (none_left c.args.space.now c.loop-lowest.space c.args.pool.now c.loop-lowest.pool c.args.waits.now c.args.page c.args.count
-    c.loop-lowest.frames c.len-pages.ensures.rising c.loop-lowest.invariant c.in_default.ensures.none.0).places
-
-pub returns-clause-balanced : goal.returns-clause-balanced
-returns-clause-balanced c =
-    balanced-is c.args.space.now c.loop-lowest.space c.unmap_first.new.self c.args.pool.now c.loop-lowest.pool c.loop-lowest.pool
-    c.in_default.ensures.none.1 refl c.loop-lowest.invariant.balanced
+    (all_from c.args.space.now c.loop-turn.space c.args.pool.now c.loop-turn.pool c.args.waits.now c.args.page c.args.count
+    c.loop-turn._turn c.loop-turn.next c.in-Some.lowest c.in-Some.number c.mapped_between.ensures.rising c.loop-turn.invariant
+    c.in-Some.ensures.mapped c.loop-turn-test.false).places

@@ -1,6 +1,6 @@
-use Rattle.std.proofs.Common.{ℕ, ◌-◌, nat_eq, true, IsTrue, List, length, ◌≡◌, sym, ◌∙◌, ap, subst, arith}
+use Rattle.std.proofs.Common.{ℕ, nat_eq, true, ◌≡◌, sym, ◌∙◌, subst, arith}
 use Rattle.std.proofs.lemmas.Bool.Decides.{nat_tests}
-use Rattle.sva_space.specs.Pages.{IsRising, mappings_between}
+use Rattle.sva_space.specs.Pages.{IsRising}
 use Rattle.sva_space.proofs.Ranges.{all-counted}
 use Rattle.sva_space.proofs.pages.Space.are_mapped.Goals as goal
 

@@ -1,6 +1,6 @@
 //! The frames and the live spaces of a host, put together.
 
-ghost use Rattle.std.specs.Prelude.{◌≡◌, ◌≢◌, ◌≤◌, ◌^◌, ◌↔◌, true, None, Err, IfOk, OnOk, OnErr, IsOk, IsTrue, length, option_map};
+ghost use Rattle.std.specs.Prelude.{◌≡◌, ◌≢◌, ◌≤◌, ◌^◌, ◌↔◌, [], true, None, Err, IfOk, OnOk, OnErr, IsOk, IsTrue, length, option_map};
 ghost use Rattle.sva_step.specs.declared.refusals.Refusal.TheVariants as refusal;
 ghost use Rattle.sva_step.specs.declared.steps.Step.TheVariants as step;
 ghost use Rattle.sva_labels.specs.Moves.{Move, settled_cookie};
@@ -229,7 +229,7 @@ impl AddressSpaces {
 
     /// Maps the pages that the requests of a job ask for and that aren't mapped, in order of first filing, to the lowest free
     /// frames in turn, each to be written if a request asks for that. Gives these pages. Where there is no memory for one of
-    /// them, nothing changes.
+    /// them, nothing changes; where there are none, none is wanted.
     pub fn map_all(
         &mut self,
         space: u64,
@@ -242,6 +242,7 @@ impl AddressSpaces {
         ensures after { OnOk result (AllMoves (maps_of self.old space (asks_seen asks.now)) self.old self.new) }
         ensures back { IfOk result (λ pages. taken_back self.new space pages.items ≡ self.old) }
         ensures err { OnErr result (self.new ≡ self.old) }
+        ensures none { new_pages self.old space (asks_seen asks.now) ≡ [] → IsOk result }
     {
         let Some(place) = place_of(&self.spaces, space) else {
             unreachable!();

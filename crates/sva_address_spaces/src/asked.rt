@@ -1,6 +1,6 @@
 //! The pages that the requests of a job ask for: what refuses a success, what it maps, and what takes that back.
 
-ghost use Rattle.std.specs.Prelude.{◌≡◌, ◌≤◌, ◌==◌, ◌&&◌, ◌||◌, None, IfOk, OnOk, OnErr, IsOk, IsSome, length, position};
+ghost use Rattle.std.specs.Prelude.{◌≡◌, ◌≤◌, ◌==◌, ◌&&◌, ◌||◌, [], None, IfOk, OnOk, OnErr, IsOk, IsSome, length, position};
 ghost use Rattle.std.specs.List.{list_any};
 ghost use Rattle.sva_frames.specs.Frames.{is_free};
 ghost use Rattle.sva_space.specs.Pages.{IsRising, mapping_at};
@@ -127,6 +127,7 @@ pub(crate) fn map_all(
     ensures asked { IfOk result (λ pages. pages.items ≡ new_among (pages_seen space.old) (asks_seen asks.now)) }
     ensures ok { OnOk result (MapsAll (pages_seen space.old) (places_seen pool.old) (asks_seen asks.now) (pages_seen space.new) (places_seen pool.new)) }
     ensures err { OnErr result ((pages_seen space.new ≡ pages_seen space.old) × (places_seen pool.new ≡ places_seen pool.old)) }
+    ensures none { new_among (pages_seen space.old) (asks_seen asks.now) ≡ [] → IsOk result }
     ensures balanced { Balanced space.old pool.old space.new pool.new }
 {
     // How many pages the space has doesn't matter; it is read so that the contract knows that they rise.

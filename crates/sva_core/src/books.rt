@@ -79,6 +79,7 @@ impl<C: Ledgers> Books<C> {
     /// Shares of no part, to gather those of tokens in.
     pub(crate) fn empty_shares(&mut self) -> (Share<Bindings<C>>, Share<Uses<C>>)
         ensures same { self.new ≡ self.old }
+        ensures parts { (result.0.parts ≡ 0) × (result.1.parts ≡ 0) }
         ensures bindings { result.0.amount ≡ 0 }
         ensures uses { result.1.amount ≡ 0 }
     {

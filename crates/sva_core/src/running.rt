@@ -140,6 +140,7 @@ impl<C: Ledgers> Running<C> {
     /// Shares of no part, to gather those of tokens in. Nothing changes.
     pub fn empty_shares(&mut self) -> (Share<Bindings<C>>, Share<Uses<C>>)
         ensures same { self.new ≡ self.old }
+        ensures parts { (result.0.parts ≡ 0) × (result.1.parts ≡ 0) }
         ensures bindings { result.0.amount ≡ 0 }
         ensures uses { result.1.amount ≡ 0 }
     {

@@ -1,6 +1,6 @@
 -- The grammar of scenarios, which is this project's own, over the whole text. A text is a list of bytes.
 use Rattle.std.specs.Prelude.{◌≡◌, ℕ, ◌+◌, ◌^◌, ◌==◌, ◌&&◌, ◌||◌, not, nat_le, nat_lt, if◌then◌else◌, Bool, true, false, List, [], ◌∷◌, length, filter}
-use Rattle.std.specs.Prelude.{codes, slice_index_or, Option, Some, None, Result, Ok, Err}
+use Rattle.std.specs.Prelude.{codes, slice_index_or, Option, Some, None, Result, Ok, Err, IsOk}
 use Rattle.std.specs.Char.{is_ascii_digit}
 use Rattle.std.specs.List.{enumerate_from, list_all, list_any, onto_first, slice_split}
 use Rattle.std.specs.Str.{all_ascii_digits, bytes_eq}
@@ -397,6 +397,16 @@ is_too_large text = nat_lt 1048576 (length text) || nat_lt 65536 (length (lines_
 -- the scenario that a text writes, or its first fault
 unfoldable pub scenario_of : List ℕ → Result Script LineFault
 scenario_of text = if is_too_large text then fault 0 TooLarge else script_of (length (lines_of text)) (said_lines 1 (lines_of text))
+
+-- the first of these lines is a step
+abbrev pub IsStepFirst : List (ℕ × List ℕ) → Type 0
+IsStepFirst [] = ⊥
+IsStepFirst (line ∷ lines) = IsOk (step_of (words_of line.1))
+
+-- the first of these lines is a config, and the one behind it a step
+abbrev pub HasStep : List (ℕ × List ℕ) → Type 0
+HasStep [] = ⊥
+HasStep (first ∷ others) = IsOk (config_of (words_of first.1)) × IsStepFirst others
 
 -- What a function of the code returned, seen by `shown`, is what the grammar reads: the value or the fault. Want of
 -- memory stands for neither.

@@ -1,7 +1,7 @@
 //! The reading of a whole text: its config and its steps.
 
 ghost use Rattle.std.specs.Prelude.{◌≡◌, ◌≢◌, ◌≤◌, Err, length};
-ghost use Rattle.sva_grammar.specs.Grammar.{at_line, config_of, lines_of, step_of, steps_of, words_of, scenario_of, Reads};
+ghost use Rattle.sva_grammar.specs.Grammar.{at_line, config_of, lines_of, said_lines, step_of, steps_of, words_of, scenario_of, HasStep, IsStepFirst, Reads};
 
 use crate::faults::{Cause, LineFault, ParseFault};
 use crate::forms::{config_in, step_in};
@@ -35,11 +35,12 @@ impl Model for Scenario {
 }
 
 /// The scenario that a text writes. `Line` is the text's first fault. `Memory` comes where a growth is refused; the
-/// contract says that the text isn't too large then.
+/// contract says that the text isn't too large then, and begins with a config and a step.
 #[tactic(auto, unfolding(crate::specs::Grammar::scenario_of))]
 pub fn parse(alloc: Global, text: &[u8]) -> Result<Scenario, ParseFault>
     ensures read { Reads (λ s. s) result (scenario_of text.now) }
     ensures memory { result ≡ Err ParseFault.Memory → (length text.now ≤ 1048576) × (length (lines_of text.now) ≤ 65536) }
+    ensures step { result ≡ Err ParseFault.Memory → HasStep (said_lines 1 (lines_of text.now)) }
 {
     let count = line_count(text);
     if text.len() > MOST_BYTES || count > MOST_LINES {
@@ -61,7 +62,8 @@ fn steps_in<'a>(
     mut lines: Lines<'a>,
     mut words: Words<'a>,
 ) -> Result<Vec<Step>, ParseFault>
-    ensures { Reads (λ steps. steps.items) result (steps_of lines.entry) }
+    ensures read { Reads (λ steps. steps.items) result (steps_of lines.entry) }
+    ensures first { result ≡ Err ParseFault.Memory → IsStepFirst lines.entry }
 {
     let mut steps = Vec::new(alloc);
     while let Some(number) = lines.next(&mut words) {

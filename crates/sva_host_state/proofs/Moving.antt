@@ -1,17 +1,18 @@
 -- A stage that is taken out of its place, and another one that is put there; and a place that goes.
 use Rattle.std.proofs.Common.{◌≡◌, refl, ap, sym, ◌∙◌, subst, ℕ, Bool, true, false}
-use Rattle.std.specs.Prelude.{cond, not, Option, Some, None, IsSomeAnd, List, [], ◌∷◌}
+use Rattle.std.specs.Prelude.{cond, not, Option, Some, None, IsSomeAnd, List, [], ◌∷◌, Result, is_ok}
 use Rattle.sva_model.specs.Wire.{StageWire, UnitWire}
 use Rattle.sva_model.specs.Wire.StageWire.{StoppingWire, DrainingWire, InvalidatingWire}
 use Rattle.sva_labels.specs.Finding.{is_wait_done}
-use Rattle.sva_pasid.specs.States.{Wait, done_wait}
+use Rattle.sva_pasid.specs.States.{Numbers, Stop, Wait, done_wait, drain_of, invalidation_of, quiet_of}
 use Rattle.sva_pasid.specs.Places.{is_of, stage_of, with_stage, without}
 use Rattle.sva_pasid.specs.declared.places.TableEntry.{TableEntry}
 use Rattle.sva_pasid.specs.declared.stages.Stage.{Stage}
+use Rattle.sva_pasid.specs.declared.stages.Stage.TheVariants.{Stopping, Draining, Invalidating}
 use Rattle.sva_parts_by_labels.specs.Bindings.{stage_seen, bindings_seen}
 use Rattle.sva_parts_by_labels.proofs.Bindings.{bindings_are_seen}
 use Rattle.sva_host_state.specs.Inner.{AreStaged}
-use Rattle.sva_host_state.specs.Stages.{IsSeenIn, MovesTo, MovesIf, Goes, told_by}
+use Rattle.sva_host_state.specs.Stages.{IsSeenIn, MovesTo, MovesIf, Goes, GoesOn, told_by}
 use Rattle.sva_host_state.proofs.Staged.{put_staged, left_staged}
 
 -- the second one stays
@@ -47,6 +48,11 @@ moves_to b places hand after stage taken put =
       seen = ap bindings_seen is ∙ (bindings_are_seen places).1.staged b stage;
       staged = λ staged. subst AreStaged (sym is) (put_staged places b stage staged);
     }
+
+-- the stage that was put there stands there, and nothing else has changed
+pub put_there : (b : ℕ) (places hand after : List TableEntry) (stage : Stage) → hand ≡ with_stage b None places
+    → after ≡ with_stage b (Some stage) hand → after ≡ with_stage b (Some stage) places
+put_there b places hand after stage taken put = put ∙ ap (with_stage b (Some stage)) taken ∙ put_over b (Some stage) places
 
 pub goes : (b : ℕ) (places hand after : List TableEntry) → hand ≡ with_stage b None places → after ≡ without b hand → Goes b places after
 goes b places hand after taken left =
@@ -113,3 +119,42 @@ pub if_staged : (moves : Bool) (stage : StageWire) (n : ℕ) (before after : Lis
     → AreStaged after
 if_staged true stage n before after is = is.staged
 if_staged false stage n before after is = is.2.staged
+
+-- ---- The state itself that stands in a place, and what it gave at its move
+
+-- one state stands in a place
+same_stopping : (a b : Stop) → Some (Stopping a) ≡ Some (Stopping b) → a ≡ b
+same_stopping a b h = let same : a ≡ b = cc in same
+
+same_draining : (a b : Wait) → Some (Draining a) ≡ Some (Draining b) → a ≡ b
+same_draining a b h = let same : a ≡ b = cc in same
+
+same_invalidating : (a b : Wait) → Some (Invalidating a) ≡ Some (Invalidating b) → a ≡ b
+same_invalidating a b h = let same : a ≡ b = cc in same
+
+-- what a move gave is what stands there, and it tells whether it went on
+pub goes_on : {A B : Type 0} (stage : Result A B → Stage) (given moved : Result A B) (b : ℕ) (goes : Bool) (places hand after : List TableEntry)
+    → given ≡ moved → goes ≡ is_ok given → hand ≡ with_stage b None places → after ≡ with_stage b (Some (stage given)) hand
+    → GoesOn stage moved b goes places after
+goes_on stage given moved b goes places hand after same tells taken put =
+    subst (λ r. GoesOn stage r b goes places after) same (tells, put_there b places hand after (stage given) taken put)
+
+pub drain_given : (own there : Stop) (cookie n : ℕ) (places : List TableEntry) (o : Option Stage) (given : Result Wait Stop)
+    → o ≡ stage_of n places → o ≡ Some (Stopping there) → given ≡ drain_of there cookie → stage_of n places ≡ Some (Stopping own)
+    → given ≡ drain_of own cookie
+drain_given own there cookie n places o given found is value stands =
+    value ∙ ap (λ (s : Stop). drain_of s cookie) (same_stopping there own (sym is ∙ found ∙ stands))
+
+pub invalidation_given : (u : UnitWire) (own there told : Wait) (cookie : ℕ) (groups_open : Bool) (n : ℕ) (places : List TableEntry) (o : Option Stage)
+    (given : Result Wait Wait)
+    → o ≡ stage_of n places → o ≡ Some (Draining there) → told ≡ told_by u there → given ≡ invalidation_of told cookie groups_open
+    → stage_of n places ≡ Some (Draining own) → given ≡ invalidation_of (told_by u own) cookie groups_open
+invalidation_given u own there told cookie groups_open n places o given found is told_is value stands =
+    value
+    ∙ ap (λ (w : Wait). invalidation_of w cookie groups_open) (told_is ∙ ap (told_by u) (same_draining there own (sym is ∙ found ∙ stands)))
+
+pub quiet_given : (u : UnitWire) (own there told : Wait) (n : ℕ) (places : List TableEntry) (o : Option Stage) (given : Result Numbers Wait)
+    → o ≡ stage_of n places → o ≡ Some (Invalidating there) → told ≡ told_by u there → given ≡ quiet_of told
+    → stage_of n places ≡ Some (Invalidating own) → given ≡ quiet_of (told_by u own)
+quiet_given u own there told n places o given found is told_is value stands =
+    value ∙ ap quiet_of (told_is ∙ ap (told_by u) (same_invalidating there own (sym is ∙ found ∙ stands)))

@@ -1,10 +1,13 @@
 //! The moves of a binding's stage, each taken out of its place in the table and put back there.
 
-ghost use Rattle.std.specs.Prelude.{◌≡◌, ℕ, true, false, not};
+ghost use Rattle.std.specs.Prelude.{◌≡◌, ℕ, true, false, not, Some};
 ghost use Rattle.sva_model.specs.Wire.StageWire.{StoppingWire, DrainingWire, InvalidatingWire, QuietWire};
 ghost use Rattle.sva_labels.specs.Finding.{is_wait_done};
 ghost use Rattle.sva_pasid.specs.Moves.{Kind as kind};
-ghost use Rattle.sva_host_state.specs.Stages.{IsIn, IsSeenIn, MovesTo, MovesIf, Goes, told_by};
+ghost use Rattle.sva_pasid.specs.Places.{stage_of};
+ghost use Rattle.sva_pasid.specs.States.{Stop, Wait, drain_of, invalidation_of, quiet_of};
+ghost use Rattle.sva_pasid.specs.declared.stages.Stage.TheVariants as stage;
+ghost use Rattle.sva_host_state.specs.Stages.{IsIn, IsSeenIn, MovesTo, MovesIf, Goes, GoesOn, stage_drained, stage_invalidated, stage_settled, told_by};
 
 use sva_iommu::RemappingUnit;
 use sva_pasid::{Draining, Invalidating, Stage, Table};
@@ -48,6 +51,8 @@ pub fn drain(bindings: &mut Table, binding: u64, cookie: u64) -> bool
     requires { IsIn kind.stopping binding bindings.old }
     ensures noted { IsSeenIn (StoppingWire result) binding bindings.old }
     ensures moves { MovesIf result (DrainingWire cookie) binding bindings.old bindings.new }
+    ensures exactly { (own : Stop) → stage_of binding bindings.old ≡ Some (stage.Stopping own)
+        → GoesOn stage_drained (drain_of own cookie) binding result bindings.old bindings.new }
 {
     match bindings.take(binding) {
         Some(Stage::Stopping(stopping)) => match stopping.drain(cookie) {
@@ -76,6 +81,8 @@ pub fn invalidate(
     requires { IsIn kind.draining binding bindings.old }
     ensures due { (own : ℕ) → IsSeenIn (DrainingWire own) binding bindings.old → is_wait_done unit.now.unit own ≡ true → result ≡ not groups_open }
     ensures moves { MovesIf result (InvalidatingWire cookie) binding bindings.old bindings.new }
+    ensures exactly { (own : Wait) → stage_of binding bindings.old ≡ Some (stage.Draining own)
+        → GoesOn stage_invalidated (invalidation_of (told_by unit.now.unit own) cookie groups_open) binding result bindings.old bindings.new }
 {
     match bindings.take(binding) {
         Some(Stage::Draining(draining)) => match drained(draining, unit).invalidate(
@@ -112,6 +119,8 @@ pub fn settle(bindings: &mut Table, unit: &RemappingUnit, binding: u64) -> bool
     requires { IsIn kind.invalidating binding bindings.old }
     ensures due { (own : ℕ) → IsSeenIn (InvalidatingWire own) binding bindings.old → is_wait_done unit.now.unit own ≡ true → result ≡ true }
     ensures moves { MovesIf result QuietWire binding bindings.old bindings.new }
+    ensures exactly { (own : Wait) → stage_of binding bindings.old ≡ Some (stage.Invalidating own)
+        → GoesOn stage_settled (quiet_of (told_by unit.now.unit own)) binding result bindings.old bindings.new }
 {
     match bindings.take(binding) {
         Some(Stage::Invalidating(invalidating)) => match invalidated(invalidating, unit).quiet() {

@@ -1,6 +1,6 @@
 //! The run of a scenario, with its report line by line.
 
-ghost use Rattle.std.specs.Prelude.{◌≡◌, ◌↔◌, ◌⊎◌, ◌≤◌, length, IsTrue, IfOk, IfSome, OnOk, if◌then◌else◌};
+ghost use Rattle.std.specs.Prelude.{◌≡◌, ◌↔◌, ◌⊎◌, ◌<◌, ◌≤◌, length, IsTrue, IfOk, IfSome, OnOk, if◌then◌else◌};
 ghost use Rattle.std.specs.Io.KnownBytes.{IsAtEnd};
 ghost use Rattle.sva_core.specs.Reached.{Follows};
 ghost use Rattle.sva_scenario.specs.declared.reading.TheConstants.{MOST_TURNS};
@@ -35,6 +35,8 @@ pub fn drive<R: Read, W: Write>(
         × ((reader.new.failures ≡ 1) ⊎ ((reader.new.failures ≡ 0) × (reader.new.calls ≡ MOST_TURNS))) }
     ensures write { result ≡ Err DriveFault.Write → (reader.new.failures ≡ 0) × (writer.new.failures ≡ 1) }
     ensures memory { result ≡ Err DriveFault.Memory → (reader.new.failures ≡ 0) × (writer.new.failures ≡ 0) }
+    ensures whole { result ≡ Err DriveFault.Write → IsAtEnd (R.remaining reader.new.inner) }
+    ensures asked { 0 < reader.new.calls }
     ensures turns { reader.new.calls ≤ MOST_TURNS }
 {
     let text = read_all(alloc, reader)?;

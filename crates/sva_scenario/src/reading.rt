@@ -25,6 +25,7 @@ pub fn read_all<R: Read>(alloc: Global, reader: &mut Told<R>) -> Result<Vec<u8>,
     ensures memory { result ≡ Err DriveFault.Memory → (reader.new.failures ≡ 0)
         × (0 < reader.new.calls) × IfSome (R.remaining reader.old.inner) (λ input. 0 < length input) }
     ensures write { result ≢ Err DriveFault.Write }
+    ensures asked { 0 < reader.new.calls }
     ensures turns { reader.new.calls ≤ MOST_TURNS }
 {
     let mut kept = Vec::new(alloc);

@@ -5,3 +5,4 @@ pub mod PieceLemmas
 pub mod RestLemmas
 pub mod WordLemmas
 pub mod PartLemmas
+pub mod NearLemmas

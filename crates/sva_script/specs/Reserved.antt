@@ -46,6 +46,14 @@ refusal_names =
     codes "NoSuchMessage" ∷ codes "Overtakes" ∷ codes "NoSuchWorker" ∷ codes "HandsFull" ∷ codes "NoJob" ∷
     codes "BadVerdict" ∷ codes "NumbersSpent" ∷ codes "OutOfMemory" ∷ []
 
+-- the names of the steps
+unfoldable pub step_names : List (List ℕ)
+step_names =
+    codes "space" ∷ codes "drop" ∷ codes "map" ∷ codes "unmap" ∷ codes "unmapr" ∷ codes "look" ∷ codes "bearer" ∷
+    codes "bind" ∷ codes "unbind" ∷ codes "advance" ∷ codes "pump" ∷ codes "serve" ∷ codes "reset" ∷ codes "take" ∷
+    codes "answer" ∷ codes "ask" ∷ codes "use" ∷ codes "end" ∷ codes "evict" ∷ codes "fault" ∷ codes "finish" ∷
+    codes "quit" ∷ codes "deliver" ∷ []
+
 -- is it one of these words?
 abbrev pub is_among : List (List ℕ) → List ℕ → Bool
 is_among words word = list_any (λ reserved. bytes_eq reserved word) words

@@ -4,6 +4,7 @@ ghost use Rattle.std.specs.Prelude.{◌≡◌, ◌==◌, ◌<◌, IfSome, length
 ghost use Rattle.std.specs.List.{list_all};
 ghost use Rattle.sva_script.specs.Names.{begins_name, frames_in, given_of, is_name, is_name_byte, message_at, name_and_nth, name_by, nth_of, number_at};
 ghost use Rattle.sva_script.specs.Names.{number_told, numbers_in};
+ghost use Rattle.sva_script.specs.Near.{near_name};
 
 use crate::given::{Given, Told};
 use crate::nearest::is_near;
@@ -210,8 +211,10 @@ fn name_by(name: &[u8], nth: Result<u64, Cause>) -> Option<(&[u8], u64)>
 const MOST_COMPARED: usize = 1000;
 
 impl Names {
-    /// A name that is near to a word, of the last 1000.
-    pub fn near(&self, word: &[u8]) -> Option<&[u8]> {
+    /// A name that is near to a word, of the last 1000 the first such; `None` where none of them is.
+    pub fn near(&self, word: &[u8]) -> Option<&[u8]>
+        ensures { option_map (λ near. near.now) result ≡ near_name self.now word.now }
+    {
         let len = self.given.len();
         for place in len.saturating_sub(MOST_COMPARED)..len {
             if let Some((name, _)) = self.given.get_index(place) {

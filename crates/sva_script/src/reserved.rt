@@ -1,10 +1,11 @@
 //! The words of the format, which can't be names.
 
-ghost use Rattle.std.specs.Prelude.{◌≡◌};
+ghost use Rattle.std.specs.Prelude.{◌≡◌, map, option_map};
 ghost use Rattle.std.specs.List.{list_any};
 ghost use Rattle.std.specs.Str.{bytes_eq};
 ghost use Rattle.sva_script.specs.Expect.{is_answer_word, is_refusal};
-ghost use Rattle.sva_script.specs.Reserved.{answer_words, first_words, is_among, is_kind, is_reserved, other_words};
+ghost use Rattle.sva_script.specs.Near.{near_among};
+ghost use Rattle.sva_script.specs.Reserved.{answer_words, first_words, is_among, is_kind, is_reserved, kind_words, other_words, refusal_names, step_names};
 
 use crate::nearest::is_near;
 use crate::texts::is;
@@ -222,28 +223,38 @@ pub(crate) fn is_reserved(word: &[u8]) -> bool
     is_first_word(word) || is_of_answers(word) || is_other_word(word)
 }
 
-/// The name of a step that is near to a word.
-pub fn near_step(word: &[u8]) -> Option<&'static [u8]> {
+/// The name of a step that is near to a word, the first such; `None` where none is.
+pub fn near_step(word: &[u8]) -> Option<&'static [u8]>
+    ensures { option_map (λ near. near.now) result ≡ near_among step_names word.now }
+{
     near(&FIRST_WORDS[1..24], word)
 }
 
-/// The word of an answer that is near to a word.
-pub fn near_answer_word(word: &[u8]) -> Option<&'static [u8]> {
+/// The word of an answer that is near to a word, the first such; `None` where none is.
+pub fn near_answer_word(word: &[u8]) -> Option<&'static [u8]>
+    ensures { option_map (λ near. near.now) result ≡ near_among answer_words word.now }
+{
     near(&ANSWER_WORDS, word)
 }
 
-/// The word for a kind of message that is near to a word.
-pub fn near_kind(word: &[u8]) -> Option<&'static [u8]> {
+/// The word for a kind of message that is near to a word, the first such; `None` where none is.
+pub fn near_kind(word: &[u8]) -> Option<&'static [u8]>
+    ensures { option_map (λ near. near.now) result ≡ near_among kind_words word.now }
+{
     near(&KINDS, word)
 }
 
-/// The name of a refusal that is near to a word.
-pub fn near_refusal(word: &[u8]) -> Option<&'static [u8]> {
+/// The name of a refusal that is near to a word, the first such; `None` where none is.
+pub fn near_refusal(word: &[u8]) -> Option<&'static [u8]>
+    ensures { option_map (λ near. near.now) result ≡ near_among refusal_names word.now }
+{
     near(&REFUSAL_NAMES, word)
 }
 
 /// The first of some words that is near to a word.
-fn near(words: &[&'static [u8]], word: &[u8]) -> Option<&'static [u8]> {
+fn near(words: &[&'static [u8]], word: &[u8]) -> Option<&'static [u8]>
+    ensures { option_map (λ near. near.now) result ≡ near_among (map (λ reserved. reserved.now) words.now) word.now }
+{
     for reserved in words {
         if is_near(reserved, word) {
             return Some(*reserved);

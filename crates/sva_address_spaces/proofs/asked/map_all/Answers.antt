@@ -37,3 +37,8 @@ loop-number-preserved c =
     (subst (λ (x : Bool). MapsNew c.loop-number.space c.loop-number.pool page x c.map_new.new.space c.map_new.new.pool)
     (c.is_write_asked.ensures ∙ sym (any_seen (λ ask. ask.page == page && ask.write) c.args.asks.now)) c.in_default.ensures.ok)
     c.in_default.ensures.rising
+
+pub returns-in-Err-clause-none : goal.returns-in-Err-clause-none
+returns-in-Err-clause-none c none =
+    let within : c.loop-number.number < length c.new_pages-pages.result.items = omega arith in
+    absurd (omega (arith, within, ap length (c.new_pages-pages.ensures ∙ none)))

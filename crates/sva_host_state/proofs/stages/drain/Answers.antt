@@ -1,10 +1,10 @@
-use Rattle.std.proofs.Common.{ap, refl, subst, ◌∙◌, ℕ, Bool}
-use Rattle.std.specs.Prelude.{Some}
+use Rattle.std.proofs.Common.{◌≡◌, ap, refl, sym, subst, ◌∙◌, ℕ, Bool}
+use Rattle.std.specs.Prelude.{Some, Ok, Err, true, false}
 use Rattle.sva_model.specs.Wire.StageWire.{StoppingWire, DrainingWire}
-use Rattle.sva_pasid.specs.States.{Stop, Wait}
+use Rattle.sva_pasid.specs.States.{Stop, Wait, drain_of}
 use Rattle.sva_pasid.specs.declared.stages.Stage.TheVariants.{Stopping, Draining}
-use Rattle.sva_host_state.specs.Stages.{MovesTo}
-use Rattle.sva_host_state.proofs.Moving.{moves_to, seen_here}
+use Rattle.sva_host_state.specs.Stages.{MovesTo, stage_drained}
+use Rattle.sva_host_state.proofs.Moving.{moves_to, seen_here, goes_on, drain_given}
 use Rattle.sva_host_state.proofs.stages.drain.Goals as goal
 
 pub returns-in-Ok-clause-noted : goal.returns-in-Ok-clause-noted
@@ -34,3 +34,19 @@ returns-in-Err-clause-moves c =
           (moves_to c.args.binding c.args.bindings.now c.take.new.self c.put-in-Err.new.self (Stopping c.in-Err.stopping) c.take.ensures.places
           c.put-in-Err.ensures),
     )
+
+pub returns-in-Ok-clause-exactly : goal.returns-in-Ok-clause-exactly
+returns-in-Ok-clause-exactly c own stands =
+    let given : Ok c.in-Ok.draining ≡ drain_of own c.args.cookie =
+    drain_given own c.in-Some-Stopping.stopping c.args.cookie c.args.binding c.args.bindings.now _ (Ok c.in-Ok.draining) c.take.ensures.stage
+    (c.in-Some-Stopping.is ∙ ap Some c.in-Some-Stopping.field-0-is) (sym c.in-Ok.is ∙ c.drain.ensures.value) stands in
+    goes_on stage_drained (Ok c.in-Ok.draining) (drain_of own c.args.cookie) c.args.binding true c.args.bindings.now c.take.new.self
+    c.put.new.self given refl c.take.ensures.places c.put.ensures
+
+pub returns-in-Err-clause-exactly : goal.returns-in-Err-clause-exactly
+returns-in-Err-clause-exactly c own stands =
+    let given : Err c.in-Err.stopping ≡ drain_of own c.args.cookie =
+    drain_given own c.in-Some-Stopping.stopping c.args.cookie c.args.binding c.args.bindings.now _ (Err c.in-Err.stopping) c.take.ensures.stage
+    (c.in-Some-Stopping.is ∙ ap Some c.in-Some-Stopping.field-0-is) (sym c.in-Err.is ∙ c.drain.ensures.value) stands in
+    goes_on stage_drained (Err c.in-Err.stopping) (drain_of own c.args.cookie) c.args.binding false c.args.bindings.now c.take.new.self
+    c.put-in-Err.new.self given refl c.take.ensures.places c.put-in-Err.ensures

@@ -28,3 +28,6 @@ returns-clause-write g c is =
 pub returns-clause-memory : goal.returns-clause-memory
 returns-clause-memory g c is =
     ends_for_memory _ c.args.writer.now c.check_text.new.writer c.check_text.result c.in_ok-text.ensures.end.0 c.requires.writer.1 c.check_text.ensures.told is
+
+pub returns-clause-whole : goal.returns-clause-whole
+returns-clause-whole g c is = c.in_ok-text.ensures.end.1

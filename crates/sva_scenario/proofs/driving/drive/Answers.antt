@@ -30,3 +30,6 @@ pub returns-clause-memory : goal.returns-clause-memory
 returns-clause-memory g c is =
     ends_for_memory _ c.args.writer.now c.report_text.new.writer c.report_text.result c.in_ok-text.ensures.end.0 c.requires.writer.1
     c.report_text.ensures.told is
+
+pub returns-clause-whole : goal.returns-clause-whole
+returns-clause-whole g c is = c.in_ok-text.ensures.end.1

@@ -91,3 +91,15 @@ returns-clause-err c =
     (λ kept. none_seen (spaces_in c.self.inside) c.args.space (pages_seen live.space) (pages_seen c.map_all.new.space) _ (places_seen c.map_all.new.pool)
     (one_changed c.self.inside c.args.space c.in-Some.place live c.map_all.new.space at) kept.0 kept.1 ∙ c.self.view_is)
     c.map_all.ensures.err
+
+pub returns-clause-none : goal.returns-clause-none
+returns-clause-none c none =
+    let live = c.index_mut.result.now in
+    let at = space_there c.self.inside c.args.space c.in-Some.place live _ c.self.invariant c.in-Some.ensures c.deref.ensures.value
+    c.index_mut.ensures.value in
+    let asks = asks_seen c.args.asks.now in
+    let same : new_among (pages_seen live.space) asks ≡ new_pages c.args.self.now c.args.space asks =
+    ap (λ (o : Option (List PageWire)). new_among (or_no_pages o) asks)
+    (sym (pages_of-at c.self.inside.spaces.items c.args.space c.in-Some.place live at.there at.is_number at.once))
+    ∙ ap (λ (m : AddressSpacesSeen). new_pages m c.args.space asks) c.self.view_is in
+    c.map_all.ensures.none (same ∙ none)

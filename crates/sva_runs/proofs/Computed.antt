@@ -4,7 +4,7 @@ use Rattle.sva_model.specs.Words.{lowest, any_below, all_below, count_below, sel
 use Rattle.sva_labels.specs.Host.{replies_of}
 use Rattle.sva_runs.specs.ByLabels.{counts_after, TranslationsByLabels, InvalidationsByLabels, ResetsByLabels, PageRequestsByLabels, FinalRulesByLabels}
 use Rattle.sva_runs.specs.ByLabels.{DeliveriesByLabels, RefusalsByLabels, ReadingsByLabels, LimitsByLabels, BoundariesByLabels, NamesByLabels}
-use Rattle.sva_runs.specs.ByLabels.{WrongRulesByLabels, WhatStaysByLabels}
+use Rattle.sva_runs.specs.ByLabels.{WrongRulesByLabels, WhatStaysByLabels, OwnCausesByLabels, KeptInResetByLabels}
 
 pub translations : TranslationsByLabels
 unfolding lowest any_below all_below count_below select tabulate replies_of counts_after
@@ -112,6 +112,7 @@ refusals =
       no_number_at_all = (refl, refl);
       bindings_spent = (refl, refl);
       cookies_of_two_units = (refl, refl);
+      cookies_of_a_range = (refl, refl);
       cookies_while_draining = (refl, refl);
       pump_without_numbers = (refl, refl);
       pump_without_tags_and_numbers = (refl, refl);
@@ -252,4 +253,31 @@ what_stays =
       evict_of_one_page = (refl, refl);
       no_translation_beside_an_older = (refl, refl);
       cache_full_of_two = (refl, refl);
+    }
+
+pub own_causes : OwnCausesByLabels
+unfolding lowest any_below all_below count_below select tabulate replies_of counts_after
+own_causes =
+    record {
+      full_queue_of_ranges = (refl, refl);
+      open_beside_a_reset = (refl, refl);
+      quiet_beside_a_reset = (refl, refl);
+      read_beside_a_write = (refl, refl);
+      lost_beside_a_full_queue = (refl, refl);
+      drop_beside_a_job = (refl, refl);
+      quit_beside_a_stale_group = (refl, refl);
+      room_at_the_second_unit = (refl, refl);
+      credit_of_a_dropped_request = (refl, refl);
+      bearers_at_three_endpoints = (refl, refl);
+      bearer_by_number = (refl, refl);
+      greatest_pasid = (refl, refl);
+    }
+
+pub kept_in_reset : KeptInResetByLabels
+unfolding lowest any_below all_below count_below select tabulate replies_of counts_after
+kept_in_reset =
+    record {
+      busy_unit = (refl, refl);
+      told_to_stop = (refl, refl);
+      failed_group = (refl, refl);
     }

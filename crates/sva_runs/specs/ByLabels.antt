@@ -1,6 +1,6 @@
 -- Runs that are worked out, by labels: from what a host keeps before the first step, the steps by labels give the answers that
 -- stand in each row of the definitions, and leave as many frames free, mapped and withheld as stand at its end.
-use Rattle.std.specs.Prelude.{◌≡◌, ℕ, Bool, true, false, List, [], ◌∷◌, map}
+use Rattle.std.specs.Prelude.{◌≡◌, ℕ, Bool, true, false, List, [], ◌∷◌, ◌++◌, map}
 use Rattle.std.specs.List.{count_by}
 use Rattle.sva_step.specs.declared.limits.Config.{Config}
 use Rattle.sva_step.specs.declared.steps.Step.{Step}
@@ -27,6 +27,8 @@ use Rattle.sva_runs.specs.RunsOfNumbersApart as of_numbers_apart
 use Rattle.sva_runs.specs.RunsOfWrongRules as of_wrong_rules
 use Rattle.sva_runs.specs.RunsOfEarlyReuse as of_early_reuse
 use Rattle.sva_runs.specs.RunsOfWhatStays as of_what_stays
+use Rattle.sva_runs.specs.RunsOfOwnCauses as of_own_causes
+use Rattle.sva_runs.specs.WiresInReset as of_wires
 use Rattle.sva_labels.specs.Finding.{is_free}
 use Rattle.sva_labels.specs.Host.{first_wire, next_of, replies_of}
 
@@ -141,6 +143,7 @@ pub record RefusalsByLabels : Type 0 where
   pub no_number_at_all : IsRunByLabels (config 1 1 1 9223372036854775808) of_spent_numbers.no_number_at_all 1 0 0
   pub bindings_spent : IsRunByLabels (config 2 1 1 9223372036854775807) of_spent_numbers.bindings_spent 1 0 0
   pub cookies_of_two_units : IsRunByLabels (config 2 3 1 9223372036854775805) of_spent_numbers.cookies_of_two_units 0 1 2
+  pub cookies_of_a_range : IsRunByLabels (config 2 2 1 9223372036854775805) of_spent_numbers.cookies_of_a_range 0 1 1
   pub cookies_while_draining : IsRunByLabels (config 1 2 1 9223372036854775805) of_spent_numbers.cookies_while_draining 0 0 2
   pub pump_without_numbers : IsRunByLabels (config 1 1 1 9223372036854775805) of_spent_numbers.pump_without_numbers 1 0 0
   pub pump_without_tags_and_numbers : IsRunByLabels (config 1 33 1 9223372036854775775) of_spent_numbers.pump_without_tags_and_numbers 0 0 33
@@ -263,3 +266,25 @@ pub record WhatStaysByLabels : Type 0 where
   pub evict_of_one_page : IsRunByLabels (config 1 2 1 0) of_what_stays.evict_of_one_page 0 2 0
   pub no_translation_beside_an_older : IsRunByLabels (config 1 1 1 0) of_what_stays.no_translation_beside_an_older 0 0 1
   pub cache_full_of_two : IsRunByLabels (config 1 65 1 0) of_what_stays.cache_full_of_two 0 65 0
+
+-- What isn't refused for what another has.
+pub record OwnCausesByLabels : Type 0 where
+  pub full_queue_of_ranges : IsRunByLabels (config 1 33 1 9223372036854775776) of_own_causes.full_queue_of_ranges 0 1 32
+  pub open_beside_a_reset : IsRunByLabels (config 2 1 1 0) of_own_causes.open_beside_a_reset 1 0 0
+  pub quiet_beside_a_reset : IsRunByLabels (config 2 1 1 0) of_own_causes.quiet_beside_a_reset 1 0 0
+  pub read_beside_a_write : IsRunByLabels (config 1 2 1 0) of_own_causes.read_beside_a_write 0 2 0
+  pub lost_beside_a_full_queue : IsRunByLabels (config 1 37 1 0) of_own_causes.lost_beside_a_full_queue 4 1 32
+  pub drop_beside_a_job : IsRunByLabels (config 1 1 1 0) of_own_causes.drop_beside_a_job 1 0 0
+  pub quit_beside_a_stale_group : IsRunByLabels (config 1 1 1 0) of_own_causes.quit_beside_a_stale_group 1 0 0
+  pub room_at_the_second_unit : IsRunByLabels (config 2 33 1 0) of_own_causes.room_at_the_second_unit 0 1 32
+  pub credit_of_a_dropped_request : IsRunByLabels (config 1 1 1 0) of_own_causes.credit_of_a_dropped_request 1 0 0
+  pub bearers_at_three_endpoints : IsRunByLabels (config 3 1 1 0) of_own_causes.bearers_at_three_endpoints 1 0 0
+  pub bearer_by_number : IsRunByLabels (config 1 1 1 5) of_own_causes.bearer_by_number 1 0 0
+  pub greatest_pasid : IsRunByLabels (config 1 1 1 0) of_own_causes.greatest_pasid 1 0 0
+
+-- The runs that are read for what a host keeps of a reset, a stale group and a disabled interface.
+pub record KeptInResetByLabels : Type 0 where
+  pub busy_unit :
+      IsRunByLabels (config 1 2 1 0) (of_wires.busy_unit ++ of_wires.reset_step ++ of_wires.own_reset_of_it ++ of_wires.end_of_it) 2 0 0
+  pub told_to_stop : IsRunByLabels (config 1 1 1 0) (of_wires.told_to_stop ++ of_wires.quit_then) 1 0 0
+  pub failed_group : IsRunByLabels (config 1 1 1 0) of_wires.failed_group 1 0 0

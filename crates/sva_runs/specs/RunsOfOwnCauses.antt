@@ -153,6 +153,65 @@ drop_beside_a_job =
 abbrev pub DropBesideAJob : Type 0
 DropBesideAJob = IsRun (config 1 1 1 0) drop_beside_a_job 1 0 0
 
+-- a PASID is quit beside a group that the quit of another one has made stale, and that still awaits its response
+abbrev pub quit_beside_a_stale_group : List Line
+quit_beside_a_stale_group =
+    says step.Space (answer.Space 0)
+    ∷ says step.Space (answer.Space 1)
+    ∷ says (step.Bind 0 0) (answer.Binding 0 1)
+    ∷ says (step.Bind 0 1) (answer.Binding 1 2)
+    ∷ says (step.Deliver 0) answer.Started
+    ∷ says (step.Deliver 1) answer.Started
+    ∷ says (step.Fault 0 1 32 true false None true) (answer.Group 0)
+    ∷ says (step.Unbind 0) answer.Stopping
+    ∷ says (step.Unbind 1) answer.Stopping
+    ∷ says (step.Deliver 3) answer.Stopping
+    ∷ says (step.Deliver 4) answer.Stopping
+    ∷ says (step.Quit 0 1) answer.Marker
+    ∷ says (step.Quit 0 2) answer.Marker
+    ∷ []
+
+abbrev pub QuitBesideAStaleGroup : Type 0
+QuitBesideAStaleGroup = IsRun (config 1 1 1 0) quit_beside_a_stale_group 1 0 0
+
+-- a space is bound at two endpoints, and the queue of the second one's unit is full: there is no room for an unmapping, though there is
+-- at the first one
+abbrev pub room_at_the_second_unit : List Line
+room_at_the_second_unit =
+    (says step.Space (answer.Space 0)
+    ∷ says step.Space (answer.Space 1)
+    ∷ says (step.Map 0 16 false) (answer.Frame 0)
+    ∷ [])
+    ++ lines 32 (λ k. says (step.Map 1 (16 + k) false) (answer.Frame (1 + k)))
+    ++ (says (step.Bind 0 0) (answer.Binding 0 1)
+    ∷ says (step.Bind 1 0) (answer.Binding 1 1)
+    ∷ says (step.Bind 1 1) (answer.Binding 2 2)
+    ∷ [])
+    ++ lines 32 (λ k. says (step.UnmapRange 1 (16 + k) 0) (answer.RangeWithheld 1))
+    ++ (refused (step.UnmapRange 0 16 0) refusal.QueueFull
+    ∷ refused (step.Unmap 0 16 1) refusal.QueueFull
+    ∷ [])
+
+abbrev pub RoomAtTheSecondUnit : Type 0
+RoomAtTheSecondUnit = IsRun (config 2 33 1 0) room_at_the_second_unit 0 1 32
+
+-- a page request that a unit in reset drops is outstanding until the endpoint resets itself
+abbrev pub credit_of_a_dropped_request : List Line
+credit_of_a_dropped_request =
+    (says step.Space (answer.Space 0)
+    ∷ says (step.Bind 0 0) (answer.Binding 0 1)
+    ∷ says (step.Deliver 0) answer.Started
+    ∷ says (step.Reset 0) answer.Resetting
+    ∷ [])
+    ++ lines 32 (λ k. says (step.Fault 0 1 16 true false None true) (answer.Group k))
+    ++ (refused (step.Fault 0 1 16 true false None true) refusal.NoCredit
+    ∷ says (step.Deliver 2) answer.Dropped
+    ∷ refused (step.Fault 0 1 16 true false None true) refusal.NoCredit
+    ∷ [])
+
+abbrev pub CreditOfADroppedRequest : Type 0
+CreditOfADroppedRequest = IsRun (config 1 1 1 0) credit_of_a_dropped_request 1 0 0
+
 -- Who bears a PASID: each unreleased binding counts, in whatever stage and at whatever endpoint.
 abbrev pub bearers_at_three_endpoints : List Line
 bearers_at_three_endpoints =

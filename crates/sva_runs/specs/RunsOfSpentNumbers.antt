@@ -78,6 +78,21 @@ cookies_of_two_units =
 abbrev pub CookiesOfTwoUnits : Type 0
 CookiesOfTwoUnits = IsRun (config 2 3 1 9223372036854775805) cookies_of_two_units 0 1 2
 
+-- so does an unmapping of a range
+abbrev pub cookies_of_a_range : List Line
+cookies_of_a_range =
+    says step.Space (answer.Space 9223372036854775805)
+    ∷ says (step.Map 9223372036854775805 16 false) (answer.Frame 0)
+    ∷ says (step.Map 9223372036854775805 17 false) (answer.Frame 1)
+    ∷ says (step.Bind 0 9223372036854775805) (answer.Binding 9223372036854775805 1)
+    ∷ says (step.Bind 1 9223372036854775805) (answer.Binding 9223372036854775806 1)
+    ∷ says (step.UnmapRange 9223372036854775805 16 0) (answer.RangeWithheld 1)
+    ∷ refused (step.UnmapRange 9223372036854775805 17 0) refusal.NumbersSpent
+    ∷ []
+
+abbrev pub CookiesOfARange : Type 0
+CookiesOfARange = IsRun (config 2 2 1 9223372036854775805) cookies_of_a_range 0 1 1
+
 -- a draining binding needs a cookie for its second wait
 abbrev pub cookies_while_draining : List Line
 cookies_while_draining =

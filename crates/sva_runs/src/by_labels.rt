@@ -4,6 +4,7 @@ ghost use Rattle.sva_runs.specs.ByLabels.{TranslationsByLabels, InvalidationsByL
 ghost use Rattle.sva_runs.specs.ByLabels.{PageRequestsByLabels, FinalRulesByLabels, DeliveriesByLabels};
 ghost use Rattle.sva_runs.specs.ByLabels.{RefusalsByLabels, ReadingsByLabels, LimitsByLabels, BoundariesByLabels};
 ghost use Rattle.sva_runs.specs.ByLabels.{NamesByLabels, WrongRulesByLabels, WhatStaysByLabels};
+ghost use Rattle.sva_runs.specs.ByLabels.{OwnCausesByLabels, KeptInResetByLabels};
 
 /// Runs that are worked out: the steps by labels, one after another from what a host keeps before the first step, give the
 /// answers that stand in the runs, and leave as many frames free, mapped and withheld as stand at their ends.
@@ -21,4 +22,6 @@ pub fn runs_by_labels()
     ensures names { NamesByLabels }
     ensures wrong_rules { WrongRulesByLabels }
     ensures what_stays { WhatStaysByLabels }
+    ensures own_causes { OwnCausesByLabels }
+    ensures kept_in_reset { KeptInResetByLabels }
 {}

@@ -12,7 +12,7 @@ ghost use Rattle.sva_runs.specs.RunsOfRefusals.{CausesOfEndUseAndEvict, CausesOf
 ghost use Rattle.sva_runs.specs.RunsOfRefusals.{CausesOfFinish, CausesOfQuit, CausesOfDeliver, CausesOfLook};
 ghost use Rattle.sva_runs.specs.RunsOfFullSpaces.{FullSpaceReached, FullSpaceWithoutFrames, FullSpaceWithoutNumbers};
 ghost use Rattle.sva_runs.specs.RunsOfSpentNumbers.{UnbindWithoutNumbers, QuitWithoutNumbers, NoNumberAtAll};
-ghost use Rattle.sva_runs.specs.RunsOfSpentNumbers.{BindingsSpent, CookiesOfTwoUnits, CookiesWhileDraining};
+ghost use Rattle.sva_runs.specs.RunsOfSpentNumbers.{BindingsSpent, CookiesOfTwoUnits, CookiesOfARange, CookiesWhileDraining};
 ghost use Rattle.sva_runs.specs.RunsOfSpentNumbers.{PumpWithoutNumbers, PumpWithoutTagsAndNumbers};
 ghost use Rattle.sva_runs.specs.RunsOfSpentNumbers.{VerdictsWithoutNumbers, DroppedWithoutNumbers};
 ghost use Rattle.sva_runs.specs.RunsOfSpentNumbers.{LostWithoutNumbers};
@@ -67,7 +67,8 @@ ghost use Rattle.sva_runs.specs.RunsOfWhatStays.{OneOfTwoAnswered, UseBehindAnIn
 ghost use Rattle.sva_runs.specs.RunsOfWhatStays.{GroupFiledInPart, SecondGroupOfAnIndex, NothingElseIsOrdered};
 ghost use Rattle.sva_runs.specs.RunsOfOwnCauses.{FullQueueOfRanges, OpenBesideAReset, QuietBesideAReset};
 ghost use Rattle.sva_runs.specs.RunsOfOwnCauses.{SuccessOfAFullSpace, ReadBesideAWrite, LostBesideAFullQueue};
-ghost use Rattle.sva_runs.specs.RunsOfOwnCauses.{DropBesideAJob, BearersAtThreeEndpoints, BearerByNumber, GreatestPasid};
+ghost use Rattle.sva_runs.specs.RunsOfOwnCauses.{DropBesideAJob, QuitBesideAStaleGroup, RoomAtTheSecondUnit, CreditOfADroppedRequest};
+ghost use Rattle.sva_runs.specs.RunsOfOwnCauses.{BearersAtThreeEndpoints, BearerByNumber, GreatestPasid};
 ghost use Rattle.sva_runs.specs.WiresInReset.{AnswersOfBusyUnit, UnitInReset, EndpointReset, ResetEnded};
 ghost use Rattle.sva_runs.specs.WiresInReset.{AnswersOfToldToStop, EndingAndStale, AnswersOfFailedGroup, DisabledInterface};
 
@@ -114,6 +115,7 @@ pub fn refusals()
     ensures no_number_at_all { NoNumberAtAll }
     ensures bindings_spent { BindingsSpent }
     ensures cookies_of_two_units { CookiesOfTwoUnits }
+    ensures cookies_of_a_range { CookiesOfARange }
     ensures cookies_while_draining { CookiesWhileDraining }
     ensures pump_without_numbers { PumpWithoutNumbers }
     ensures pump_without_tags_and_numbers { PumpWithoutTagsAndNumbers }
@@ -275,8 +277,8 @@ pub fn what_stays()
     ensures nothing_else_is_ordered { NothingElseIsOrdered }
 {}
 
-/// What isn't refused: a step for what another endpoint, space or binding has, or for what its own has besides; and who
-/// bears a PASID.
+/// What isn't refused: a step for what another endpoint, space or binding has, or for what its own has besides; what is, for
+/// the second of two units, and for page requests that a unit in reset drops; and who bears a PASID.
 pub fn own_causes()
     ensures full_queue_of_ranges { FullQueueOfRanges }
     ensures open_beside_a_reset { OpenBesideAReset }
@@ -285,6 +287,9 @@ pub fn own_causes()
     ensures read_beside_a_write { ReadBesideAWrite }
     ensures lost_beside_a_full_queue { LostBesideAFullQueue }
     ensures drop_beside_a_job { DropBesideAJob }
+    ensures quit_beside_a_stale_group { QuitBesideAStaleGroup }
+    ensures room_at_the_second_unit { RoomAtTheSecondUnit }
+    ensures credit_of_a_dropped_request { CreditOfADroppedRequest }
     ensures bearers_at_three_endpoints { BearersAtThreeEndpoints }
     ensures bearer_by_number { BearerByNumber }
     ensures greatest_pasid { GreatestPasid }

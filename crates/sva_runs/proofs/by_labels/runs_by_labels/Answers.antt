@@ -17,4 +17,6 @@ returns c =
       names = computed.names;
       wrong_rules = computed.wrong_rules;
       what_stays = computed.what_stays;
+      own_causes = computed.own_causes;
+      kept_in_reset = computed.kept_in_reset;
     }

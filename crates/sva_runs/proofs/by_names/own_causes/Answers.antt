@@ -31,6 +31,18 @@ pub returns-clause-drop_beside_a_job : goal.returns-clause-drop_beside_a_job
 unfolding lowest any_below all_below count_below select tabulate replies
 returns-clause-drop_beside_a_job c = (refl, refl)
 
+pub returns-clause-quit_beside_a_stale_group : goal.returns-clause-quit_beside_a_stale_group
+unfolding lowest any_below all_below count_below select tabulate replies
+returns-clause-quit_beside_a_stale_group c = (refl, refl)
+
+pub returns-clause-room_at_the_second_unit : goal.returns-clause-room_at_the_second_unit
+unfolding lowest any_below all_below count_below select tabulate replies
+returns-clause-room_at_the_second_unit c = (refl, refl)
+
+pub returns-clause-credit_of_a_dropped_request : goal.returns-clause-credit_of_a_dropped_request
+unfolding lowest any_below all_below count_below select tabulate replies
+returns-clause-credit_of_a_dropped_request c = (refl, refl)
+
 pub returns-clause-bearers_at_three_endpoints : goal.returns-clause-bearers_at_three_endpoints
 unfolding lowest any_below all_below count_below select tabulate replies
 returns-clause-bearers_at_three_endpoints c = (refl, refl)

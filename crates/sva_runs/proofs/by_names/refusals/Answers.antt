@@ -119,6 +119,10 @@ pub returns-clause-cookies_of_two_units : goal.returns-clause-cookies_of_two_uni
 unfolding lowest any_below all_below count_below select tabulate replies
 returns-clause-cookies_of_two_units c = (refl, refl)
 
+pub returns-clause-cookies_of_a_range : goal.returns-clause-cookies_of_a_range
+unfolding lowest any_below all_below count_below select tabulate replies
+returns-clause-cookies_of_a_range c = (refl, refl)
+
 pub returns-clause-cookies_while_draining : goal.returns-clause-cookies_while_draining
 unfolding lowest any_below all_below count_below select tabulate replies
 returns-clause-cookies_while_draining c = (refl, refl)

@@ -190,6 +190,8 @@ room_at_the_second_unit =
     ++ lines 32 (λ k. says (step.UnmapRange 1 (16 + k) 0) (answer.RangeWithheld 1))
     ++ (refused (step.UnmapRange 0 16 0) refusal.QueueFull
     ∷ refused (step.Unmap 0 16 1) refusal.QueueFull
+    ∷ says (step.Pump 1) (answer.Itag 0)
+    ∷ refused (step.UnmapRange 0 16 0) refusal.QueueFull  -- one place is free
     ∷ [])
 
 abbrev pub RoomAtTheSecondUnit : Type 0

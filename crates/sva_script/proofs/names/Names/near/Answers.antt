@@ -25,16 +25,16 @@ returns-then-is_near c =
 
 pub loop-place-preserved : goal.loop-place-preserved
 loop-place-preserved c = elim c.match-get_index.branch [
-    | in-Some+else-is_near w ↦
-        (let word = c.args.word.now in
-        let place = c.loop-place.place in
-        let far : is_near w.in-Some.name.now.items word ≡ false =
-        ap (λ (name : List ℕ). is_near name word) (sym w.as_slice.ensures.value) ∙ sym w.is_near.ensures ∙ w.if-is_near.false in
-        sym (ap (λ t. cond t (Some w.in-Some.name.now.items) (near_among (drop (place + 1) (names_of c.args.self.now)) word)) far)
-        ∙ sym (ap (λ (known : Known). near_among (drop place (names_of known)) word) (sym c.self.view_is)
-        ∙ kept_next (λ key. key.items) c.self.inside.given.entries place _ word (sym w.in-Some.ensures.entry)
-        ∙ ap (λ (known : Known). cond (is_near w.in-Some.name.now.items word) (Some w.in-Some.name.now.items)
-        (near_among (drop (place + 1) (names_of known)) word)) c.self.view_is)
-        ∙ c.loop-place.invariant)
-    | in_default w ↦ absurd (search rules)
-  ]
+  | in-Some+else-is_near w ↦
+      (let word = c.args.word.now in
+      let place = c.loop-place.place in
+      let far : is_near w.in-Some.name.now.items word ≡ false =
+      ap (λ (name : List ℕ). is_near name word) (sym w.as_slice.ensures.value) ∙ sym w.is_near.ensures ∙ w.if-is_near.false in
+      sym (ap (λ t. cond t (Some w.in-Some.name.now.items) (near_among (drop (place + 1) (names_of c.args.self.now)) word)) far)
+      ∙ sym (ap (λ (known : Known). near_among (drop place (names_of known)) word) (sym c.self.view_is)
+      ∙ kept_next (λ key. key.items) c.self.inside.given.entries place _ word (sym w.in-Some.ensures.entry)
+      ∙ ap (λ (known : Known). cond (is_near w.in-Some.name.now.items word) (Some w.in-Some.name.now.items)
+      (near_among (drop (place + 1) (names_of known)) word)) c.self.view_is)
+      ∙ c.loop-place.invariant)
+  | in_default w ↦ absurd (search rules)
+]

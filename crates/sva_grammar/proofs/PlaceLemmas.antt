@@ -24,7 +24,7 @@ found_at : (t : Bool) (p end : ℕ) → cond t (Some p) None ≡ Some end → p 
 found_at true p end h = cc
 found_at false p end h = absurd (cc)
 
-not_found : (t : Bool) (p : ℕ) → cond t (Some p) None ≡ None → t ≡ false
+pub not_found : (t : Bool) (p : ℕ) → cond t (Some p) None ≡ None → t ≡ false
 not_found true p h = absurd (cc)
 not_found false p h = refl
 

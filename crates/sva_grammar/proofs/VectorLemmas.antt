@@ -126,7 +126,7 @@ vectors_are_hexadecimal word v = (vector_word word v, λ h. ap vector h.1 ∙ ve
 -- ---- What the code reads
 
 -- digits behind a number write no less than it
-value_after-ge : (value : ℕ) (digits : List ℕ) → value ≤ digits_value_after 16 value digits
+pub value_after-ge : (value : ℕ) (digits : List ℕ) → value ≤ digits_value_after 16 value digits
 value_after-ge value [] = omega arith
 value_after-ge value (digit ∷ digits) = let more = value_after-ge (value * 16 + digit_value digit) digits in omega (arith, more)
 

@@ -1,5 +1,5 @@
 -- Lemmas on the report of some steps as it is written, line by line.
-use Rattle.std.proofs.Common.{◌≡◌, ◌<◌, ◌≤◌, ◌^◌, ◌∙◌, ap, sym, subst, arith, ◌*◌, ℕ, suc, List, [], ◌∷◌, ◌++◌, append_assoc, length, get_or, refl, Bool}
+use Rattle.std.proofs.Common.{◌≡◌, ◌<◌, ◌≤◌, ◌^◌, ◌∙◌, ap, sym, subst, arith, ◌*◌, ℕ, suc, List, [], ◌∷◌, ◌++◌, append-nil, append_assoc, length, get_or, refl, Bool}
 use Rattle.std.proofs.Common.{true, false, Option, Result, Ok, Err}
 use Rattle.std.specs.Prelude.{codes, decimal}
 use Rattle.std.specs.Io.KnownBytes.{Appends}
@@ -24,7 +24,7 @@ use Rattle.sva_model.specs.Wire.{Wire, wire}
 use Rattle.sva_core.specs.Reached.{FollowsAt, Follows}
 use Rattle.sva_scenario.specs.declared.streams.DriveFault.{DriveFault}
 use Rattle.sva_scenario.specs.Report.{ended, reply_text, counts_text, steps_report}
-use Rattle.sva_scenario.specs.Streams.{AppendsPrefix, Writes}
+use Rattle.sva_scenario.specs.Streams.{AppendsPrefix, Holds, Writes}
 use Rattle.sva_scenario.proofs.StreamLemmas.{AppendsPrefix-after, AppendsPrefix-longer}
 
 -- ---- One line after another
@@ -52,32 +52,46 @@ followed w step (Ok a) after ne h = h
 followed w step (Err OutOfMemory) after ne h = absurd (ne refl)
 followed w step (Err _) after ne h = h
 
--- what the host keeps is the world's after the steps that were taken; what is written, and the report of the steps that are
--- left, are the whole
-pub record Reporting (config : Config) (seen : Wire) (left : List Step) (whole : List ℕ) (old now : Option (List ℕ)) : Type 0 where
+-- what the host keeps is the world's after the steps that were taken; what is written, what is held back, and the report of the steps that
+-- are left, are the whole
+pub record Reporting (config : Config) (seen : Wire) (left : List Step) (whole : List ℕ) (old now : Option (List ℕ)) (held : List ℕ) : Type 0 where
   pub fits : Fits config
   pub taken : List Step
   pub is_seen : seen ≡ wire (world_after PerSpace config taken)
   pub written : List ℕ
   pub appended : Appends old now written
-  pub rest : written ++ steps_report (world_after PerSpace config taken) left ≡ whole
+  pub rest : (written ++ held) ++ steps_report (world_after PerSpace config taken) left ≡ whole
 
-pub reporting_start : (config : Config) (taken steps : List Step) (seen : Wire) (known : Option (List ℕ)) → Fits config
+pub reporting_start : (config : Config) (taken steps : List Step) (seen : Wire) (known : Option (List ℕ)) (held : List ℕ) → held ≡ [] → Fits config
     → seen ≡ wire (world_after PerSpace config taken)
-    → Reporting config seen steps (steps_report (world_after PerSpace config taken) steps) known known
-reporting_start config taken steps seen known f e =
-    record { fits = f; taken = taken; is_seen = e; written = []; appended = Appends-nil known; rest = refl }
+    → Reporting config seen steps (steps_report (world_after PerSpace config taken) steps) known known held
+reporting_start config taken steps seen known held none f e =
+    record {
+      fits = f;
+      taken = taken;
+      is_seen = e;
+      written = [];
+      appended = Appends-nil known;
+      rest = ap (λ l. l ++ steps_report (world_after PerSpace config taken) steps) none;
+    }
 
 -- the line of the next step, and the report of those behind it
 line_and_rest : (w : World) (step : Step) (left : List Step) (result : Reply) → result ≡ reply w step
     → ended (reply_text result) ++ steps_report (next w step) left ≡ steps_report w (step ∷ left)
 line_and_rest w step left result e = ap (λ r. ended (reply_text r) ++ steps_report (next w step) left) e ∙ sym (steps_report-step w step left)
 
+-- what is sent and what is left of a text behind what was held back
+moved : (written sent left held text rest : List ℕ) → sent ++ left ≡ held ++ text
+    → ((written ++ sent) ++ left) ++ rest ≡ (written ++ held) ++ (text ++ rest)
+moved written sent left held text rest is =
+    ap (λ l. l ++ rest) (append_assoc written sent left ∙ ap (λ l. written ++ l) is ∙ sym (append_assoc written held text))
+    ∙ append_assoc (written ++ held) text rest
+
 pub reporting_step : (config : Config) (before after : Wire) (step : Step) (left : List Step) (whole : List ℕ) (old now new : Option (List ℕ))
-    (result : Reply)
-    → Reporting config before (step ∷ left) whole old now → (result ≡ Err OutOfMemory → ⊥) → Follows before step result after
-    → Appends now new (ended (reply_text result)) → Reporting config after left whole old new
-reporting_step config before after step left whole old now new result r ne follows appended =
+    (held more : List ℕ) (result : Reply)
+    → Reporting config before (step ∷ left) whole old now held → (result ≡ Err OutOfMemory → ⊥) → Follows before step result after
+    → Holds now new held more (ended (reply_text result)) (Ok (tt {0})) → Reporting config after left whole old new more
+reporting_step config before after step left whole old now new held more result r ne follows holds =
     let w = world_after PerSpace config r.taken in
     let one = run_one _ r.taken step in
     let is = followed w step result after ne (follows config r.taken r.fits r.is_seen) in
@@ -85,38 +99,30 @@ reporting_step config before after step left whole old now new result r ne follo
       fits = r.fits;
       taken = r.taken ++ step ∷ [];
       is_seen = is.1 ∙ ap wire (sym one);
-      written = r.written ++ ended (reply_text result);
-      appended = Appends-trans old now new r.written (ended (reply_text result)) r.appended appended;
+      written = r.written ++ holds.0;
+      appended = Appends-trans old now new r.written holds.0 r.appended holds.1;
       rest =
-          append_assoc r.written (ended (reply_text result)) _
-          ∙ ap (λ v. r.written ++ (ended (reply_text result) ++ steps_report v left)) one
-          ∙ ap (λ l. r.written ++ l) (line_and_rest w step left result is.0)
+          moved r.written holds.0 more held (ended (reply_text result)) _ holds.2
+          ∙ ap (λ v. (r.written ++ held) ++ (ended (reply_text result) ++ steps_report v left)) one
+          ∙ ap (λ l. (r.written ++ held) ++ l) (line_and_rest w step left result is.0)
           ∙ r.rest;
     }
 
--- a prefix of the next line is written, and so a prefix of the whole
-pub reporting_cut : (config : Config) (before after : Wire) (step : Step) (left : List Step) (whole : List ℕ) (old now new : Option (List ℕ)) (result : Reply)
-    → Reporting config before (step ∷ left) whole old now → (result ≡ Err OutOfMemory → ⊥) → Follows before step result after
-    → AppendsPrefix now new (ended (reply_text result)) → AppendsPrefix old new whole
-reporting_cut config before after step left whole old now new result r ne follows front =
+-- a prefix of what is held back and of the next line is written, and so a prefix of the whole
+pub reporting_cut : (config : Config) (before after : Wire) (step : Step) (left : List Step) (whole : List ℕ) (old now new : Option (List ℕ))
+    (held : List ℕ) (result : Reply)
+    → Reporting config before (step ∷ left) whole old now held → (result ≡ Err OutOfMemory → ⊥) → Follows before step result after
+    → AppendsPrefix now new (held ++ ended (reply_text result)) → AppendsPrefix old new whole
+reporting_cut config before after step left whole old now new held result r ne follows front =
     let w = world_after PerSpace config r.taken in
     let is = followed w step result after ne (follows config r.taken r.fits r.is_seen) in
     let line = ended (reply_text result) in
-    let all = append_assoc r.written line (steps_report (next w step) left) ∙ ap (λ l. r.written ++ l) (line_and_rest w step left result is.0) ∙ r.rest in
+    let all = ap (λ l. l ++ steps_report (next w step) left) (sym (append_assoc r.written held line))
+    ∙ append_assoc (r.written ++ held) line (steps_report (next w step) left)
+    ∙ ap (λ l. (r.written ++ held) ++ l) (line_and_rest w step left result is.0) ∙ r.rest in
     subst (AppendsPrefix old new) all
-    (AppendsPrefix-longer old new (r.written ++ line) (steps_report (next w step) left) (AppendsPrefix-after old now new r.written line r.appended front))
-
--- what is written is a prefix of the whole
-pub reporting_stop : (config : Config) (seen : Wire) (left : List Step) (whole : List ℕ) (old now : Option (List ℕ))
-    → Reporting config seen left whole old now
-    → AppendsPrefix old now whole
-reporting_stop config seen left whole old now r = (r.written, steps_report (world_after PerSpace config r.taken) left, r.rest, r.appended)
-
--- the counts that were found are those of each world that is seen so
-abbrev pub Counted : Wire → Counts → Type 0
-Counted seen found = (config : Config) (taken : List Step) → Fits config → seen ≡ wire (world_after PerSpace config taken)
-    → (found.free ≡ (counts (world_after PerSpace config taken)).free) × (found.mapped ≡ (counts (world_after PerSpace config taken)).mapped)
-    × (found.withheld ≡ (counts (world_after PerSpace config taken)).withheld)
+    (AppendsPrefix-longer old new (r.written ++ (held ++ line)) (steps_report (next w step) left)
+    (AppendsPrefix-after old now new r.written (held ++ line) r.appended front))
 
 writes_after : {A : Type 0} (old now new : Option (List ℕ)) (first more : List ℕ) (result : Result A DriveFault) → Appends old now first
     → Writes now new more result
@@ -124,15 +130,37 @@ writes_after : {A : Type 0} (old now new : Option (List ℕ)) (first more : List
 writes_after old now new first more (Ok x) p q = Appends-trans old now new first more p q
 writes_after old now new first more (Err fault) p q = AppendsPrefix-after old now new first more p q
 
-pub reporting_end : {A : Type 0} (config : Config) (seen : Wire) (whole : List ℕ) (old now new : Option (List ℕ)) (found : Counts)
+as_prefix : {A : Type 0} (old new : Option (List ℕ)) (bytes : List ℕ) (result : Result A DriveFault) → Writes old new bytes result → AppendsPrefix old new bytes
+as_prefix old new bytes (Ok x) p = (bytes, [], append-nil bytes, p)
+as_prefix old new bytes (Err fault) p = p
+
+-- what is held back is written, and with it a prefix of the whole
+pub reporting_stop : {A : Type 0} (config : Config) (seen : Wire) (left : List Step) (whole : List ℕ) (old now new : Option (List ℕ)) (held : List ℕ)
+    (result : Result A DriveFault) → Reporting config seen left whole old now held → Writes now new held result
+    → AppendsPrefix old new whole
+reporting_stop config seen left whole old now new held result r flushed =
+    subst (AppendsPrefix old new) r.rest
+    (AppendsPrefix-longer old new (r.written ++ held) (steps_report (world_after PerSpace config r.taken) left)
+    (as_prefix old new (r.written ++ held) result (writes_after old now new r.written held result r.appended flushed)))
+
+-- the counts that were found are those of each world that is seen so
+abbrev pub Counted : Wire → Counts → Type 0
+Counted seen found = (config : Config) (taken : List Step) → Fits config → seen ≡ wire (world_after PerSpace config taken)
+    → (found.free ≡ (counts (world_after PerSpace config taken)).free) × (found.mapped ≡ (counts (world_after PerSpace config taken)).mapped)
+    × (found.withheld ≡ (counts (world_after PerSpace config taken)).withheld)
+
+pub reporting_end : {A : Type 0} (config : Config) (seen : Wire) (whole : List ℕ) (old now new : Option (List ℕ)) (held : List ℕ) (found : Counts)
     (result : Result A DriveFault)
-    → Reporting config seen [] whole old now → Counted seen found → Writes now new (ended (counts_text found)) result → Writes old new whole result
-reporting_end config seen whole old now new found result r of line =
+    → Reporting config seen [] whole old now held → Counted seen found → Writes now new (held ++ ended (counts_text found)) result
+    → Writes old new whole result
+reporting_end config seen whole old now new held found result r of line =
     let w = world_after PerSpace config r.taken in
     let same = of config r.taken r.fits r.is_seen in
     let counted : found ≡ counts w = λ i. record { free = same.0 i; mapped = same.1 i; withheld = same.2 i } in
-    let all = ap (λ c. r.written ++ ended (counts_text c)) counted ∙ ap (λ l. r.written ++ l) (sym (steps_report-end w)) ∙ r.rest in
-    subst (λ bytes. Writes old new bytes result) all (writes_after old now new r.written (ended (counts_text found)) result r.appended line)
+    let all = sym (append_assoc r.written held (ended (counts_text found))) ∙ ap (λ c. (r.written ++ held) ++ ended (counts_text c)) counted
+    ∙ ap (λ l. (r.written ++ held) ++ l) (sym (steps_report-end w)) ∙ r.rest in
+    subst (λ bytes. Writes old new bytes result) all
+    (writes_after old now new r.written (held ++ ended (counts_text found)) result r.appended line)
 
 -- ---- How long a line is
 

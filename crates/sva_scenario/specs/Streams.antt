@@ -27,6 +27,12 @@ abbrev pub Writes : {A : Type 0} → Option (List ℕ) → Option (List ℕ) →
 Writes old new bytes (Ok value) = Appends old new bytes
 Writes old new bytes (Err fault) = AppendsPrefix old new bytes
 
+-- A text is said behind what was held back: some of both was written, and the rest is held back; where the result is a fault, a prefix of both
+-- was written.
+abbrev pub Holds : {A : Type 0} → (old new : Option (List ℕ)) → (held left text : List ℕ) → Result A DriveFault → Type 0
+Holds old new held left text (Ok value) = (sent : List ℕ) × Appends old new sent × (sent ++ left ≡ held ++ text)
+Holds old new held left text (Err fault) = AppendsPrefix old new (held ++ text)
+
 -- the writer's failures are told: one more where the fault is `Write`, and none where there is no fault or memory lacks
 abbrev pub Tells : {A W : Type 0} → Stream W → Stream W → Result A DriveFault → Type 0
 Tells old new (Ok value) = new.failures ≡ old.failures

@@ -1,6 +1,6 @@
 //! The run of a scenario, with its report line by line.
 
-ghost use Rattle.std.specs.Prelude.{◌≡◌, ◌↔◌, ◌⊎◌, ◌<◌, ◌≤◌, length, IsTrue, IfOk, IfSome, OnOk, if◌then◌else◌};
+ghost use Rattle.std.specs.Prelude.{◌≡◌, ◌↔◌, ◌⊎◌, ◌<◌, ◌≤◌, [], length, IsTrue, IfOk, IfSome, OnOk, if◌then◌else◌};
 ghost use Rattle.std.specs.Io.KnownBytes.{IsAtEnd};
 ghost use Rattle.sva_core.specs.Reached.{Follows};
 ghost use Rattle.sva_scenario.specs.declared.reading.TheConstants.{MOST_TURNS};
@@ -8,7 +8,7 @@ ghost use Rattle.sva_scenario.specs.Report.{is_fit, outcome_of, reply_text, repo
 ghost use Rattle.sva_scenario.specs.Streams.{IsNew, Tells, Writes};
 
 use crate::reading::read_all;
-use crate::report::{write_counts, write_reply};
+use crate::report::{flush, hold_reply, write_end, write_reply};
 use crate::scenarios::scenario_or_fault;
 use crate::streams::{DriveFault, Outcome};
 use crate::told::Told;
@@ -57,15 +57,12 @@ fn report_text<W: Write>(
     let Some(scenario) = scenario_or_fault(alloc, text, writer)? else {
         return Ok(Outcome::Faulted);
     };
-    let mut line = Vec::new(alloc);
-    let steps = scenario.steps.as_slice();
-    report_script(alloc, &mut line, scenario.config, steps, writer)
+    report_script(alloc, scenario.config, scenario.steps.as_slice(), writer)
 }
 
 /// Writes the report of a scenario.
 fn report_script<W: Write>(
     alloc: Global,
-    line: &mut Vec<u8>,
     config: Config,
     steps: &[Step],
     writer: &mut Told<W>,
@@ -78,24 +75,26 @@ fn report_script<W: Write>(
     ensures told { Tells writer.old writer.new result }
 {
     match World::open(alloc, config) {
-        Ok(mut world) => report_steps(line, &mut world, steps, writer),
+        Ok(mut world) => report_steps(&mut Vec::new(alloc), &mut world, steps, writer),
         Err(Refusal::BadConfig) => {
-            write_reply(line, &Err(Refusal::BadConfig), writer)?;
+            write_reply(&mut Vec::new(alloc), &Err(Refusal::BadConfig), writer)?;
             Ok(Outcome::Faulted)
         }
         Err(_) => Err(DriveFault::Memory),
     }
 }
 
-/// Takes the steps, and writes a line for each and that of the counts.
+/// Takes the steps, and writes a line for each and that of the counts, many at a time. In `held` stand those that are not
+/// written yet, and at the beginning none.
 fn report_steps<W: Write>(
-    line: &mut Vec<u8>,
+    held: &mut Vec<u8>,
     world: &mut World,
     steps: &[Step],
     writer: &mut Told<W>,
 ) -> Result<Outcome, DriveFault>
     requires new { IsNew writer.old }
     requires few { length steps.now ≤ 65536 }
+    requires nothing { held.old.items ≡ [] }
     ensures report { ReportsFrom world.old steps.now (W.contents writer.old.inner) (W.contents writer.new.inner) result }
     ensures outcome { IfOk result (λ outcome. outcome ≡ Outcome.Done) }
     ensures told { Tells writer.old writer.new result }
@@ -103,12 +102,12 @@ fn report_steps<W: Write>(
     for step in steps {
         let reply = take_step(world, step);
         if lacks_memory(&reply) {
+            flush(held, writer)?;
             return Err(DriveFault::Memory);
         }
-        write_reply(line, &reply, writer)?;
+        hold_reply(held, &reply, writer)?;
     }
-    let counts = world.counts();
-    write_counts(line, counts.free, counts.mapped, counts.withheld, writer)?;
+    write_end(held, &world.counts(), writer)?;
     Ok(Outcome::Done)
 }
 

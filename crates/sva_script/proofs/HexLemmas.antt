@@ -8,6 +8,7 @@ use Rattle.std.proofs.lemmas.Bool.{and_parts}
 use Rattle.std.proofs.lemmas.Bool.Decides.{nat_tests}
 use Rattle.std.proofs.lemmas.List.{drop_more}
 use Rattle.std.proofs.Math.ListN.{drop_of_length-le}
+use Rattle.sva_grammar.proofs.VectorLemmas.{value_after-ge}
 use Rattle.sva_script.specs.Numbers.{are_digits, page_by}
 use Rattle.std.proofs.Math.Nat.{mul-le-mul_right, pow-zero, pow-suc, pow-le-pow_right}
 
@@ -31,10 +32,6 @@ value_fits word h few =
     let below = value_below 0 word h in
     let most : 16 ^ length word ≤ 16 ^ 16 = pow-le-pow_right (omega arith) few in
     omega (arith, below, most)
-
-value_after-ge : (value : ℕ) (digits : List ℕ) → value ≤ digits_value_after 16 value digits
-value_after-ge value [] = omega arith
-value_after-ge value (digit ∷ digits) = let more = value_after-ge (value * 16 + digit_value digit) digits in omega (arith, more)
 
 -- the digit that comes next, and the number with it, which fits
 pub next_digit : (word : List ℕ) (value i : ℕ) → i < length word → digits_value 16 word < 2 ^ 64

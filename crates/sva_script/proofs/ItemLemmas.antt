@@ -3,6 +3,7 @@ use Rattle.std.proofs.Common.{◌≡◌, ◌+◌, ◌-◌, ◌∙◌, ap, sym, a
 use Rattle.std.proofs.Common.{ltb, not, ◌≤◌}
 use Rattle.std.specs.Prelude.{Result, Ok, Err}
 use Rattle.sva_grammar.specs.Grammar.{◌>>=◌, number}
+use Rattle.sva_grammar.proofs.PlaceLemmas.{not_found}
 use Rattle.sva_script.specs.declared.faults.Wrong.{Wrong}
 use Rattle.sva_script.specs.Names.{Known}
 use Rattle.sva_script.specs.Resolve.{with_item, with_items}
@@ -12,13 +13,9 @@ use Rattle.std.proofs.lemmas.List.{length-drop}
 use Rattle.std.proofs.Math.Seq.{take-length}
 use Rattle.std.proofs.lemmas.List.Splits.{slice_split_first}
 
-found_at : (t : Bool) (p i : ℕ) → cond t (Some p) None ≡ Some i → (t ≡ true) × (p ≡ i)
+pub found_at : (t : Bool) (p i : ℕ) → cond t (Some p) None ≡ Some i → (t ≡ true) × (p ≡ i)
 found_at true p i h = (refl, cc)
 found_at false p i h = absurd (cc h)
-
-not_found : (t : Bool) (p : ℕ) → cond t (Some p) None ≡ None → t ≡ false
-not_found true p h = absurd (cc h)
-not_found false p h = refl
 
 -- the first item, where a separator is found behind it
 pub split_found : (p : ℕ → Bool) (xs : List ℕ) (i : ℕ) → position p xs ≡ Some i → slice_split p xs ≡ take i xs ∷ slice_split p (drop (i + 1) xs)

@@ -9,19 +9,8 @@ use Rattle.sva_script.specs.declared.places.Place.{Place}
 use Rattle.sva_script.specs.declared.places.Place.TheVariants.{Space, Binding, Pasid, Frame, Slot, Group, Itag, Tag}
 use Rattle.sva_script.specs.Names.{Known, begins_name}
 use Rattle.sva_script.specs.Pieces.{joined, spaced}
-use Rattle.sva_script.specs.Reserved.{answer_words, is_among, refusal_names}
 use Rattle.sva_script.specs.Resolve.{named_in, wrong}
-
--- is it a word of an answer or of the counts?
-abbrev pub is_answer_word : List ℕ → Bool
-is_answer_word word =
-    is_among answer_words word
-    || bytes_eq word (codes "space")
-    || bytes_eq word (codes "reset")
-    || bytes_eq word (codes "use")
-    || bytes_eq word (codes "bearer")
-    || bytes_eq word (codes "bindings")
-    || bytes_eq word (codes "refused")
+use Rattle.sva_words.specs.Reserved.{is_answer_word, is_refusal}
 
 -- what a number behind a word of an answer is
 unfoldable pub place_behind : List ℕ → Option Place
@@ -38,10 +27,6 @@ place_behind word =
     if bytes_eq word (codes "use") then Some Slot else
     if bytes_eq word (codes "group") then Some Group else
     None
-
--- is it the name of a refusal?
-abbrev pub is_refusal : List ℕ → Bool
-is_refusal word = is_among refusal_names word
 
 -- a word that is said as it stands: of an answer, `_` for any one, a number, or the name of a refusal
 abbrev pub is_said : List ℕ → Bool

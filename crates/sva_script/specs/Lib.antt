@@ -1,8 +1,6 @@
 pub mod Lines
 pub mod Places
-pub mod Reserved
 pub mod Names
-pub mod Near
 pub mod Numbers
 pub mod Pieces
 pub mod Resolve

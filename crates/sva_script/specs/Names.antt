@@ -1,5 +1,5 @@
 -- Names, and the numbers that they stand for.
-use Rattle.std.specs.Prelude.{ℕ, zero, suc, ◌+◌, ◌-◌, ◌==◌, ◌&&◌, ◌||◌, not, Bool, false, if◌then◌else◌, List, [], ◌∷◌, take, drop, position}
+use Rattle.std.specs.Prelude.{ℕ, zero, suc, ◌+◌, ◌-◌, ◌==◌, ◌&&◌, ◌||◌, not, Bool, false, if◌then◌else◌, List, [], ◌∷◌, length, map, take, drop, position}
 use Rattle.std.specs.Prelude.{Option, Some, None, Result, Ok, Err, slice_get, nat_le, nat_lt, is_err}
 use Rattle.std.specs.Char.{is_ascii_lowercase, is_ascii_alphanumeric}
 use Rattle.std.specs.List.{list_all}
@@ -14,7 +14,8 @@ use Rattle.sva_script.specs.declared.given.Given.{Given}
 use Rattle.sva_script.specs.declared.given.Told.{Told}
 use Rattle.sva_script.specs.declared.places.Place.{Place}
 use Rattle.sva_script.specs.declared.places.Place.TheVariants.{Space, Binding, Pasid, Frame, Slot, Group, Itags, Itag, Tag, Message}
-use Rattle.sva_script.specs.Reserved.{is_reserved}
+use Rattle.sva_words.specs.Near.{near_among}
+use Rattle.sva_words.specs.Reserved.{is_reserved}
 
 -- the lines that have names so far, each by its name
 abbrev pub Known : Type 0
@@ -134,3 +135,11 @@ name_split word (Some dot) = name_by (take dot word) (number (drop (dot + 1) wor
 -- a word as a name, and which of its numbers is meant: a dot (46) stands between
 abbrev pub name_and_nth : List ℕ → Option (List ℕ × ℕ)
 name_and_nth word = name_split word (position (λ byte. byte == 46) word)
+
+-- the names that lines have, in the order in which they were given
+abbrev pub names_of : Known → List (List ℕ)
+names_of known = map (λ entry. entry.0) known
+
+-- the first name near to a word among the last 1000
+abbrev pub near_name : Known → List ℕ → Option (List ℕ)
+near_name known word = near_among (drop (length known - 1000) (names_of known)) word

@@ -3,18 +3,16 @@
 ghost use Rattle.std.specs.Prelude.{◌≡◌, ◌==◌, ◌<◌, IfSome, length, position, ◌∷◌, [], ◌++◌, None, OnOk, OnErr, option_map};
 ghost use Rattle.std.specs.List.{list_all};
 ghost use Rattle.sva_script.specs.Names.{begins_name, frames_in, given_of, is_name, is_name_byte, message_at, name_and_nth, name_by, nth_of, number_at};
-ghost use Rattle.sva_script.specs.Names.{number_told, numbers_in};
-ghost use Rattle.sva_script.specs.Near.{near_name};
+ghost use Rattle.sva_script.specs.Names.{near_name, number_told, numbers_in};
 
 use crate::given::{Given, Told};
-use crate::nearest::is_near;
 use crate::places::Place;
-use crate::reserved::is_reserved;
 use indexmap::IndexMap;
 use std::alloc::{AllocError, Global};
 use std::marker::Model;
 use sva_grammar::{Cause, number_in, vector_in};
 use sva_step::Answer;
+use sva_words::{is_near, is_reserved};
 
 /// The names of the lines so far.
 #[derive(Drop)]

@@ -5,8 +5,8 @@ ghost use Rattle.sva_script.specs.Lines.{begins_comment, expected_begins, is_arr
 ghost use Rattle.sva_script.specs.Lines.{unnamed_parts};
 
 use crate::splitting::first_part;
-use crate::texts::is;
 use std::alloc::AllocError;
+use sva_words::is;
 
 /// What stands between a step and its expected answer.
 const ARROW: &[u8] = b"=>";

@@ -2,19 +2,11 @@
 
 ghost use Rattle.std.specs.Prelude.{◌≡◌, ◌%◌, decimal};
 ghost use Rattle.std.specs.Char.{digit_char};
-ghost use Rattle.std.specs.Str.{bytes_eq};
 ghost use Rattle.sva_grammar.specs.Laws.{hexadecimal};
 ghost use Rattle.sva_script.specs.Pieces.{Puts};
 
 use crate::faults::Stop;
 use itoa::Buffer;
-
-/// Is the word this one?
-pub fn is(word: &[u8], wanted: &[u8]) -> bool
-    ensures { result ≡ bytes_eq word.now wanted.now }
-{
-    word == wanted
-}
 
 /// Appends some bytes.
 pub fn put(out: &mut Vec<u8>, bytes: &[u8]) -> Result<(), Stop>

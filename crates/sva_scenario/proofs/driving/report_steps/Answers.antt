@@ -10,26 +10,11 @@ use Rattle.sva_scenario.proofs.driving.report_steps.Goals as goal
 
 pub loop-step-init : goal.loop-step-init
 loop-step-init g c = record {
-  reports = λ config taken fits seen. reporting_start config taken c.args.steps.now c.args.world.now (g.W.Write.contents c.args.writer.now.inner) fits seen;
+  reports = λ config taken fits seen.
+      reporting_start config taken c.args.steps.now c.args.world.now (g.W.Write.contents c.args.writer.now.inner) c.args.held.now.items c.requires.nothing fits seen;
   calls = omega arith;
   failures = c.requires.new.1;
 }
-
-pub returns-then-lacks_memory-clause-report : goal.returns-then-lacks_memory-clause-report
-returns-then-lacks_memory-clause-report g c = λ config taken fits seen.
-    reporting_stop config c.loop-step.world _ _ _ _ (c.loop-step.invariant.reports config taken fits seen)
-
-pub returns-in_err-write_reply-clause-report : goal.returns-in_err-write_reply-clause-report
-returns-in_err-write_reply-clause-report g c = λ config taken fits seen.
-    let left = next_left c.args.steps.now c.loop-step.step-index c.loop-step-test.true in
-    let whole = steps_report (world_after PerSpace config taken) c.args.steps.now in
-    let so_far = subst (λ (l : List Step). Reporting config c.loop-step.world l whole (g.W.Write.contents c.args.writer.now.inner)
-    (g.W.Write.contents c.loop-step.writer.inner)) left (c.loop-step.invariant.reports config taken fits seen) in
-    writes_front _ _ _ c.from_residual.result c.from_residual.ensures.0
-    (reporting_cut config c.loop-step.world c.take_step-reply.new.world _ _ _ _ _ _ c.take_step-reply.result so_far
-    (not_so c.lacks_memory.result (c.take_step-reply.result ≡ Err OutOfMemory) c.lacks_memory.ensures.1 c.if-lacks_memory.false)
-    c.take_step-reply.ensures.step
-    c.in_err-write_reply.ensures.written)
 
 pub loop-step-preserved : goal.loop-step-preserved
 loop-step-preserved g c = record {
@@ -37,35 +22,11 @@ loop-step-preserved g c = record {
       let left = next_left c.args.steps.now c.loop-step.step-index c.loop-step-test.true in
       let whole = steps_report (world_after PerSpace config taken) c.args.steps.now in
       let so_far = subst (λ (l : List Step). Reporting config c.loop-step.world l whole (g.W.Write.contents c.args.writer.now.inner)
-      (g.W.Write.contents c.loop-step.writer.inner)) left (c.loop-step.invariant.reports config taken fits seen) in
-      reporting_step config c.loop-step.world c.take_step-reply.new.world _ _ _ _ _ _ c.take_step-reply.result so_far
+      (g.W.Write.contents c.loop-step.writer.inner) c.loop-step.held.items) left (c.loop-step.invariant.reports config taken fits seen) in
+      reporting_step config c.loop-step.world c.take_step-reply.new.world _ _ _ _ _ _ _ _ c.take_step-reply.result so_far
       (not_so c.lacks_memory.result (c.take_step-reply.result ≡ Err OutOfMemory) c.lacks_memory.ensures.1 c.if-lacks_memory.false)
       c.take_step-reply.ensures.step
-      c.in_ok-write_reply.ensures.written;
-  calls = omega (arith, c.write_reply.ensures.calls, c.loop-step.invariant.calls);
-  failures = c.in_ok-write_reply.ensures.told ∙ c.loop-step.invariant.failures;
+      c.in_ok-hold_reply.ensures.held;
+  calls = omega (arith, c.hold_reply.ensures.calls, c.loop-step.invariant.calls);
+  failures = c.in_ok-hold_reply.ensures.told ∙ c.loop-step.invariant.failures;
 }
-
-pub returns-in_err-write_counts-clause-report : goal.returns-in_err-write_counts-clause-report
-returns-in_err-write_counts-clause-report g c = λ config taken fits seen.
-    let none = none_left c.args.steps.now c.loop-step.step-index c.loop-step-test.false in
-    let whole = steps_report (world_after PerSpace config taken) c.args.steps.now in
-    let so_far = subst (λ (l : List Step). Reporting config c.loop-step.world l whole (g.W.Write.contents c.args.writer.now.inner)
-    (g.W.Write.contents c.loop-step.writer.inner)) none (c.loop-step.invariant.reports config taken fits seen) in
-    writes_front _ _ _ c.from_residual-in_err-write_counts.result c.from_residual-in_err-write_counts.ensures.0
-    (reporting_end {A = Unit {0}} config c.loop-step.world whole _ _ _
-    (record { free = c.counts-counts.result.free; mapped = c.counts-counts.result.mapped; withheld = c.counts-counts.result.withheld })
-    (Err c.in_err-write_counts.field-0.0) so_far c.counts-counts.ensures.counts c.in_err-write_counts.ensures.written)
-
-pub returns-clause-report : goal.returns-clause-report
-returns-clause-report g c = λ config taken fits seen.
-    let none = none_left c.args.steps.now c.loop-step.step-index c.loop-step-test.false in
-    let whole = steps_report (world_after PerSpace config taken) c.args.steps.now in
-    let so_far = subst (λ (l : List Step). Reporting config c.loop-step.world l whole (g.W.Write.contents c.args.writer.now.inner)
-    (g.W.Write.contents c.loop-step.writer.inner)) none (c.loop-step.invariant.reports config taken fits seen) in
-    reporting_end {A = Unit {0}} config c.loop-step.world whole _ _ _
-    (record { free = c.counts-counts.result.free; mapped = c.counts-counts.result.mapped; withheld = c.counts-counts.result.withheld }) (Ok tt)
-    so_far c.counts-counts.ensures.counts c.in_ok-write_counts.ensures.written
-
-pub write_reply-requires-clause-short : goal.write_reply-requires-clause-short
-write_reply-requires-clause-short g c = c.take_step-reply.ensures.short

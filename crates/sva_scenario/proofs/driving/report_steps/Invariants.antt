@@ -1,4 +1,4 @@
-use Rattle.std.proofs.Common.{◌≡◌, ◌≤◌, ◌*◌, List, drop}
+use Rattle.std.proofs.Common.{◌≡◌, ◌≤◌, ◌+◌, ◌*◌, List, drop, length}
 use Rattle.sva_step.specs.declared.limits.Config.{Config}
 use Rattle.sva_step.specs.declared.steps.Step.{Step}
 use Rattle.sva_model.specs.State.PasidRule.{PerSpace}
@@ -9,12 +9,12 @@ use Rattle.sva_scenario.specs.Report.{steps_report}
 use Rattle.sva_scenario.proofs.ReportLemmas.{Reporting}
 use Rattle.sva_scenario.proofs.driving.report_steps.Given as goal
 
--- the lines of the steps so far are written, by at most 1,025 calls each
+-- the lines of the steps so far are written or held back, by at most 1,025 calls each
 abbrev pub invariant-loop-step : goal.invariant-loop-step
 invariant-loop-step g l = record {
   reports : (config : Config) (taken : List Step) → Fits config → l.fn.world ≡ wire (world_after PerSpace config taken)
       → Reporting config l.world (drop l.step-index l.steps) (steps_report (world_after PerSpace config taken) l.steps) (g.W.Write.contents l.fn.writer.inner)
-      (g.W.Write.contents l.writer.inner);
-  calls : l.writer.calls ≤ 1025 * l.step-index;
+      (g.W.Write.contents l.writer.inner) l.held.items;
+  calls : l.writer.calls + length l.held.items ≤ 1025 * l.step-index;
   failures : l.writer.failures ≡ 0;
 }

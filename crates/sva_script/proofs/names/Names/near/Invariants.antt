@@ -1,6 +1,7 @@
 use Rattle.std.proofs.Common.{◌≡◌, drop, map, ℕ, List}
 use Rattle.sva_script.specs.declared.given.Given.{Given}
-use Rattle.sva_script.specs.Near.{names_of, near_among}
+use Rattle.sva_script.specs.Names.{names_of}
+use Rattle.sva_words.specs.Near.{near_among}
 use Rattle.sva_script.proofs.names.Names.near.Given as goal
 
 -- of those that are left the first is near that is of the last 1000

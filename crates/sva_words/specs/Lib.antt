@@ -1,0 +1,2 @@
+pub mod Reserved
+pub mod Near

@@ -1,4 +1,4 @@
-//! The run of a scenario, with its report line by line.
+//! The run of a scenario, with its report.
 
 ghost use Rattle.std.specs.Prelude.{◌≡◌, ◌↔◌, ◌⊎◌, ◌<◌, ◌≤◌, [], length, IsTrue, IfOk, IfSome, OnOk, if◌then◌else◌};
 ghost use Rattle.std.specs.Io.KnownBytes.{IsAtEnd};
@@ -17,7 +17,7 @@ use std::io::{Read, Write};
 use sva_core::World;
 use sva_step::{Answer, Config, Refusal, Step};
 
-/// Reads a scenario to its end, runs its steps, and writes its report line by line. `Faulted` tells that the report is a
+/// Reads a scenario to its end, runs its steps, and writes its report, many lines at a time. `Faulted` tells that it is a
 /// line fault or a refused config. After `Write` or `Memory` a prefix of the report was written, after `Read` nothing.
 /// The first want of memory ends the run, also where a step meets it.
 pub fn drive<R: Read, W: Write>(

@@ -15,7 +15,7 @@ class Copy:
         self.room, self.changed, self.proved = room, [], set()
         self.crates = list(dict.fromkeys(it for name in names for it in [*below(name, uses()), name]))
         for name in self.crates:
-            shutil.copytree(f"{ROOT}/crates/{name}", f"{room}/crates/{name}", ignore=shutil.ignore_patterns("must-fail", "more-edits", "no-compile"))
+            shutil.copytree(f"{ROOT}/crates/{name}", f"{room}/crates/{name}", ignore=shutil.ignore_patterns("must-fail", "more-edits", "test-edits", "no-compile"))
         shutil.copy(f"{ROOT}/HANDLES", room)
         with open(f"{room}/crates.txt", "w", encoding="utf-8") as it:
             it.writelines(line for line in text_of(f"{ROOT}/crates.txt").splitlines(keepends=True) if re.split("[ :]", line)[0] in self.crates)

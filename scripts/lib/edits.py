@@ -3,7 +3,8 @@
 An edit of crates/NAME/must-fail/ is a file EDIT.edit, as `rt ci` reads it: a line `file: PATH`, then pairs of lines `old: TEXT` and `new: TEXT`. Each
 old text stands once in its file. A line `# WORDS` says which rule it turns.
 
-Those of crates/NAME/more-edits/ stand together, all that turn src/X.rt in src/X.edits, and so those of specs/ and proofs/. Such a file begins with
+Those of crates/NAME/more-edits/ stand together, all that turn src/X.rt in src/X.edits, and so those of specs/ and proofs/; and so those of test-edits/, which tests
+have to refuse (scripts/by-hand/tests-refuse). Such a file begins with
     file: src/X.rt
     by: CRATE CRATE ..    if need be: the crates above that are to refuse its edits where the crate's own check doesn't, in the order in which they are tried
 and has a block for each edit:
@@ -216,15 +217,20 @@ def blocks_of(path):
     return blocks
 
 
-def more_edits(crate):
-    """The edits of more-edits/."""
+def edits_in(crate, folder):
+    """The edits of a folder of a crate."""
     found = []
-    for path in files_below(f"{ROOT}/crates/{crate}/more-edits", ".edits"):
+    for path in files_below(f"{ROOT}/crates/{crate}/{folder}", ".edits"):
         head, *blocks = blocks_of(path)
         file, by = word_of(head, "file:"), word_of(head, "by:").split()
         for lines in blocks:
             found.append(Edit(crate, word_of(lines, "edit:"), word_of(lines, "#"), pairs_of(lines, file), by))
     return found
+
+
+def more_edits(crate):
+    """The edits of more-edits/."""
+    return edits_in(crate, "more-edits")
 
 
 def once(crate, others):

@@ -2,6 +2,7 @@
 use Rattle.std.proofs.Common.{◌≡◌, ◌<◌, ◌≤◌, ◌^◌, ◌∙◌, ap, sym, subst, arith, ◌*◌, ℕ, suc, List, [], ◌∷◌, ◌++◌, append-nil, append_assoc, length, get_or, refl, Bool}
 use Rattle.std.proofs.Common.{true, false, Option, Result, Ok, Err}
 use Rattle.std.specs.Prelude.{codes, decimal}
+use Rattle.std.specs.Result.{IsErr}
 use Rattle.std.specs.Io.KnownBytes.{Appends}
 use Rattle.std.proofs.KnownBytes.{Appends-nil, Appends-trans}
 use Rattle.std.proofs.lemmas.List.{length-append}
@@ -241,3 +242,9 @@ reply_short P r (Err refusal) h = refusal_short refusal
 -- a test that a fact makes true is false where the fact isn't so
 pub not_so : (test : Bool) (P : Type 0) → (P → test ≡ true) → test ≡ false → P → ⊥
 not_so test P told off p = absurd (cc (told p))
+
+-- a fault stands where a prefix of what was held back and of the line was written
+pub holds_front : {A : Type 0} (old new : Option (List ℕ)) (held left text : List ℕ) (result : Result A DriveFault) → IsErr result
+    → AppendsPrefix old new (held ++ text) → Holds old new held left text result
+holds_front old new held left text (Ok x) e front = absurd (cc)
+holds_front old new held left text (Err fault) e front = front

@@ -26,5 +26,5 @@ report_script-requires-clause-few g c =
     let read = handed_script (scenario_of c.args.text.now) c.in-Some.scenario _ _ c.in_ok-scenario.field-0 c.in-Some.is
     c.in_ok-scenario.ensures.handed in
     let few = read_few c.args.text.now c.in-Some.scenario read in
-    let same = c.as_slice-steps.ensures.value ∙ ap (λ s. s.steps) c.scenario.view_is in
+    let same = c.as_slice.ensures.value ∙ ap (λ s. s.steps) c.scenario.view_is in
     omega (arith, few, ap length same)

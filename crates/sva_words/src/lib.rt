@@ -8,5 +8,7 @@ mod reserved;
 
 pub use equal::is;
 pub use nearest::is_near;
-pub use reserved::{is_answer_word, is_kind, is_refusal, is_reserved};
-pub use reserved::{near_answer_word, near_kind, near_refusal, near_step};
+pub use reserved::{
+    is_answer_word, is_kind, is_refusal, is_reserved, near_answer_word, near_kind, near_refusal,
+    near_step,
+};

@@ -7,8 +7,8 @@ ghost use Rattle.sva_words.specs.Near.{near_among};
 ghost use Rattle.sva_words.specs.Reserved.{answer_words, first_words, is_among, is_answer_word, is_kind, is_refusal, is_reserved};
 ghost use Rattle.sva_words.specs.Reserved.{kind_words, other_words, refusal_names, step_names};
 
-use crate::nearest::is_near;
 use crate::equal::is;
+use crate::nearest::is_near;
 
 /// The words that begin a line.
 const FIRST_WORDS: [&[u8]; 29] = [

@@ -33,6 +33,7 @@ class Copy:
 
     def run(self, crate, *words):
         """What `rt` said in a crate, and its status."""
-        words, cwd = ["rt", *words, "--jobs", "1"], f"{self.room}/crates/{crate}"
+        # (`rt try` proves nothing, and takes no number of jobs)
+        words, cwd = ["rt", *words, *(() if words[0] == "try" else ("--jobs", "1"))], f"{self.room}/crates/{crate}"
         ran = subprocess.run(words, cwd=cwd, stdin=subprocess.DEVNULL, stdout=subprocess.PIPE, stderr=subprocess.STDOUT, text=True, errors="replace")
         return ran.returncode, ran.stdout

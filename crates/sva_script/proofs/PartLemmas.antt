@@ -13,7 +13,7 @@ prefix_map : {X Y : Type 0} (f : X → Y) (p : Y → Bool) (xs : List X) → pre
 prefix_map f p [] = refl
 prefix_map f p (x ∷ xs) = ap (λ n. cond (p (f x)) (1 + n) 0) (prefix_map f p xs)
 
-position_map : {X Y : Type 0} (f : X → Y) (p : Y → Bool) (xs : List X) → position p (map f xs) ≡ position (λ x. p (f x)) xs
+pub position_map : {X Y : Type 0} (f : X → Y) (p : Y → Bool) (xs : List X) → position p (map f xs) ≡ position (λ x. p (f x)) xs
 position_map f p xs =
     let len = prefix_map f (λ y. not (p y)) xs in
     (λ i. cond (ltb (len i) (length-map xs f i)) (Some (len i)) None)

@@ -1,13 +1,14 @@
 -- The answers to a map and an unmap, by the tests that were made.
 use Rattle.std.proofs.Common.{◌≡◌, ℕ, ◌+◌, ◌<◌, ◌≤◌, ◌^◌, ◌==◌, Bool, true, false, List, Option, Some, None, [], ◌∷◌, length, set, refl, sym, ap, subst}
-use Rattle.std.proofs.Common.{◌∙◌, arith}
+use Rattle.std.proofs.Common.{◌∙◌, arith, if◌then◌else◌}
 use Rattle.std.specs.Prelude.{nat_lt, nat_le, is_ok, Ok, Err, is_some}
 use Rattle.std.specs.List.{position}
 use Rattle.std.proofs.lemmas.Bool.Decides.{nat_tests}
 use Rattle.std.proofs.lemmas.List.{length-map}
 use Rattle.sva_step.specs.declared.answers.Answer.TheVariants as answer
+use Rattle.sva_step.specs.declared.refusals.Refusal.{Refusal}
 use Rattle.sva_step.specs.declared.refusals.Refusal.TheVariants as refusal
-use Rattle.sva_space.specs.Pages.{mapping_at, with_page}
+use Rattle.sva_space.specs.Pages.{mapping_at, unmapped_by, with_page}
 use Rattle.sva_frames.specs.Frames.{Holding, Free, Mapped, is_free}
 use Rattle.sva_model.specs.Wire.{PageWire, PlaceWire}
 use Rattle.sva_labels.specs.Finding.{is_mapped, lowest_free}
@@ -104,3 +105,58 @@ no_memory ms frames q k n given x ms_after taken frames_after range none len few
   ap pages_seen kept,
   ap places_seen (given_back frames n given taken frames_after first same took gave),
 )
+
+-- ---- a page that is mapped already is refused for that, before all else
+
+-- where a test refused it that comes behind
+pub mapped_or_full : (ms : List (ℕ × (ℕ × Bool))) (places : List PlaceWire) (q k : ℕ) (x : Bool) (why : Refusal) → q < 2 ^ 36 → k ≡ length ms → 1024 ≤ k
+    → why ≡ (if is_some (mapping_at ms q) then refusal.Mapped else refusal.SpaceFull)
+    → MapsPage (pages_seen ms) places q x (Err why) (pages_seen ms) places
+mapped_or_full ms places q k x why range len full is = by_mapping (mapping_at ms q) refl is
+  where
+    by_mapping : (o : Option (ℕ × Bool)) → mapping_at ms q ≡ o → why ≡ (if is_some o then refusal.Mapped else refusal.SpaceFull)
+        → MapsPage (pages_seen ms) places q x (Err why) (pages_seen ms) places
+    by_mapping None at is =
+        subst (λ r. MapsPage (pages_seen ms) places q x (Err r) (pages_seen ms) places) (sym is)
+        (full_reply ms places q k range at len full, (refl, refl))
+    by_mapping (Some m) at is =
+        subst (λ r. MapsPage (pages_seen ms) places q x (Err r) (pages_seen ms) places) (sym is)
+        (mapped_reply ms places q range (sym (ap is_some at)), (refl, refl))
+
+pub mapped_or_no_frame : (ms : List (ℕ × (ℕ × Bool))) (frames frames_after : List Holding) (q k : ℕ) (x : Bool) (why : Refusal) → q < 2 ^ 36
+    → k ≡ length ms → k < 1024 → position is_free frames ≡ None → frames_after ≡ frames
+    → why ≡ (if is_some (mapping_at ms q) then refusal.Mapped else refusal.NoFrame)
+    → MapsPage (pages_seen ms) (places_seen frames) q x (Err why) (pages_seen ms) (places_seen frames_after)
+mapped_or_no_frame ms frames frames_after q k x why range len few nothing same is = by_mapping (mapping_at ms q) refl is
+  where
+    by_mapping : (o : Option (ℕ × Bool)) → mapping_at ms q ≡ o → why ≡ (if is_some o then refusal.Mapped else refusal.NoFrame)
+        → MapsPage (pages_seen ms) (places_seen frames) q x (Err why) (pages_seen ms) (places_seen frames_after)
+    by_mapping None at is =
+        subst (λ r. MapsPage (pages_seen ms) (places_seen frames) q x (Err r) (pages_seen ms) (places_seen frames_after)) (sym is)
+        (no_frame_reply ms frames q k range at len few nothing, (refl, ap places_seen same))
+    by_mapping (Some m) at is =
+        subst (λ r. MapsPage (pages_seen ms) (places_seen frames) q x (Err r) (pages_seen ms) (places_seen frames_after)) (sym is)
+        (mapped_reply ms (places_seen frames) q range (sym (ap is_some at)), (refl, ap places_seen same))
+
+-- where the mapping itself found it, or found no memory, and the frame was given back
+pub mapped_or_no_memory : (ms : List (ℕ × (ℕ × Bool))) (frames : List Holding) (q k n given : ℕ) (x : Bool) (ms_after : List (ℕ × (ℕ × Bool)))
+    (taken frames_after : List Holding) (why : Refusal) → q < 2 ^ 36 → k ≡ length ms → k < 1024 → position is_free frames ≡ Some n → given ≡ n
+    → ms_after ≡ ms → taken ≡ set frames n Mapped → frames_after ≡ set taken given Free → why ≡ unmapped_by (mapping_at ms q)
+    → MapsPage (pages_seen ms) (places_seen frames) q x (Err why) (pages_seen ms_after) (places_seen frames_after)
+mapped_or_no_memory ms frames q k n given x ms_after taken frames_after why range len few first same kept took gave is =
+    by_mapping (mapping_at ms q) refl is
+  where
+    by_mapping : (o : Option (ℕ × Bool)) → mapping_at ms q ≡ o → why ≡ unmapped_by o
+        → MapsPage (pages_seen ms) (places_seen frames) q x (Err why) (pages_seen ms_after) (places_seen frames_after)
+    by_mapping None at is =
+        subst (λ r. MapsPage (pages_seen ms) (places_seen frames) q x (Err r) (pages_seen ms_after) (places_seen frames_after)) (sym is)
+        (no_memory ms frames q k n given x ms_after taken frames_after range at len few first same kept took gave)
+    by_mapping (Some m) at is =
+        subst (λ r. MapsPage (pages_seen ms) (places_seen frames) q x (Err r) (pages_seen ms_after) (places_seen frames_after)) (sym is) (
+          mapped_reply ms (places_seen frames) q range (sym (ap is_some at)),
+          (
+            ap pages_seen kept,
+            ap places_seen
+                (given_back frames n given taken frames_after first same took gave),
+          ),
+        )

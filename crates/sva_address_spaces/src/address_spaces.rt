@@ -28,9 +28,9 @@ use sva_step::{Answer, FrameList, MOST_SPACES, NUMBERS, Refusal};
 /// space. A step that these alone decide is that step by labels, at each host that keeps them so.
 pub struct AddressSpaces {
     alloc: Global,
-    pool: FramePool,
-    spaces: Vec<LiveSpace>,
-    next_space: u64,
+    pub(crate) pool: FramePool,
+    pub(crate) spaces: Vec<LiveSpace>,
+    pub(crate) next_space: u64,
 }
 
 impl Drop for AddressSpaces {

@@ -5,6 +5,8 @@ mod address_spaces;
 mod asked;
 mod live;
 mod pages;
+mod reading;
 
 pub use address_spaces::AddressSpaces;
 pub use asked::MOST_ASKED;
+pub use live::LiveSpace;

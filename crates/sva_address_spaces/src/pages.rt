@@ -1,6 +1,8 @@
 //! Pages and frames: what a step does to one space and to the pool.
 
-ghost use Rattle.std.specs.Prelude.{◌≡◌, ◌≤◌, ◌+◌, ◌^◌, true, filter};
+ghost use Rattle.std.specs.Prelude.{◌≡◌, ◌≤◌, ◌+◌, ◌^◌, if◌then◌else◌, is_some, true, filter};
+ghost use Rattle.sva_step.specs.declared.refusals.Refusal.TheVariants as refusal;
+ghost use Rattle.sva_space.specs.Pages.{mapping_at};
 ghost use Rattle.sva_frames.specs.Room.{HaveRoom};
 ghost use Rattle.sva_labels.specs.Finding.{frames_of};
 ghost use Rattle.sva_labels.specs.Moves.{is_between, placed, place_for, without_pages};
@@ -27,22 +29,30 @@ pub(crate) fn map_page(
     if page >= PAGES {
         return Err(Refusal::PageRange);
     }
-    if space.find(page).is_some() {
-        return Err(Refusal::Mapped);
-    }
     if space.len() >= MOST_MAPPED {
-        return Err(Refusal::SpaceFull);
+        return Err(mapped_or(space, page, Refusal::SpaceFull));
     }
     let Some(frame) = pool.take() else {
-        return Err(Refusal::NoFrame);
+        return Err(mapped_or(space, page, Refusal::NoFrame));
     };
     let number = frame.number();
-    match space.map(page, frame, write) {
+    match space.map_new(page, frame, write) {
         Ok(()) => Ok(Answer::Frame { frame: number }),
-        Err((unused, _refused)) => {
+        Err((unused, refusal)) => {
             pool.give(unused);
-            Err(Refusal::OutOfMemory)
+            Err(refusal)
         }
+    }
+}
+
+/// `Mapped` where the page is mapped, which comes first, and else another refusal.
+fn mapped_or(space: &Space, page: u64, other: Refusal) -> Refusal
+    ensures { result ≡ (if is_some (mapping_at space.now page) then refusal.Mapped else other) }
+{
+    if space.find(page).is_some() {
+        Refusal::Mapped
+    } else {
+        other
     }
 }
 

@@ -1,7 +1,8 @@
 -- Facts on the finite map of a cache's translations, for whoever keeps one.
-use Rattle.std.proofs.Common.{◌≡◌, ◌≤◌, Bool, List, length, refl, arith}
+use Rattle.std.proofs.Common.{◌≡◌, ◌∙◌, ◌≤◌, ℕ, Bool, List, ap, sym, length, refl, arith, slice_get}
+use Rattle.std.specs.Prelude.{T}
 use Rattle.std.specs.FinMap as finite
-use Rattle.std.specs.FinMap.{entries-from_sorted, entries_sorted, len-entries, same_entries_map}
+use Rattle.std.specs.FinMap.{entries-from_sorted, entries_sorted, is_sorted, len-entries, same_entries_map}
 use Rattle.std.specs.FinMap.Entries.{where_key}
 use Rattle.sva_cache.specs.declared.cached.Translation.{Translation}
 use Rattle.sva_cache.specs.Cache.{Key, Translations, key_cmp}
@@ -21,3 +22,10 @@ len-retain_keys-le cache p =
     let all : finite.len cache ≡ length (finite.entries cache) = len-entries cache in
     let few = length-where_key-le p (finite.entries cache) in
     omega arith
+
+-- what stands at a place of the list that is kept stands there in the order of keys
+pub entry_at : (xs : List (Key × Translation)) (cache : Translations) → T (is_sorted key_cmp xs) → finite.from_sorted xs ≡ cache → (place : ℕ)
+    → slice_get (finite.entries cache) place ≡ slice_get xs place
+entry_at xs cache up is place =
+    ap (λ (kept : Translations). slice_get (finite.entries kept) place) (sym is)
+    ∙ ap (λ es. slice_get es place) (entries-from_sorted key_cmp xs up)

@@ -24,7 +24,7 @@ pub struct Translation {
 /// most seven comparisons.
 #[derive(Drop)]
 pub struct Cache {
-    entries: ArrayVec<(CacheKey, Translation), CACHED>,
+    pub(crate) entries: ArrayVec<(CacheKey, Translation), CACHED>,
 }
 
 impl Model for Cache {

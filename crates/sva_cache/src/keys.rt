@@ -72,4 +72,11 @@ impl CacheKey {
             .cmp(&other.pasid)
             .then(self.page.cmp(&other.page))
     }
+
+    /// The PASID and the page, to be shown. A search compares keys by `compare` alone.
+    pub(crate) fn numbers(&self) -> (u64, u64)
+        ensures { result ≡ self.now }
+    {
+        (self.pasid, self.page)
+    }
 }

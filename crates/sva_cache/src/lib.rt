@@ -5,6 +5,7 @@
 mod cached;
 mod coverage;
 mod keys;
+mod reading;
 
 pub use cached::{Cache, Translation};
 pub use coverage::Invalidation;

@@ -30,13 +30,13 @@ use sva_tables::{
 /// project's own rules.
 #[derive(Drop)]
 pub struct Endpoint {
-    pasids: PasidStates,
-    cache: Cache,
-    tags: RequestTags,
-    uses: UseSlots,
-    taken: TakenTable,
-    groups: GroupTable,
-    enabled: bool,
+    pub(crate) pasids: PasidStates,
+    pub(crate) cache: Cache,
+    pub(crate) tags: RequestTags,
+    pub(crate) uses: UseSlots,
+    pub(crate) taken: TakenTable,
+    pub(crate) groups: GroupTable,
+    pub(crate) enabled: bool,
 }
 
 impl Model for Endpoint {

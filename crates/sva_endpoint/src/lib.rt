@@ -5,6 +5,7 @@
 mod device;
 mod laws;
 mod permitted;
+mod reading;
 
 pub use device::Endpoint;
 pub use laws::endpoint_laws;

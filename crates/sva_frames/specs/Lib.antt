@@ -4,5 +4,6 @@ pub mod Numbers
 pub mod Stages
 pub mod Chains
 pub mod Pool
+pub mod Reading
 pub mod Calls
 pub mod Laws

@@ -15,7 +15,7 @@ use std::marker::Model;
 /// What a unit keeps of one frame: what the frame waits for there, and the next frame that waits for the same.
 #[derive(Clone, Copy)]
 pub struct Cell {
-    target: Option<Target>,
+    pub(crate) target: Option<Target>,
     next: Option<u32>,
 }
 
@@ -24,7 +24,7 @@ pub struct Cell {
 /// Contracts see the list of targets, one a frame, where it has one.
 #[derive(Drop)]
 pub struct Lane {
-    cells: Vec<Cell>,
+    pub(crate) cells: Vec<Cell>,
     heads: Heads,
 }
 

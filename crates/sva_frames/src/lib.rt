@@ -9,8 +9,10 @@ mod lane;
 mod laws;
 mod ledger;
 mod pool;
+mod reading;
 mod waits;
 
 pub use laws::frame_laws;
 pub use pool::{Counts, Frame, FramePool, Place};
+pub use reading::Held;
 pub use waits::{PENDING, Target, UNITS, Waits};

@@ -65,8 +65,8 @@ impl Frame {
 /// Only `open` takes memory: a cell for each frame and unit, and a place for each cookie that may be pending.
 #[derive(Drop)]
 pub struct FramePool {
-    ledger: Ledger,
-    lanes: Vec<Lane>,
+    pub(crate) ledger: Ledger,
+    pub(crate) lanes: Vec<Lane>,
 }
 
 impl Model for FramePool {

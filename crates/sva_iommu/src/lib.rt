@@ -3,6 +3,7 @@
 #![tactic(auto)]
 
 mod orders;
+mod reading;
 mod units;
 
 pub use sva_msg::Extent;

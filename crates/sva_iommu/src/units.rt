@@ -19,8 +19,8 @@ use sva_queue::{Descriptor, Next, Sending};
 /// labels see it. No call takes memory.
 #[derive(Drop)]
 pub struct RemappingUnit {
-    queue: sva_queue::Unit,
-    requests: PageQueue,
+    pub(crate) queue: sva_queue::Unit,
+    pub(crate) requests: PageQueue,
 }
 
 impl Model for RemappingUnit {

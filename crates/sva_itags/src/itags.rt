@@ -12,7 +12,7 @@ use std::marker::Model;
 use sva_step::ITAGS;
 
 /// A tag in use, and how many of the completions that it waits for have arrived.
-#[derive(Clone, Copy)]
+#[derive(Clone, Copy, Debug, PartialEq, Eq)]
 pub enum Busy {
     /// None has arrived, so their count isn't known.
     Fresh,
@@ -101,7 +101,7 @@ fn first_free(places: &[Option<Busy>]) -> Option<usize>
 /// The 32 tags of a unit. No call takes memory.
 #[derive(Drop)]
 pub struct Itags {
-    places: ArrayVec<Option<Busy>, ITAGS>,
+    pub(crate) places: ArrayVec<Option<Busy>, ITAGS>,
 }
 
 impl Model for Itags {

@@ -3,8 +3,9 @@
 
 mod counts;
 mod itags;
+mod reading;
 mod vectors;
 
 pub use counts::Count;
-pub use itags::{Itags, laws};
+pub use itags::{Busy, Itags, laws};
 pub use vectors::is_tag_named;

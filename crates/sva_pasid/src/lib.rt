@@ -4,6 +4,7 @@
 mod bearers;
 mod laws;
 mod places;
+mod reading;
 mod stages;
 mod states;
 mod tables;

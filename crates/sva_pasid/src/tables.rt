@@ -15,7 +15,7 @@ use sva_step::PASID_PLACES;
 /// The bindings that are not released, in the order in which they began. A table that goes, at the end of the host itself,
 /// spends the stages that are in it: each ends as by a function level reset, over `Quiet` and `Released`.
 pub struct Table {
-    places: Vec<TableEntry>,
+    pub(crate) places: Vec<TableEntry>,
     /// What the places say of each PASID, so that a look-up by PASID goes through no binding.
     bearers: Bearers,
 }

@@ -1,5 +1,5 @@
 -- What the program reads of the command that clap entered.
-use Rattle.std.proofs.Common.{◌≡◌, ◌∙◌, refl, sym, subst, ap, ℕ, List, Option, Some, None, Result, codes, option_map, unwrap_or}
+use Rattle.std.proofs.Common.{◌≡◌, ◌∙◌, refl, sym, subst, ap, ℕ, Bool, List, Option, Some, None, Result, codes, option_map, unwrap_or}
 use Rattle.std.specs.Prelude.{Box}
 use Rattle.std.specs.Box.{box_value}
 use Rattle.std.specs.Str.Parse.{ExplainsUnsignedError, HasUnsignedDigitsIfOk, ParsesUnsigned, digits_value, without_leading_plus}
@@ -12,8 +12,8 @@ use Rattle.clap.specs.declared.parser.matches.ArgMatches.{ArgMatches}
 use Rattle.clap.specs.declared.parser.matches.ArgMatches.TheViews.{out-ArgMatches, out-SubCommand}
 use Rattle.clap.specs.declared.parser.matches.Found.{Found}
 use Rattle.clap.specs.declared.parser.matches.SubCommand.{SubCommand}
-use Rattle.sva_program.specs.declared.command.Asked.TheVariants.{Storm}
-use Rattle.sva_program.specs.Command.{IsReadable, IsWritten, asked_by, turns_by, turns_text}
+use Rattle.sva_program.specs.declared.command.Asked.TheVariants.{Storm, Trace}
+use Rattle.sva_program.specs.Command.{IsReadable, IsWritten, asked_by, is_live, turns_by, turns_text}
 
 -- what `u64` makes of a text
 abbrev Reads : Text → Result ℕ ParseIntError → Type 0
@@ -58,4 +58,21 @@ entered_storm m name rows turns storm named found made readable = go (out-ArgMat
     go None named found readable = absurd (cc named)
     go (Some b) named found readable =
         entered_by (out-SubCommand (box_value b)).name.now (rows_of (found_of (out-SubCommand (box_value b)).matches)) rows turns
-        (sym storm ∙ ap (λ o. unwrap_or o name) named) (ap (λ o. unwrap_or o rows) found) made readable
+        (sym storm ∙ ap (λ o. unwrap_or o name) named) (ap (λ o. unwrap_or o rows) found) made
+        (readable (sym (ap (λ o. unwrap_or o name) named) ∙ storm))
+
+-- where `trace` was entered, the words ask for a trace
+pub entered_trace : (m : ArgMatches) (name : Text) (rows : List Row) (live : Bool) → name ≡ codes "trace" → Some name ≡ subcommand_name_of m
+    → Some rows ≡ option_map (λ p. p.1) (subcommand_rows (out-ArgMatches m).subcommand)
+    → live ≡ is_live rows
+    → Trace live ≡ asked_by (subcommand_rows_of m)
+entered_trace m name rows live trace named found made = go (out-ArgMatches m).subcommand named found
+  where
+    go : {Z : Type 0} (b : Option (Box SubCommand Z)) → Some name ≡ option_map (λ b. (out-SubCommand (box_value b)).name.now) b
+        → Some rows ≡ option_map (λ p. p.1) (subcommand_rows b)
+        → Trace live ≡ asked_by (subcommand_rows b)
+    go None named found = absurd (cc named)
+    go (Some b) named found =
+        let own = rows_of (found_of (out-SubCommand (box_value b)).matches) in
+        subst (λ n. Trace live ≡ asked_by (Some (n, own))) (sym trace ∙ ap (λ o. unwrap_or o name) named)
+        (ap Trace (made ∙ ap is_live (ap (λ o. unwrap_or o rows) found)))

@@ -7,16 +7,21 @@ use Rattle.clap.specs.Words.{HasKind, IsAmong, Kinds, kind_of}
 use Rattle.clap.specs.declared.error.Error.{Error}
 use Rattle.clap.specs.declared.error.kind.ErrorKind.{ErrorKind}
 use Rattle.clap.specs.declared.error.kind.ErrorKind.TheVariants.{DisplayHelp, DisplayVersion, OutOfMemory}
-use Rattle.sva_scenario.specs.Streams.{AppendsPrefix, Stream}
+use Rattle.sva_scenario.specs.Streams.{AppendsPrefix, Stream, Writes}
 use Rattle.sva_scenario.specs.declared.reading.TheConstants.{MOST_TURNS}
 use Rattle.sva_scenario.specs.declared.streams.DriveFault.{DriveFault}
 use Rattle.sva_scenario.specs.declared.streams.DriveFault.TheVariants.{Read, Write, Memory}
 use Rattle.sva_scenario.specs.declared.streams.Outcome.{Outcome}
 use Rattle.sva_scenario.specs.Report.{check_of, report_of}
 use Rattle.sva_scenario.proofs.StormLemmas.{lacking_of}
-use Rattle.sva_program.specs.Run.{HasCause, Makes, Reports}
+use Rattle.sva_script_reports.specs.Prints.{Prints}
+use Rattle.sva_script_reading.specs.Said.{Said}
+use Rattle.sva_script_reports.specs.Scripts.{plain_of, test_of}
+use Rattle.sva_script_reports.specs.Shows.{show_of}
+use Rattle.sva_script_reports.specs.Traces.{trace_of}
+use Rattle.sva_program.specs.Run.{HasCause, Makes, Reports, WhereKnown, columns_of}
 use Rattle.sva_program.specs.declared.command.Asked.{Asked}
-use Rattle.sva_program.specs.declared.command.Asked.TheVariants.{Check, Replay, Storm}
+use Rattle.sva_program.specs.declared.command.Asked.TheVariants.{Check, Plain, Replay, Show, Storm, Test, Trace}
 
 keeps : (old new : Option (List ℕ)) → new ≡ old → Keeps old new
 keeps None new e = tt
@@ -24,14 +29,13 @@ keeps (Some xs) (Some ys) e = cc e
 keeps (Some xs) None e = absurd (cc e)
 
 -- what a command says of what it wrote, put together
-pub reported : (asked : Asked) (input old new : Option (List ℕ)) (r : Result Outcome DriveFault)
-    → IfSome input (λ text. Makes asked text old new r)
+pub reported : (makes : List ℕ → Type 0) (input old new : Option (List ℕ)) (r : Result Outcome DriveFault) → IfSome input makes
     → (r ≡ Err Read → new ≡ old)
-    → Reports asked input old new r
-reported asked input old new (Ok ended) made read = made
-reported asked input old new (Err Read) made read = keeps old new (read refl)
-reported asked input old new (Err Write) made read = made
-reported asked input old new (Err Memory) made read = made
+    → WhereKnown makes input old new r
+reported makes input old new (Ok ended) made read = made
+reported makes input old new (Err Read) made read = keeps old new (read refl)
+reported makes input old new (Err Write) made read = made
+reported makes input old new (Err Memory) made read = made
 
 -- the text and the outcome of a command, where its input is known
 pub made : (A : List ℕ → Type 0) (P : Outcome → List ℕ → Type 0) (input : Option (List ℕ)) (r : Result Outcome DriveFault) → IfSome input A
@@ -40,6 +44,19 @@ pub made : (A : List ℕ → Type 0) (P : Outcome → List ℕ → Type 0) (inpu
 made A P None r text outcome = tt
 made A P (Some input) (Ok ended) text outcome = (text, outcome)
 made A P (Some input) (Err fault) text outcome = (text, tt)
+
+pub run_reported : (said : List ℕ → List ℕ) (ends : List ℕ → Outcome) (input old new : Option (List ℕ)) (r : Result Outcome DriveFault)
+    → IfSome input (λ text. Writes old new (said text) r) → IfOk r (λ outcome. IfSome input (λ text. outcome ≡ ends text))
+    → (r ≡ Err Read → new ≡ old)
+    → WhereKnown (λ text. Makes old new (said text) (ends text) r) input old new r
+run_reported said ends input old new r text outcome read =
+    reported (λ t. Makes old new (said t) (ends t) r) input old new r
+    (made (λ t. Writes old new (said t) r) (λ ended t. ended ≡ ends t) input r text outcome) read
+
+pub printed : (says : List ℕ → Said) (input old new : Option (List ℕ)) (r : Result Outcome DriveFault)
+    → IfSome input (λ text. Prints (says text) old new r) → (r ≡ Err Read → new ≡ old)
+    → WhereKnown (λ text. Prints (says text) old new r) input old new r
+printed says input old new r made read = reported (λ text. Prints (says text) old new r) input old new r made read
 
 -- and of what failed
 pub caused : {R W : Type 0} (reader : Stream R) (writer : Stream W) (r : Result Outcome DriveFault)
@@ -61,14 +78,25 @@ nothing_of : (old : Option (List ℕ)) (text : List ℕ) → AppendsPrefix old o
 nothing_of old text = ([], text, refl, appends_nothing old)
 
 -- nothing written is a prefix of each report
-unwritten_by : (asked : Asked) (text : List ℕ) (old : Option (List ℕ)) → Makes asked text old old (Err Memory)
-unwritten_by Replay text old = (nothing_of old (report_of text), tt)
-unwritten_by Check text old = (nothing_of old (check_of text), tt)
-unwritten_by (Storm turns) text old = lacking_of text turns old
+unwritten_where : (makes : List ℕ → Type 0) (input old : Option (List ℕ)) → ((text : List ℕ) → makes text) → WhereKnown makes input old old (Err Memory)
+unwritten_where makes None old all = tt
+unwritten_where makes (Some text) old all = all text
+
+unprinted : (said : Said) (old : Option (List ℕ)) → Prints said old old (Err Memory)
+unprinted said old = (nothing_of old said.text, tt)
+
+unwritten_by : (asked : Asked) (input old : Option (List ℕ)) → Reports asked input old old (Err Memory)
+unwritten_by Replay input old = unwritten_where _ input old (λ text. (nothing_of old (report_of text), tt))
+unwritten_by Check input old = unwritten_where _ input old (λ text. (nothing_of old (check_of text), tt))
+unwritten_by (Storm turns) input old = unwritten_where _ input old (λ text. lacking_of text turns old)
+unwritten_by Plain input old = unwritten_where _ input old (λ text. unprinted (plain_of text) old)
+unwritten_by Test input old = unwritten_where _ input old (λ text. unprinted (test_of text) old)
+unwritten_by Show input old = unwritten_where _ input old (λ text. unprinted (show_of text) old)
+unwritten_by (Trace live) None old = tt
+unwritten_by (Trace live) (Some text) old = unprinted (trace_of (columns_of live) text) old
 
 pub unwritten : (asked : Asked) (input old new : Option (List ℕ)) → new ≡ old → Reports asked input old new (Err Memory)
-unwritten asked None old new e = tt
-unwritten asked (Some text) old new e = subst (λ n. Makes asked text old n (Err Memory)) (sym e) (unwritten_by asked text old)
+unwritten asked input old new e = subst (λ n. Reports asked input old n (Err Memory)) (sym e) (unwritten_by asked input old)
 
 -- where a command line has no fault, an error can only be want of memory
 pub only_memory : (kinds : Kinds) (error : Error) → kinds ≡ [] → HasKind kinds error → kind_of error ≡ OutOfMemory

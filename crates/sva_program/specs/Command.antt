@@ -1,14 +1,18 @@
 -- What a command line asks for. clap's definitions say what a parse makes of words; here is the command that they speak of.
-use Rattle.std.specs.Prelude.{◌≡◌, ◌≢◌, ◌⊎◌, ℕ, List, [], ◌∷◌, ◌++◌, true, codes, map, if◌then◌else◌, Option, None, Some, option_and_then, String, string_bytes}
+use Rattle.std.specs.Prelude.{◌≡◌, ◌≢◌, ◌⊎◌, ℕ, Bool, List, [], ◌∷◌, ◌++◌, false, true, codes, map, if◌then◌else◌, Option, None, Some, String, string_bytes}
+use Rattle.std.specs.Option.{option_map_or}
 use Rattle.std.specs.Str.{bytes_eq}
 use Rattle.std.specs.Str.Parse.{digits_value, without_leading_plus}
-use Rattle.clap.specs.Words.{App, IsAmong, IsUnsignedIn, Kinds, Row, Rule, Text, fault_of, new_app, new_rule, one_of, with_rule, with_subcommand}
-use Rattle.clap.specs.declared.builder.action.ArgAction.TheVariants.{Set}
+use Rattle.clap.specs.Faults.{level_fault}
+use Rattle.clap.specs.Walk.{first_of, nothing_held, rows_after}
+use Rattle.clap.specs.Words.{App, IsAmong, IsUnsignedIn, Kinds, Row, Rule, Shape, Text, built, fault_of, new_app, new_rule, one_of}
+use Rattle.clap.specs.Words.{with_rule, with_subcommand}
+use Rattle.clap.specs.declared.builder.action.ArgAction.TheVariants.{Set, SetTrue}
 use Rattle.clap.specs.declared.builder.value_parser.ValueParser.TheVariants.{Unsigned}
 use Rattle.clap.specs.declared.error.kind.ErrorKind.{ErrorKind}
 use Rattle.clap.specs.declared.error.kind.ErrorKind.TheVariants.{DisplayHelp, DisplayVersion}
 use Rattle.sva_program.specs.declared.command.Asked.{Asked}
-use Rattle.sva_program.specs.declared.command.Asked.TheVariants.{Replay, Check, Storm}
+use Rattle.sva_program.specs.declared.command.Asked.TheVariants.{Replay, Check, Storm, Plain, Test, Show, Trace}
 
 -- `--turns N`, a number that is read as u64, from 1 to 1000000, or 10000 where it isn't given
 abbrev pub turns_rule : Rule
@@ -20,15 +24,26 @@ turns_rule = record (new_rule (codes "turns")) {
   parser = Some (Unsigned 1 1000000);
 }
 
--- `svahost` with a version and its commands: `replay` and `check`, which take no arguments, and `storm`, which takes `--turns`; each
--- has clap's flags for help
+-- `--live`, a flag
+abbrev pub live_rule : Rule
+live_rule = record (new_rule (codes "live")) { long = Some (codes "live"); action = Some SetTrue }
+
+-- `svahost` with a version, before its commands, of which one is wanted
+abbrev pub no_commands : App
+no_commands = let plain = new_app (codes "svahost") in
+    record plain { top = record plain.top { has_version = true; subcommand_required = true; disable_help_subcommand = true } }
+
+-- `svahost` with a version and its commands: `storm`, which takes `--turns`, `trace`, which takes `--live`, and those that take no
+-- arguments; each has clap's flags for help
 abbrev pub svahost : App
 svahost =
-    let plain = new_app (codes "svahost") in
-    let top = record plain { top = record plain.top { has_version = true; subcommand_required = true; disable_help_subcommand = true } } in
-    let replaying = with_subcommand top (new_app (codes "replay")).top in
+    let replaying = with_subcommand no_commands (new_app (codes "replay")).top in
     let checking = with_subcommand replaying (new_app (codes "check")).top in
-    with_subcommand checking (with_rule (new_app (codes "storm")) turns_rule).top
+    let storming = with_subcommand checking (with_rule (new_app (codes "storm")) turns_rule).top in
+    let plain_too = with_subcommand storming (new_app (codes "plain")).top in
+    let testing = with_subcommand plain_too (new_app (codes "test")).top in
+    let showing = with_subcommand testing (new_app (codes "show")).top in
+    with_subcommand showing (with_rule (new_app (codes "trace")) live_rule).top
 
 -- the faults of words, by clap's definitions
 unfoldable pub faults_of : List Text → Kinds
@@ -58,11 +73,35 @@ IsStorm turns words =
     (name : Text) × (rest : List Text) × GivesTurns turns rest
     × ((words ≡ name ∷ codes "storm" ∷ rest) ⊎ (words ≡ name ∷ codes "storm" ∷ rest ++ codes "--" ∷ []))
 
+-- the command `trace` as clap builds it: the last one
+abbrev pub last_shape : Shape → List Shape → Shape
+last_shape shape [] = shape
+last_shape shape (next ∷ shapes) = last_shape next shapes
+
+abbrev pub trace_shape : Shape
+trace_shape = last_shape (built svahost).top (built svahost).subs
+
+-- was `--live` found?
+abbrev pub is_live : List Row → Bool
+is_live rows = option_map_or (λ text. bytes_eq text (codes "true")) (first_of (codes "live") rows) false
+
+-- the words behind `trace`, by clap's definitions: they have no fault, and `--live` is among them or not
+abbrev pub GivesLive : Bool → List Text → Type 0
+GivesLive live words = (level_fault trace_shape [] nothing_held words false [] ≡ []) × (live ≡ is_live (rows_after trace_shape.rules [] words))
+
+-- the words are the program's name, `trace`, and words that say this of `--live`
+abbrev pub IsTrace : Bool → List Text → Type 0
+IsTrace live words = (name : Text) × (rest : List Text) × GivesLive live rest × (words ≡ name ∷ codes "trace" ∷ rest)
+
 -- the words ask for this command
 abbrev pub Asks : Asked → List Text → Type 0
 Asks Replay words = IsCommand (codes "replay") words
 Asks Check words = IsCommand (codes "check") words
 Asks (Storm turns) words = IsStorm turns words
+Asks Plain words = IsCommand (codes "plain") words
+Asks Test words = IsCommand (codes "test") words
+Asks Show words = IsCommand (codes "show") words
+Asks (Trace live) words = IsTrace live words
 
 -- the command that clap entered, by its name and by what was found of `--turns`
 abbrev pub turns_text : List Row → Option Text
@@ -73,20 +112,27 @@ abbrev pub turns_by : Option Text → ℕ
 turns_by None = 10000
 turns_by (Some text) = digits_value 10 (without_leading_plus text)
 
--- the command that was asked for, by the subcommand that clap entered. What is neither `check` nor `storm` stands for `replay`:
--- where clap takes the words, it has entered one of the three
+-- the command that was asked for, by the subcommand that clap entered. What is none of the others stands for `replay`: where clap takes
+-- the words, it has entered one of them
 abbrev pub asked_by : Option (Text × List Row) → Asked
 asked_by None = Replay
 asked_by (Some (name, rows)) =
-    if bytes_eq name (codes "check") then Check else (if bytes_eq name (codes "storm") then Storm (turns_by (turns_text rows)) else Replay)
+    if bytes_eq name (codes "check") then Check else
+    if bytes_eq name (codes "storm") then Storm (turns_by (turns_text rows)) else
+    if bytes_eq name (codes "plain") then Plain else
+    if bytes_eq name (codes "test") then Test else
+    if bytes_eq name (codes "show") then Show else
+    if bytes_eq name (codes "trace") then Trace (is_live rows) else
+    Replay
 
 -- what was found of `--turns` is a number of turns
 abbrev pub IsWritten : Option Text → Type 0
 IsWritten found = (text : Text) → found ≡ Some text → IsUnsignedIn 1 1000000 text
 
--- the same of the subcommand that clap entered; where `--turns` was not found there is nothing to read
+-- the same of the subcommand that clap entered, where that is `storm`
 abbrev pub IsReadable : Option (Text × List Row) → Type 0
-IsReadable entered = IsWritten (option_and_then (λ subcommand. turns_text subcommand.1) entered)
+IsReadable None = Unit {0}
+IsReadable (Some (name, rows)) = name ≡ codes "storm" → IsWritten (turns_text rows)
 
 -- the words ask for a run that reads standard input
 abbrev pub AsksRun : List Text → Type 0
@@ -99,6 +145,10 @@ pub data CallsHelp (words : List Text) : Type 0 where
   behind_replay : (name : Text) → words ≡ name ∷ codes "replay" ∷ codes "--help" ∷ [] → CallsHelp words
   behind_check : (name : Text) → words ≡ name ∷ codes "check" ∷ codes "--help" ∷ [] → CallsHelp words
   behind_storm : (name : Text) → words ≡ name ∷ codes "storm" ∷ codes "--help" ∷ [] → CallsHelp words
+  behind_plain : (name : Text) → words ≡ name ∷ codes "plain" ∷ codes "--help" ∷ [] → CallsHelp words
+  behind_test : (name : Text) → words ≡ name ∷ codes "test" ∷ codes "--help" ∷ [] → CallsHelp words
+  behind_show : (name : Text) → words ≡ name ∷ codes "show" ∷ codes "--help" ∷ [] → CallsHelp words
+  behind_trace : (name : Text) → words ≡ name ∷ codes "trace" ∷ codes "--help" ∷ [] → CallsHelp words
 
 -- a call for the version: by a flag in the place of the command, whatever follows
 pub data CallsVersion (words : List Text) : Type 0 where

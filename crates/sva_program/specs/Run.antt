@@ -1,5 +1,5 @@
 -- How a run of svahost ends.
-use Rattle.std.specs.Prelude.{◌≡◌, ◌≢◌, ◌⊎◌, ◌≤◌, ℕ, ◌+◌, List, [], ◌∷◌, ◌++◌, codes, Option, IfOk, IfSome, Result, Ok, Err}
+use Rattle.std.specs.Prelude.{◌≡◌, ◌≢◌, ◌⊎◌, ◌≤◌, ℕ, ◌+◌, List, [], ◌∷◌, ◌++◌, codes, Bool, if◌then◌else◌, Option, IfOk, IfSome, Result, Ok, Err}
 use Rattle.std.specs.Io.KnownBytes.{Appends, Keeps}
 use Rattle.sva_scenario.specs.Report.{check_of, check_outcome_of, outcome_of, report_of}
 use Rattle.sva_scenario.specs.Storms.{StormsOf}
@@ -9,8 +9,14 @@ use Rattle.sva_scenario.specs.declared.streams.DriveFault.{DriveFault}
 use Rattle.sva_scenario.specs.declared.streams.DriveFault.TheVariants.{Read, Write, Memory}
 use Rattle.sva_scenario.specs.declared.streams.Outcome.{Outcome}
 use Rattle.sva_scenario.specs.declared.streams.Outcome.TheVariants.{Done, Faulted}
+use Rattle.sva_script_reports.specs.declared.rows.Columns.{Columns}
+use Rattle.sva_script_reports.specs.declared.rows.Columns.TheVariants.{Padded, Tabbed}
+use Rattle.sva_script_reports.specs.Prints.{Prints}
+use Rattle.sva_script_reports.specs.Scripts.{plain_of, test_of}
+use Rattle.sva_script_reports.specs.Shows.{show_of}
+use Rattle.sva_script_reports.specs.Traces.{trace_of}
 use Rattle.sva_program.specs.declared.command.Asked.{Asked}
-use Rattle.sva_program.specs.declared.command.Asked.TheVariants.{Replay, Check, Storm}
+use Rattle.sva_program.specs.declared.command.Asked.TheVariants.{Replay, Check, Storm, Plain, Test, Show, Trace}
 
 -- the status: 0 where the steps were run, 1 for a line fault, a refused config and every fault of a stream or of memory
 abbrev pub status_of : Result Outcome DriveFault → ℕ
@@ -41,18 +47,30 @@ Says contents old new text =
     × (old.failures ≤ new.failures)
     × (new.failures ≤ old.failures + 1)
 
--- What a command makes of its input: it has written this text, or a prefix of it after a fault, and ends so. What a storm makes of it
--- depends on its threads: they have played the scenario in so many turns each, and what is written is what the audit of their receipts found,
--- the sum of its own counts or a bad receipt; where memory lacked, nothing is.
-abbrev pub Makes : Asked → List ℕ → Option (List ℕ) → Option (List ℕ) → Result Outcome DriveFault → Type 0
-Makes Replay input old new ended = Writes old new (report_of input) ended × IfOk ended (λ outcome. outcome ≡ outcome_of input)
-Makes Check input old new ended = Writes old new (check_of input) ended × IfOk ended (λ outcome. outcome ≡ check_outcome_of input)
-Makes (Storm turns) input old new ended = StormsOf input turns old new ended
+-- what a command makes of its input, where that is known; after a read fault it wrote nothing
+abbrev pub WhereKnown : (List ℕ → Type 0) → Option (List ℕ) → Option (List ℕ) → Option (List ℕ) → Result Outcome DriveFault → Type 0
+WhereKnown makes input old new (Err Read) = Keeps old new
+WhereKnown makes input old new ended = IfSome input makes
 
--- what a command wrote, where its input is known; after a read fault nothing
+-- a scenario's text was written, or a prefix of it after a fault, and the run ended so
+abbrev pub Makes : Option (List ℕ) → Option (List ℕ) → List ℕ → Outcome → Result Outcome DriveFault → Type 0
+Makes old new text outcome ended = Writes old new text ended × IfOk ended (λ found. found ≡ outcome)
+
+-- `--live` leaves out the padding of columns
+abbrev pub columns_of : (live : Bool) → Columns
+columns_of live = if live then Tabbed else Padded
+
+-- What a command wrote. What a storm makes of its input depends on its threads: they have played the scenario in so many turns each, and
+-- what is written is what the audit of their receipts found, the sum of its own counts or a bad receipt; where memory lacked, nothing is. A
+-- trace has written the rows of what came before a read fault.
 abbrev pub Reports : Asked → Option (List ℕ) → Option (List ℕ) → Option (List ℕ) → Result Outcome DriveFault → Type 0
-Reports asked input old new (Err Read) = Keeps old new
-Reports asked input old new ended = IfSome input (λ text. Makes asked text old new ended)
+Reports Replay input old new ended = WhereKnown (λ text. Makes old new (report_of text) (outcome_of text) ended) input old new ended
+Reports Check input old new ended = WhereKnown (λ text. Makes old new (check_of text) (check_outcome_of text) ended) input old new ended
+Reports (Storm turns) input old new ended = WhereKnown (λ text. StormsOf text turns old new ended) input old new ended
+Reports Plain input old new ended = WhereKnown (λ text. Prints (plain_of text) old new ended) input old new ended
+Reports Test input old new ended = WhereKnown (λ text. Prints (test_of text) old new ended) input old new ended
+Reports Show input old new ended = WhereKnown (λ text. Prints (show_of text) old new ended) input old new ended
+Reports (Trace live) input old new ended = IfSome input (λ text. Prints (trace_of (columns_of live) text) old new ended)
 
 -- a text for the user: something is said, and where the value's own text is known and isn't empty, it is that one
 abbrev pub IsSaid : Option (List ℕ) → List ℕ → Type 0

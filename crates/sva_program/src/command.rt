@@ -2,9 +2,11 @@
 
 ghost use Rattle.std.specs.Prelude.{◌≡◌, IfOk, codes, false};
 ghost use Rattle.clap.specs.Words.{FailsBy, app_of, found_of, new_app, rows_of, rule_of, subcommand_rows_of, with_rule, with_subcommand};
-ghost use Rattle.sva_program.specs.Command.{Asks, IsReadable, IsWritten, asked_by, faults_of, svahost, texts, turns_by, turns_rule, turns_text};
+ghost use Rattle.sva_program.specs.Command.{Asks, IsReadable, IsWritten, asked_by, faults_of, no_commands, is_live, live_rule, svahost, texts, turns_by, turns_rule, turns_text};
 
-use crate::help::{ABOUT, CHECK, HELP, REPLAY, STORM, TURNS, VERSION};
+use crate::help::{
+    ABOUT, CHECK, HELP, LIVE, PLAIN, REPLAY, SHOW, STORM, TEST, TRACE, TURNS, VERSION,
+};
 use clap::builder::ValueParser;
 use clap::{Arg, ArgAction, ArgMatches, Command, Error};
 use std::alloc::{AllocError, Global};
@@ -26,6 +28,17 @@ pub enum Asked {
     Storm {
         /// How many turns each thread has: 1 to 1000000.
         turns: u64,
+    },
+    /// The scenario that a script stands for.
+    Plain,
+    /// Whether a script's answers are as expected.
+    Test,
+    /// What the host keeps behind the last line of a script.
+    Show,
+    /// Each step of a script with its answer and its messages, as it comes.
+    Trace {
+        /// Is a column ended by a tab, and not padded?
+        live: bool,
     },
 }
 
@@ -74,20 +87,55 @@ fn with_storm<'a>(svahost: Command<'a>, alloc: Global) -> Result<Command<'a>, Al
     svahost.subcommand(with_turns)
 }
 
+/// The option `--live`.
+fn live_option<'a>(alloc: Global) -> Arg<'a>
+    ensures rule { rule_of result ≡ live_rule }
+    ensures local { result.global ≡ false }
+{
+    Arg::new(alloc, "live")
+        .long("live")
+        .action(ArgAction::SetTrue)
+        .help(LIVE)
+}
+
+/// The program with its command `trace`.
+fn with_trace<'a>(svahost: Command<'a>, alloc: Global) -> Result<Command<'a>, AllocError>
+    ensures { IfOk result (λ command. app_of command ≡ with_subcommand (app_of svahost.entry) (with_rule (new_app (codes "trace")) live_rule).top) }
+{
+    let trace = Command::new(alloc, "trace")
+        .about(TRACE)
+        .long_about(whole_help());
+    let with_live = trace.arg(live_option(alloc))?;
+    svahost.subcommand(with_live)
+}
+
+/// The program before its commands.
+fn without_commands<'a>(alloc: Global) -> Result<Command<'a>, AllocError>
+    ensures { IfOk result (λ command. app_of command ≡ no_commands) }
+{
+    let named = Command::new(alloc, "svahost").bin_name("svahost")?;
+    Ok(
+        named
+            .version(VERSION)
+            .about(ABOUT)
+            .long_about(whole_help())
+            .subcommand_required(true)
+            .disable_help_subcommand(true),
+    )
+}
+
 /// The command line of svahost.
 fn command<'a>(alloc: Global) -> Result<Command<'a>, AllocError>
     ensures { IfOk result (λ command. app_of command ≡ svahost) }
 {
-    let bare = Command::new(alloc, "svahost")
-        .bin_name("svahost")?
-        .version(VERSION)
-        .about(ABOUT)
-        .long_about(whole_help())
-        .subcommand_required(true)
-        .disable_help_subcommand(true);
+    let bare = without_commands(alloc)?;
     let replaying = with_bare(bare, alloc, "replay", REPLAY)?;
     let checking = with_bare(replaying, alloc, "check", CHECK)?;
-    with_storm(checking, alloc)
+    let storming = with_storm(checking, alloc)?;
+    let plain_too = with_bare(storming, alloc, "plain", PLAIN)?;
+    let testing = with_bare(plain_too, alloc, "test", TEST)?;
+    let showing = with_bare(testing, alloc, "show", SHOW)?;
+    with_trace(showing, alloc)
 }
 
 /// The command that the words ask for. A call for help or for the version is an `Err` too, as clap has it.
@@ -101,7 +149,7 @@ pub fn parse(alloc: Global, words: &[String]) -> Result<Asked, Error>
     }
 }
 
-/// The command that clap entered. It enters no other than these three, and one of them where it takes the words.
+/// The command that clap entered. It enters no other than these, and one of them where it takes the words.
 fn entered(matches: &ArgMatches<'_>) -> Asked
     ensures { IsReadable (subcommand_rows_of matches.now) → result ≡ asked_by (subcommand_rows_of matches.now) }
 {
@@ -110,6 +158,10 @@ fn entered(matches: &ArgMatches<'_>) -> Asked
         Some(("storm", below)) => Asked::Storm {
             turns: turns(below),
         },
+        Some(("plain", _)) => Asked::Plain,
+        Some(("test", _)) => Asked::Test,
+        Some(("show", _)) => Asked::Show,
+        Some(("trace", below)) => Asked::Trace { live: live(below) },
         _ => Asked::Replay,
     }
 }
@@ -119,4 +171,14 @@ fn turns(storm: &ArgMatches<'_>) -> u64
     ensures { IsWritten (turns_text (rows_of (found_of storm.now))) → result ≡ turns_by (turns_text (rows_of (found_of storm.now))) }
 {
     storm.get_one::<u64>("turns").unwrap_or(USUAL_TURNS)
+}
+
+/// Was `--live` asked for?
+fn live(trace: &ArgMatches<'_>) -> bool
+    ensures { result ≡ is_live (rows_of (found_of trace.now)) }
+{
+    match trace.get_str("live") {
+        Some(text) => text == "true",
+        None => false,
+    }
 }

@@ -17,6 +17,24 @@ pub const CHECK: &str = "Reads the scenario on standard input, and prints how ma
 pub const STORM: &str =
     "Plays the scenario on standard input by threads, and prints what an audit of their calls says";
 
+/// What `-h` says of `plain`.
+pub const PLAIN: &str = "Prints the scenario that the script on standard input stands for";
+
+/// What `-h` says of `test`.
+pub const TEST: &str =
+    "Runs the script on standard input, and compares each answer with what it expects";
+
+/// What `-h` says of `show`.
+pub const SHOW: &str =
+    "Runs the script on standard input, and prints what the host keeps behind its last line";
+
+/// What `-h` says of `trace`.
+pub const TRACE: &str =
+    "Runs the script on standard input, and prints each step with its answer and its messages";
+
+/// What `-h` says of `--live`.
+pub const LIVE: &str = "A tab ends a column, and none is padded";
+
 /// What `-h` says of `--turns`.
 pub const TURNS: &str = "How many turns each thread has, 1 to 1000000";
 
@@ -71,6 +89,29 @@ take jobs and answer them. At the end each thread's receipts are compared with t
     frames 4
 
 or else `audit bad`.
+
+A script is a scenario in which nobody counts. `NAME:` before a step names its line. In later lines
+the name is a number that the step was answered, or the first message that it sent, by where it
+stands. `deliver KIND E` is of the oldest message of a kind that is in flight at endpoint E. Behind
+`=>` stands the answer that is expected, and behind # a comment:
+
+    config 1 4 1
+    s: space
+    m: map s 0x10 w           # a page may be hexadecimal
+    b: bind 0 s
+    deliver b                 => started
+    unmap s 0x10              => withheld m
+    p: pump 0                 => itag _
+    deliver invalidate 0      => taken
+    f: finish 0 {p} 1         => sent 1
+    deliver f                 => freed 1
+    end                       => free 3 mapped 0 withheld 1
+
+`svahost test` prints `7 answers as expected`, or the first that isn't: `line 6: unmap 0 16: expected
+'free 0', answered 'withheld 0'`. `svahost trace` prints each step with its answer and its messages,
+as it comes; `--live` leaves out the padding of columns. `svahost show` prints what the host keeps
+behind the last line, and `svahost plain` the scenario with all numbers. Each scenario is a script.
+`./svahost test FILE ..` tries several, and `./svahost show --after N` shows what is kept behind line N.
 
 The config, and the steps. E is an endpoint, S a space, B a binding, M a message, F a frame and W a
 worker, each numbered from 0, and a word in brackets may be missing:

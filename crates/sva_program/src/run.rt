@@ -4,7 +4,7 @@ ghost use Rattle.std.specs.Prelude.{◌≡◌, ◌≢◌, ◌≤◌, ◌<◌, �
 ghost use Rattle.std.specs.Io.KnownBytes.{Appends};
 ghost use Rattle.std.specs.IoError.{error_kind};
 ghost use Rattle.sva_program.specs.Command.{Asks, AsksRun, AsksText, CallsHelp, CallsVersion, IsMistaken, texts};
-ghost use Rattle.sva_program.specs.Run.{HasCause, IsSaid, Reports, Says, complaint, fault_line, status_of, unread_line};
+ghost use Rattle.sva_program.specs.Run.{HasCause, IsSaid, Reports, Says, columns_of, complaint, fault_line, status_of, unread_line};
 ghost use Rattle.sva_scenario.specs.Streams.{IsNew, Writes};
 
 use crate::command::{Asked, parse};
@@ -18,6 +18,7 @@ use std::io::{ErrorKind as IoErrorKind, Read, Write};
 use std::sync::Wait;
 use std::thread::Threads;
 use sva_scenario::{DriveFault, Outcome, Told, check, drive, write_all};
+use sva_script_reports::{Columns, Saying, print, trace};
 
 /// The steps were run, or help was shown.
 const DONE: u8 = 0;
@@ -29,7 +30,7 @@ const FAULT: u8 = 1;
 const MISTAKE: u8 = 2;
 
 /// A whole run of svahost on its words, the program's name first: the status that it exits with. The command line is
-/// judged before anything is read. `replay`, `check` and `storm` write what they make of all that the reader gives; what a
+/// judged before anything is read. Each command writes what it makes of all that the reader gives, `trace` line by line; what a
 /// fault is, `errors` is told in a line. Help and the version go to the writer, what is wrong with the words to `errors`.
 pub fn main_with<X: AllocGlobal + Threads + Wait + Sync, R: Read, W: Write, E: Write>(
     rt: &X,
@@ -86,6 +87,21 @@ fn perform<X: AllocGlobal + Threads + Wait + Sync, R: Read, W: Write>(
         Asked::Replay => drive(rt.alloc(), reader, writer),
         Asked::Check => check(rt.alloc(), reader, writer),
         Asked::Storm { turns } => drive_storm(rt, rt.alloc(), turns, reader, writer),
+        Asked::Plain => print(rt.alloc(), Saying::Plain, reader, writer),
+        Asked::Test => print(rt.alloc(), Saying::Test, reader, writer),
+        Asked::Show => print(rt.alloc(), Saying::Show, reader, writer),
+        Asked::Trace { live } => trace(rt.alloc(), columns_of(live), reader, writer),
+    }
+}
+
+/// How a trace ends its columns: `--live` leaves out the padding.
+fn columns_of(live: bool) -> Columns
+    ensures { result ≡ columns_of live }
+{
+    if live {
+        Columns::Tabbed
+    } else {
+        Columns::Padded
     }
 }
 

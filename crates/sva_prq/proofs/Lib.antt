@@ -5,3 +5,4 @@ pub mod QueueLaws
 pub mod Tests
 pub mod Filing
 pub mod GroupLaws
+pub mod Placed

@@ -8,6 +8,10 @@ use Rattle.sva_prq.specs.Groups.{OpenGroup}
 abbrev pub IsAt : List (Option OpenGroup) → ℕ → OpenGroup → Type 0
 IsAt slots key group = slice_index_or slots key None ≡ Some group
 
+-- did the group begin after the one with this serial?
+abbrev pub is_behind : (serial : ℕ) → OpenGroup → Bool
+is_behind serial group = nat_lt serial group.serial
+
 -- a group among others that stand by rising serial
 abbrev pub placed : OpenGroup → List OpenGroup → List OpenGroup
 placed group [] = group ∷ []

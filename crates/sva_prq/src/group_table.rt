@@ -19,15 +19,15 @@ const CELLS: usize = MOST_ENDPOINTS * GROUPS;
 
 /// A page request group that is filed in part or whole and not answered.
 #[derive(Drop)]
-struct Group {
+pub struct Group {
     /// How many groups began before it. It tells the group from all others.
-    serial: u64,
-    unit: u64,
-    binding: u64,
-    index: u8,
-    asks: ArrayVec<Ask, PAGE_REQUESTS>,
+    pub(crate) serial: u64,
+    pub(crate) unit: u64,
+    pub(crate) binding: u64,
+    pub(crate) index: u8,
+    pub(crate) asks: ArrayVec<Ask, PAGE_REQUESTS>,
     /// The last request is filed, and the job is made.
-    last: bool,
+    pub(crate) last: bool,
 }
 
 impl Model for Group {
@@ -110,7 +110,7 @@ impl Group {
 }
 
 /// A copy that needs no memory.
-fn copied(asks: &ArrayVec<Ask, PAGE_REQUESTS>) -> ArrayVec<Ask, PAGE_REQUESTS>
+pub(crate) fn copied(asks: &ArrayVec<Ask, PAGE_REQUESTS>) -> ArrayVec<Ask, PAGE_REQUESTS>
     ensures { result.items ≡ asks.now.items }
 {
     let mut copy = ArrayVec::new();
@@ -246,7 +246,7 @@ fn room_after(slots: &Slab<Group>, room: usize, gone: usize) -> usize
 /// below 32, and a unit has no two unfinished groups of one index. `open_of` and `drop_unit` look at each open group once.
 #[derive(Drop)]
 pub struct Groups {
-    slots: Slab<Group>,
+    pub(crate) slots: Slab<Group>,
     /// By unit and index, the key that any unfinished group of the cell has. A cell in which a group began while another
     /// was unfinished has none: then a search goes over all groups.
     cells: [Option<usize>; CELLS],

@@ -17,13 +17,13 @@ use sva_step::MOST_WORKERS;
 /// takes memory.
 #[derive(Drop)]
 pub struct JobTable {
-    groups: Groups,
+    pub(crate) groups: Groups,
     /// The jobs that no worker has taken, the oldest first.
-    jobs: VecDeque<Job>,
+    pub(crate) jobs: VecDeque<Job>,
     /// How many jobs more fit into `jobs` as it is.
     room: usize,
     /// By worker.
-    hands: [Option<Job>; MOST_WORKERS],
+    pub(crate) hands: [Option<Job>; MOST_WORKERS],
 }
 
 impl Model for JobTable {

@@ -7,8 +7,9 @@ mod job_table;
 mod jobs;
 mod laws;
 mod page_queue;
+mod reading;
 
-pub use group_table::Groups;
+pub use group_table::{Group, Groups};
 pub use job_table::JobTable;
 pub use jobs::{Ask, Job};
 pub use laws::{group_laws, queue_laws};

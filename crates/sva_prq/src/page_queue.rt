@@ -12,8 +12,8 @@ const PLACES: usize = PAGE_REQUESTS;
 
 /// A page request as it lies in the table, whose unused places hold blank ones.
 #[derive(Clone, Copy)]
-struct Arrival {
-    request: PageRequest,
+pub struct Arrival {
+    pub(crate) request: PageRequest,
 }
 
 impl Model for Arrival {
@@ -49,7 +49,7 @@ impl Default for Arrival {
 /// seen as the list of the requests that wait, the oldest first. No call takes memory.
 #[derive(Drop)]
 pub struct PageQueue {
-    waiting: ArrayVec<Arrival, PLACES>,
+    pub(crate) waiting: ArrayVec<Arrival, PLACES>,
 }
 
 impl Model for PageQueue {

@@ -1,9 +1,11 @@
 -- The part of a table that holds a list, from one place on and round the table's end.
 use Rattle.std.proofs.Common.{◌≡◌, ℕ, ◌+◌, ◌-◌, ◌%◌, ◌<◌, ◌≤◌, ◌⊎◌, List, [], ◌∷◌, ◌++◌, length, get_or, take, drop, set, ap, sym, ◌∙◌, ap₂, inl, inr}
+use Rattle.std.proofs.Common.{Some, slice_get}
 use Rattle.std.proofs.Common.{mod-eq_of_lt, arith, length-append, length-drop, length-set, length-take-le, get_or-drop, get_or-take}
 use native.Mathlib.Nat.{mod-eq-sub-mod, mod-add-mod}
 use Rattle.std.proofs.lemmas.List.{same_lists, drop_more, get_or_append_left, get_or-append_right}
 use Rattle.std.proofs.lemmas.Bool.{cases_lt}
+use Rattle.std.proofs.lemmas.Option.{slice_get-get_or}
 use Rattle.std.proofs.lemmas.Grind.{common_steps}
 use Rattle.std.proofs.Math.Seq.{take-append_seam}
 use Rattle.std.specs.List.{refill}
@@ -34,6 +36,12 @@ module _ {X : Type 0} (N k n : ℕ) (xs : List X) (start_in_range : k < N) (len_
         | inr wrapped ↦ get_or-append_right _ _ (N - k) i d (omega arith) (omega arith) ∙ get_or-take k xs _ d (omega arith)
             ∙ ap (λ j. get_or xs j d) (omega arith)
       ]
+
+  -- and so is what is read there
+  pub window_at : (i : ℕ) (d : X) → i < n → slice_get (window k n xs) i ≡ Some (get_or xs ((k + i) % N) d)
+  window_at i d in_range =
+      let long = length-window in
+      slice_get-get_or (window k n xs) i d (omega arith) ∙ ap Some (get_or-window i d in_range)
 
 -- A second block, since these use the lemmas above at other windows.
 module _ {X : Type 0} (N k n : ℕ) (xs : List X) (start_in_range : k < N) (len_fits : n ≤ N) (length_xs : length xs ≡ N) where

@@ -3,6 +3,7 @@
 
 mod descriptors;
 mod heads;
+mod reading;
 mod ring;
 mod units;
 

@@ -58,6 +58,17 @@ impl Ring {
         }
     }
 
+    /// The descriptor at a place, the first one at 0; none from the last one on.
+    pub(crate) fn at(&self, place: usize) -> Option<Descriptor>
+        ensures { result ≡ slice_get self.now place }
+    {
+        if place < self.len {
+            Some(self.places[(self.head + place) % QUEUE_PLACES])
+        } else {
+            None
+        }
+    }
+
     /// Puts a descriptor behind the last one.
     pub(crate) fn push(&mut self, descriptor: Descriptor)
         requires { length self.old < 64 }

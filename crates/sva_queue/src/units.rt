@@ -40,11 +40,11 @@ fn number_after(first: u64, descriptors: &[Descriptor]) -> u64
 /// its waits are done. No call takes memory.
 #[derive(Drop)]
 pub struct Unit {
-    queue: Ring,
-    tags: Itags,
+    pub(crate) queue: Ring,
+    pub(crate) tags: Itags,
     is_open: bool,
     front: u64,
-    back: u64,
+    pub(crate) back: u64,
 }
 
 impl Model for Unit {

@@ -12,8 +12,8 @@ use Rattle.sva_grammar.specs.declared.faults.Cause.{Cause}
 use Rattle.sva_grammar.specs.Grammar.{number, vector}
 use Rattle.sva_script.specs.declared.given.Given.{Given}
 use Rattle.sva_script.specs.declared.given.Told.{Told}
-use Rattle.sva_script.specs.declared.places.Place.{Place}
-use Rattle.sva_script.specs.declared.places.Place.TheVariants.{Space, Binding, Pasid, Frame, Slot, Group, Itags, Itag, Tag, Message}
+use Rattle.sva_script.specs.declared.places.Field.{Field}
+use Rattle.sva_script.specs.declared.places.Field.TheVariants.{Space, Binding, Pasid, Frame, Slot, Group, Itags, Itag, Tag, Message}
 use Rattle.sva_words.specs.Near.{near_among}
 use Rattle.sva_words.specs.Reserved.{is_reserved}
 
@@ -79,7 +79,7 @@ tags_in (answer.Tag tag) = tag ∷ []
 tags_in _ = []
 
 -- the numbers that an answer has at a place
-abbrev pub numbers_in : Place → Answer → List ℕ
+abbrev pub numbers_in : Field → Answer → List ℕ
 numbers_in Space reply = spaces_in reply
 numbers_in Binding reply = bindings_in reply
 numbers_in Pasid reply = pasids_in reply
@@ -103,22 +103,22 @@ abbrev pub message_at : Told → ℕ → Option ℕ
 message_at told nth = if nat_lt 0 nth && nat_le nth (told.next - told.first) then Some (told.first + (nth - 1)) else None
 
 -- the nth number of an answer at a place; a refusal has none
-abbrev pub number_answered : Place → ℕ → Result Answer Refusal → Option ℕ
+abbrev pub number_answered : Field → ℕ → Result Answer Refusal → Option ℕ
 number_answered place nth (Ok reply) = nth_of nth (numbers_in place reply)
 number_answered place nth (Err refusal) = None
 
 -- the nth number that a line has at a place: of the messages that its step sent, or of its answer
-abbrev pub number_told : Place → ℕ → Told → Option ℕ
+abbrev pub number_told : Field → ℕ → Told → Option ℕ
 number_told Message nth told = message_at told nth
 number_told place nth told = number_answered place nth told.reply
 
 -- what a line came to, by what is asked of it; as long as lines are only read, each number is 0
-abbrev pub number_by : Place → ℕ → Option Told → Option ℕ
+abbrev pub number_by : Field → ℕ → Option Told → Option ℕ
 number_by place nth None = Some 0
 number_by place nth (Some told) = number_told place nth told
 
 -- the number that the line of a name has at a place, of several the nth
-abbrev pub number_at : Place → Given → ℕ → Option ℕ
+abbrev pub number_at : Field → Given → ℕ → Option ℕ
 number_at place given nth = number_by place nth given.told
 
 -- ---- `NAME` is the first number of its line, `NAME.2` the second

@@ -1,12 +1,12 @@
 -- What stands at each place of a step's line behind its name.
 use Rattle.std.specs.Prelude.{ℕ, if◌then◌else◌, List, [], ◌∷◌, codes, Option, Some, None}
 use Rattle.std.specs.Str.{bytes_eq}
-use Rattle.sva_script.specs.declared.places.Place.{Place}
-use Rattle.sva_script.specs.declared.places.Place.TheVariants.{Endpoint, Worker, Space, Binding, Pasid, Page, Frame, Slot, Group, Itags, Message}
-use Rattle.sva_script.specs.declared.places.Place.TheVariants.{Count, MaybeCount, Order, Access, Flags, Last, Verdict}
+use Rattle.sva_script.specs.declared.places.Field.{Field}
+use Rattle.sva_script.specs.declared.places.Field.TheVariants.{Endpoint, Worker, Space, Binding, Pasid, Page, Frame, Slot, Group, Itags, Message}
+use Rattle.sva_script.specs.declared.places.Field.TheVariants.{Count, MaybeCount, Order, Access, Flags, Last, Verdict}
 
 -- the steps of endpoints and of the link, one row for each
-unfoldable pub places_of_endpoint : List ℕ → Option (List Place)
+unfoldable pub places_of_endpoint : List ℕ → Option (List Field)
 places_of_endpoint step =
     if bytes_eq step (codes "ask") then Some (Endpoint ∷ Pasid ∷ Page ∷ []) else
     if bytes_eq step (codes "evict") then Some (Endpoint ∷ Pasid ∷ Page ∷ []) else
@@ -19,7 +19,7 @@ places_of_endpoint step =
     None
 
 -- those of bindings, units and workers, and else one of the above
-unfoldable pub places_of_host : List ℕ → Option (List Place)
+unfoldable pub places_of_host : List ℕ → Option (List Field)
 places_of_host step =
     if bytes_eq step (codes "bind") then Some (Endpoint ∷ Space ∷ []) else
     if bytes_eq step (codes "unbind") then Some (Binding ∷ []) else
@@ -32,7 +32,7 @@ places_of_host step =
     places_of_endpoint step
 
 -- those of spaces, frames and PASIDs, and else one of the above; a word of another name is of no step
-unfoldable pub places_of : List ℕ → Option (List Place)
+unfoldable pub places_of : List ℕ → Option (List Field)
 places_of step =
     if bytes_eq step (codes "space") then Some [] else
     if bytes_eq step (codes "drop") then Some (Space ∷ []) else

@@ -8,7 +8,7 @@ ghost use Rattle.sva_script.specs.Pieces.{PutsRead, spaced};
 use crate::faults::{Stop, Wanted, Wrong, at_word};
 use crate::names::{Names, begins_name};
 use crate::placed_words::named_in;
-use crate::places::Place;
+use crate::places::Field;
 use crate::splitting::first_part;
 use crate::texts::{put, put_number};
 use sva_grammar::number_in;
@@ -35,14 +35,14 @@ pub fn expect(names: &Names, words: &[&[u8]], at: usize, out: &mut Vec<u8>) -> R
 }
 
 /// What a number behind this word is. Of frames there may be several, of all else one.
-fn place_after(place: Option<Place>, word: &[u8]) -> Option<Place>
+fn place_after(place: Option<Field>, word: &[u8]) -> Option<Field>
     ensures { result ≡ place_after place word.now }
 {
     if is_answer_word(word) {
         place_behind(word)
     } else {
         match place {
-            Some(Place::Frame) => place,
+            Some(Field::Frame) => place,
             _ => None,
         }
     }
@@ -51,7 +51,7 @@ fn place_after(place: Option<Place>, word: &[u8]) -> Option<Place>
 /// Appends a space, and a word of an expected answer.
 fn put_said(
     names: &Names,
-    place: Option<Place>,
+    place: Option<Field>,
     word: &[u8],
     at: usize,
     out: &mut Vec<u8>,
@@ -67,7 +67,7 @@ fn put_said(
 /// Appends a word of an expected answer, a name as the number that it stands for.
 fn put_said_word(
     names: &Names,
-    place: Option<Place>,
+    place: Option<Field>,
     word: &[u8],
     at: usize,
     out: &mut Vec<u8>,
@@ -91,7 +91,7 @@ fn is_said(word: &[u8]) -> bool
 }
 
 /// The number that a name stands for in an answer.
-fn named_behind(names: &Names, place: Option<Place>, word: &[u8], at: usize) -> Result<u64, Wrong>
+fn named_behind(names: &Names, place: Option<Field>, word: &[u8], at: usize) -> Result<u64, Wrong>
     ensures { result ≡ named_behind at names.now place word.now }
 {
     match place {
@@ -108,41 +108,41 @@ fn named_behind(names: &Names, place: Option<Place>, word: &[u8], at: usize) -> 
 
 /// What a number behind a word of an answer is.
 #[tactic(auto, unfolding(crate::specs::Expect::place_behind))]
-fn place_behind(word: &[u8]) -> Option<Place>
+fn place_behind(word: &[u8]) -> Option<Field>
     ensures { result ≡ place_behind word.now }
 {
     if is(word, b"space") {
-        return Some(Place::Space);
+        return Some(Field::Space);
     }
     if is(word, b"bearer") {
-        return Some(Place::Space);
+        return Some(Field::Space);
     }
     if is(word, b"frame") {
-        return Some(Place::Frame);
+        return Some(Field::Frame);
     }
     if is(word, b"free") {
-        return Some(Place::Frame);
+        return Some(Field::Frame);
     }
     if is(word, b"withheld") {
-        return Some(Place::Frame);
+        return Some(Field::Frame);
     }
     if is(word, b"binding") {
-        return Some(Place::Binding);
+        return Some(Field::Binding);
     }
     if is(word, b"pasid") {
-        return Some(Place::Pasid);
+        return Some(Field::Pasid);
     }
     if is(word, b"itag") {
-        return Some(Place::Itag);
+        return Some(Field::Itag);
     }
     if is(word, b"tag") {
-        return Some(Place::Tag);
+        return Some(Field::Tag);
     }
     if is(word, b"use") {
-        return Some(Place::Slot);
+        return Some(Field::Slot);
     }
     if is(word, b"group") {
-        return Some(Place::Group);
+        return Some(Field::Group);
     }
     None
 }

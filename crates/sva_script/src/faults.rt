@@ -2,7 +2,7 @@
 
 ghost use Rattle.std.specs.Prelude.{◌≡◌};
 
-use crate::places::Place;
+use crate::places::Field;
 
 /// What was wanted where a line is wrong.
 #[derive(Clone, Copy)]
@@ -12,9 +12,9 @@ pub enum Wanted {
     /// The name of a step.
     Step,
     /// What the place asks for.
-    Place(Place),
+    Field(Field),
     /// A number of the place: the line of the name has none.
-    Number(Place),
+    Number(Field),
     /// No further word.
     NoMore,
     /// The end of the script.

@@ -21,5 +21,5 @@ pub use given::{Given, Told};
 pub use names::{Names, is_name, name_and_nth};
 pub use parts::{Parts, parts_of, split};
 pub use placed_words::put_places;
-pub use places::{Place, places_of};
+pub use places::{Field, places_of};
 pub use texts::{put, put_number};

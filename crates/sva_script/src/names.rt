@@ -6,7 +6,7 @@ ghost use Rattle.sva_script.specs.Names.{begins_name, frames_in, given_of, is_na
 ghost use Rattle.sva_script.specs.Names.{near_name, number_told, numbers_in};
 
 use crate::given::{Given, Told};
-use crate::places::Place;
+use crate::places::Field;
 use indexmap::IndexMap;
 use std::alloc::{AllocError, Global};
 use std::marker::Model;
@@ -93,26 +93,26 @@ pub(crate) fn begins_name(word: &[u8]) -> bool
 }
 
 /// The number that an answer has at a place, of several the nth.
-fn answered_at(place: Place, answer: &Answer, nth: u64) -> Option<u64>
+fn answered_at(place: Field, answer: &Answer, nth: u64) -> Option<u64>
     ensures { result ≡ nth_of nth (numbers_in place answer.now) }
 {
-    if place == Place::Frame {
+    if place == Field::Frame {
         return frame_at(answer, nth);
     }
     if nth != 1 {
         return None;
     }
     match (place, answer) {
-        (Place::Space, Answer::Space { space }) => Some(*space),
-        (Place::Space, Answer::Bearer { space, .. }) => Some(*space),
-        (Place::Binding, Answer::Binding { binding, .. }) => Some(*binding),
-        (Place::Binding, Answer::JobTaken { binding, .. }) => Some(*binding),
-        (Place::Pasid, Answer::Binding { pasid, .. }) => Some(u64::from(*pasid)),
-        (Place::Slot, Answer::Use { slot, .. }) => Some(u64::from(*slot)),
-        (Place::Group, Answer::Group { group }) => Some(u64::from(*group)),
-        (Place::Group, Answer::JobTaken { group, .. }) => Some(u64::from(*group)),
-        (Place::Tag, Answer::Tag { tag }) => Some(u64::from(*tag)),
-        (Place::Itag | Place::Itags, Answer::Itag { itag }) => Some(u64::from(*itag)),
+        (Field::Space, Answer::Space { space }) => Some(*space),
+        (Field::Space, Answer::Bearer { space, .. }) => Some(*space),
+        (Field::Binding, Answer::Binding { binding, .. }) => Some(*binding),
+        (Field::Binding, Answer::JobTaken { binding, .. }) => Some(*binding),
+        (Field::Pasid, Answer::Binding { pasid, .. }) => Some(u64::from(*pasid)),
+        (Field::Slot, Answer::Use { slot, .. }) => Some(u64::from(*slot)),
+        (Field::Group, Answer::Group { group }) => Some(u64::from(*group)),
+        (Field::Group, Answer::JobTaken { group, .. }) => Some(u64::from(*group)),
+        (Field::Tag, Answer::Tag { tag }) => Some(u64::from(*tag)),
+        (Field::Itag | Field::Itags, Answer::Itag { itag }) => Some(u64::from(*itag)),
         _ => None,
     }
 }
@@ -145,7 +145,7 @@ fn nth_frame(frames: &[u32], nth: u64) -> Option<u64>
 }
 
 /// The number that a name stands for at a place, of several the nth. As long as lines are only read, it is 0.
-pub(crate) fn number_at(place: Place, given: &Given, nth: u64) -> Option<u64>
+pub(crate) fn number_at(place: Field, given: &Given, nth: u64) -> Option<u64>
     ensures { result ≡ number_at place given.now nth }
 {
     match given.told {
@@ -155,11 +155,11 @@ pub(crate) fn number_at(place: Place, given: &Given, nth: u64) -> Option<u64>
 }
 
 /// The number that a line which was taken has at a place, of several the nth.
-fn number_by(place: Place, told: &Told, nth: u64) -> Option<u64>
+fn number_by(place: Field, told: &Told, nth: u64) -> Option<u64>
     ensures { result ≡ number_told place nth told.now }
 {
     match place {
-        Place::Message => message_at(told, nth),
+        Field::Message => message_at(told, nth),
         _ => match &told.reply {
             Ok(answer) => answered_at(place, answer, nth),
             Err(_) => None,

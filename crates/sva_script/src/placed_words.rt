@@ -13,7 +13,7 @@ use crate::faults::{Stop, Wanted, Wrong, at_word};
 use crate::given::Given;
 use crate::names::{Names, begins_name, name_and_nth, number_at};
 use crate::numbers::{list_in, page_in, with_itag};
-use crate::places::Place;
+use crate::places::Field;
 use crate::splitting::first_part;
 use crate::texts::{put, put_number, put_vector};
 use sva_grammar::{access_in, flags_in, group_in, last_in, number_in, vector_in, verdict_in};
@@ -23,7 +23,7 @@ use sva_grammar::{access_in, flags_in, group_in, last_in, number_in, vector_in, 
 #[tactic(auto, unfolding(crate::specs::Resolve::plain_rest))]
 pub fn put_places(
     names: &Names,
-    places: &[Place],
+    places: &[Field],
     words: &[&[u8]],
     at: usize,
     plain: &mut Vec<u8>,
@@ -55,19 +55,19 @@ fn end_words(words: &[&[u8]], at: usize) -> Result<(), Stop>
 }
 
 /// The end of a line that has no word for this place.
-fn end_line(place: Place, at: usize) -> Result<(), Stop>
+fn end_line(place: Field, at: usize) -> Result<(), Stop>
     ensures { (text : List ℕ) → PutsRead (ended at place) text text result }
 {
     match place {
-        Place::MaybeCount => Ok(()),
-        _ => Err(Stop::Wrong(at_word(at, Wanted::Place(place)))),
+        Field::MaybeCount => Ok(()),
+        _ => Err(Stop::Wrong(at_word(at, Wanted::Field(place)))),
     }
 }
 
 /// Appends a space, and the word at a place.
 fn put_spaced(
     names: &Names,
-    place: Place,
+    place: Field,
     word: &[u8],
     at: usize,
     plain: &mut Vec<u8>,
@@ -83,7 +83,7 @@ fn put_spaced(
 /// Appends the word at a place, as a scenario has it.
 fn put_word(
     names: &Names,
-    place: Place,
+    place: Field,
     word: &[u8],
     at: usize,
     plain: &mut Vec<u8>,
@@ -94,59 +94,59 @@ fn put_word(
         return put(plain, word);
     }
     match place {
-        Place::Page => match page_in(word) {
+        Field::Page => match page_in(word) {
             Some(page) => put_number(plain, page),
-            None => Err(Stop::Wrong(at_word(at, Wanted::Place(place)))),
+            None => Err(Stop::Wrong(at_word(at, Wanted::Field(place)))),
         },
-        Place::Itags => {
+        Field::Itags => {
             let vector = itags_in(names, word, at).map_err(Stop::Wrong)?;
             put_vector(plain, vector)
         }
-        Place::Space
-        | Place::Binding
-        | Place::Pasid
-        | Place::Frame
-        | Place::Slot
-        | Place::Group
-        | Place::Message => {
+        Field::Space
+        | Field::Binding
+        | Field::Pasid
+        | Field::Frame
+        | Field::Slot
+        | Field::Group
+        | Field::Message => {
             let number = named_in(names, place, word, at).map_err(Stop::Wrong)?;
             put_number(plain, number)
         }
-        _ => Err(Stop::Wrong(at_word(at, Wanted::Place(place)))),
+        _ => Err(Stop::Wrong(at_word(at, Wanted::Field(place)))),
     }
 }
 
 /// Is the word one that a scenario has at the place?
-fn is_plain(place: Place, word: &[u8]) -> bool
+fn is_plain(place: Field, word: &[u8]) -> bool
     ensures { result ≡ is_plain place word.now }
 {
     match place {
-        Place::Access => access_in(word).is_ok(),
-        Place::Flags => flags_in(word).is_ok(),
-        Place::Last => last_in(word).is_ok(),
-        Place::Verdict => verdict_in(word).is_ok(),
-        Place::Group => group_in(word).is_ok(),
-        Place::Itags => vector_in(word).is_ok(),
+        Field::Access => access_in(word).is_ok(),
+        Field::Flags => flags_in(word).is_ok(),
+        Field::Last => last_in(word).is_ok(),
+        Field::Verdict => verdict_in(word).is_ok(),
+        Field::Group => group_in(word).is_ok(),
+        Field::Itags => vector_in(word).is_ok(),
         _ => number_in(word).is_ok(),
     }
 }
 
 /// The number that a word stands for at a place, as a name.
-pub(crate) fn named_in(names: &Names, place: Place, word: &[u8], at: usize) -> Result<u64, Wrong>
+pub(crate) fn named_in(names: &Names, place: Field, word: &[u8], at: usize) -> Result<u64, Wrong>
     ensures { result ≡ named_in at names.now place word.now }
 {
     match name_and_nth(word) {
-        None => Err(at_word(at, Wanted::Place(place))),
+        None => Err(at_word(at, Wanted::Field(place))),
         Some((name, nth)) => named_by(names.get(name), place, nth, at),
     }
 }
 
 /// The number that a line has at a place, of several the nth.
-fn named_by(given: Option<Given>, place: Place, nth: u64, at: usize) -> Result<u64, Wrong>
+fn named_by(given: Option<Given>, place: Field, nth: u64, at: usize) -> Result<u64, Wrong>
     ensures { result ≡ named_by at place nth given }
 {
     match given {
-        None => Err(at_word(at, Wanted::Place(place))),
+        None => Err(at_word(at, Wanted::Field(place))),
         Some(given) => match number_at(place, &given, nth) {
             None => Err(at_word(at, Wanted::Number(place))),
             Some(number) => Ok(number),
@@ -195,12 +195,12 @@ fn with_named(names: &Names, vector: u32, name: &[u8], at: usize) -> Result<u32,
     ensures { result ≡ with_named at names.now vector name.now }
 {
     if begins_name(name) {
-        match named_in(names, Place::Itags, name, at) {
+        match named_in(names, Field::Itags, name, at) {
             Ok(itag) => itag_added(vector, itag, at),
             Err(wrong) => Err(wrong),
         }
     } else {
-        Err(at_word(at, Wanted::Place(Place::Itags)))
+        Err(at_word(at, Wanted::Field(Field::Itags)))
     }
 }
 
@@ -210,6 +210,6 @@ fn itag_added(vector: u32, itag: u64, at: usize) -> Result<u32, Wrong>
 {
     match with_itag(vector, itag) {
         Some(more) => Ok(more),
-        None => Err(at_word(at, Wanted::Place(Place::Itags))),
+        None => Err(at_word(at, Wanted::Field(Field::Itags))),
     }
 }

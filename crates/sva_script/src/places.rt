@@ -7,7 +7,7 @@ use sva_words::is;
 
 /// What a word behind a step's name says.
 #[derive(Clone, Copy, PartialEq, Eq)]
-pub enum Place {
+pub enum Field {
     /// The number of an endpoint.
     Endpoint,
     /// The number of a worker.
@@ -53,100 +53,100 @@ pub enum Place {
 /// What stands at the places behind a step's name. `None` where no step has the name. A delivery by `next`, by `last`, or by
 /// kind and endpoint isn't among these forms.
 #[tactic(auto, unfolding(crate::specs::Places::places_of))]
-pub fn places_of(step: &[u8]) -> Option<&'static [Place]>
+pub fn places_of(step: &[u8]) -> Option<&'static [Field]>
     ensures { option_map (λ places. places.now) result ≡ places_of step.now }
 {
     if is(step, b"space") {
         return Some(&[]);
     }
     if is(step, b"drop") {
-        return Some(&[Place::Space]);
+        return Some(&[Field::Space]);
     }
     if is(step, b"map") {
-        return Some(&[Place::Space, Place::Page, Place::Access]);
+        return Some(&[Field::Space, Field::Page, Field::Access]);
     }
     if is(step, b"unmap") {
-        return Some(&[Place::Space, Place::Page, Place::MaybeCount]);
+        return Some(&[Field::Space, Field::Page, Field::MaybeCount]);
     }
     if is(step, b"unmapr") {
-        return Some(&[Place::Space, Place::Page, Place::Order]);
+        return Some(&[Field::Space, Field::Page, Field::Order]);
     }
     if is(step, b"look") {
-        return Some(&[Place::Frame]);
+        return Some(&[Field::Frame]);
     }
     if is(step, b"bearer") {
-        return Some(&[Place::Pasid]);
+        return Some(&[Field::Pasid]);
     }
     places_of_host(step)
 }
 
 /// Those of bindings, units and workers, and else one of the others.
 #[tactic(auto, unfolding(crate::specs::Places::places_of_host))]
-fn places_of_host(step: &[u8]) -> Option<&'static [Place]>
+fn places_of_host(step: &[u8]) -> Option<&'static [Field]>
     ensures { option_map (λ places. places.now) result ≡ places_of_host step.now }
 {
     if is(step, b"bind") {
-        return Some(&[Place::Endpoint, Place::Space]);
+        return Some(&[Field::Endpoint, Field::Space]);
     }
     if is(step, b"unbind") {
-        return Some(&[Place::Binding]);
+        return Some(&[Field::Binding]);
     }
     if is(step, b"advance") {
-        return Some(&[Place::Binding]);
+        return Some(&[Field::Binding]);
     }
     if is(step, b"pump") {
-        return Some(&[Place::Endpoint]);
+        return Some(&[Field::Endpoint]);
     }
     if is(step, b"serve") {
-        return Some(&[Place::Endpoint]);
+        return Some(&[Field::Endpoint]);
     }
     if is(step, b"reset") {
-        return Some(&[Place::Endpoint]);
+        return Some(&[Field::Endpoint]);
     }
     if is(step, b"take") {
-        return Some(&[Place::Worker]);
+        return Some(&[Field::Worker]);
     }
     if is(step, b"answer") {
-        return Some(&[Place::Worker, Place::Verdict]);
+        return Some(&[Field::Worker, Field::Verdict]);
     }
     places_of_endpoint(step)
 }
 
 /// Those of endpoints and of the link.
 #[tactic(auto, unfolding(crate::specs::Places::places_of_endpoint))]
-fn places_of_endpoint(step: &[u8]) -> Option<&'static [Place]>
+fn places_of_endpoint(step: &[u8]) -> Option<&'static [Field]>
     ensures { option_map (λ places. places.now) result ≡ places_of_endpoint step.now }
 {
     if is(step, b"ask") {
-        return Some(&[Place::Endpoint, Place::Pasid, Place::Page]);
+        return Some(&[Field::Endpoint, Field::Pasid, Field::Page]);
     }
     if is(step, b"evict") {
-        return Some(&[Place::Endpoint, Place::Pasid, Place::Page]);
+        return Some(&[Field::Endpoint, Field::Pasid, Field::Page]);
     }
     if is(step, b"use") {
-        return Some(&[Place::Endpoint, Place::Pasid, Place::Page, Place::Access]);
+        return Some(&[Field::Endpoint, Field::Pasid, Field::Page, Field::Access]);
     }
     if is(step, b"end") {
-        return Some(&[Place::Endpoint, Place::Slot]);
+        return Some(&[Field::Endpoint, Field::Slot]);
     }
     if is(step, b"fault") {
         return Some(&[
-            Place::Endpoint,
-            Place::Pasid,
-            Place::Page,
-            Place::Flags,
-            Place::Group,
-            Place::Last,
+            Field::Endpoint,
+            Field::Pasid,
+            Field::Page,
+            Field::Flags,
+            Field::Group,
+            Field::Last,
         ]);
     }
     if is(step, b"finish") {
-        return Some(&[Place::Endpoint, Place::Itags, Place::Count]);
+        return Some(&[Field::Endpoint, Field::Itags, Field::Count]);
     }
     if is(step, b"quit") {
-        return Some(&[Place::Endpoint, Place::Pasid]);
+        return Some(&[Field::Endpoint, Field::Pasid]);
     }
     if is(step, b"deliver") {
-        return Some(&[Place::Message]);
+        return Some(&[Field::Message]);
     }
     None
 }

@@ -142,6 +142,47 @@ mapping_at-insert page asked mapping (m ∷ mappings) = by_rank (nat_cmp page m.
         (λ here there. let greater : m.0 < page = is_greater page m.0 is in let at : (m.0 == asked) ≡ true =
         sym (at_page asked m.0) ∙ here in grind (arith, nat_tests))
 
+-- below the lowest page nothing is mapped
+none_below : (page : ℕ) (mappings : List (ℕ × (ℕ × Bool))) → AllAbove page mappings → mapping_at mappings page ≡ None
+none_below page [] all = refl
+none_below page (m ∷ mappings) all =
+    let above : page < m.0 = is_less page m.0 all.0 in
+    let apart : (m.0 == page) ≡ false = grind (arith, nat_tests) in
+    ap (λ b. cond b (Some m.1) (mapping_at mappings page)) (at_page page m.0 ∙ apart) ∙ none_below page mappings all.1
+
+-- what was at a page is put back there
+pub put_back : (page : ℕ) (mapping before : ℕ × Bool) (mappings : List (ℕ × (ℕ × Bool))) → IsRising mappings → Some before ≡ mapping_at mappings page
+    → insert_entry nat_cmp (insert_entry nat_cmp mappings page mapping) page before ≡ mappings
+unfolding IsStrictlySortedBy
+put_back page mapping before [] rising at = absurd (cc at)
+put_back page mapping before (m ∷ mappings) rising at = by_rank (nat_cmp page m.0) refl (put_back page mapping before mappings rising.1)
+  where
+    at_here : (b : Bool) → is_at (nat_cmp page) m.0 ≡ b → Some before ≡ cond b (Some m.1) (mapping_at mappings page)
+    at_here b is = at ∙ ap (λ t. cond t (Some m.1) (mapping_at mappings page)) is
+
+    by_rank : (r : Ordering) → nat_cmp page m.0 ≡ r
+        → (Some before ≡ mapping_at mappings page → insert_entry nat_cmp (insert_entry nat_cmp mappings page mapping) page before ≡ mappings)
+        → insert_entry nat_cmp
+        (match_ordering r ((page, mapping) ∷ m ∷ mappings) ((m.0, mapping) ∷ mappings) (m ∷ insert_entry nat_cmp mappings page mapping)) page before
+        ≡ m ∷ mappings
+    by_rank Less is rest =
+        let none = none_below page (m ∷ mappings) (is, all_above_lower page m.0 mappings (is_less page m.0 is) rising.0) in absurd (cc (at ∙ none))
+    by_rank Equal is rest =
+        let same : page ≡ m.0 = is_equal page m.0 is in
+        let there : (m.0 == page) ≡ true = grind (arith, nat_tests) in
+        let value : before ≡ m.1 = cc (at_here true (at_page page m.0 ∙ there)) in
+        ap
+        (λ r. match_ordering r ((page, before) ∷ (m.0, mapping) ∷ mappings) ((m.0, before) ∷ mappings)
+        ((m.0, mapping) ∷ insert_entry nat_cmp mappings page before))
+        is
+        ∙ ap (λ v. (m.0, v) ∷ mappings) value
+    by_rank Greater is rest =
+        let greater : m.0 < page = is_greater page m.0 is in
+        let apart : (m.0 == page) ≡ false = grind (arith, nat_tests) in
+        let inserted = insert_entry nat_cmp mappings page mapping in
+        ap (λ r. match_ordering r ((page, before) ∷ m ∷ inserted) ((m.0, before) ∷ inserted) (m ∷ insert_entry nat_cmp inserted page before)) is
+        ∙ ap (λ l. m ∷ l) (rest (at_here false (at_page page m.0 ∙ apart)))
+
 pub mapping_at-remove : (page asked : ℕ) (mappings : List (ℕ × (ℕ × Bool))) → IsRising mappings → mapping_at (without_page mappings page) asked
     ≡ (if page == asked then None else mapping_at mappings asked)
 mapping_at-remove page asked mappings rising =

@@ -1,8 +1,10 @@
-use Rattle.std.specs.Prelude.{ℕ, ◌<◌, ◌≤◌, Bool, not, ◌&&◌, nat_lt, List, filter, Option, IsSome}
+use Rattle.std.specs.Prelude.{ℕ, ◌<◌, ◌≤◌, Bool, not, ◌&&◌, nat_lt, List, filter, Option, Some, None, IsSome}
 use Rattle.std.specs.BTreeMap.{is_at, insert_entry}
 use Rattle.std.specs.Map.{lookup, remove_entry, keys_of}
 use Rattle.std.specs.Ordering.{nat_cmp}
 use Rattle.std.specs.List.Sorted.{IsStrictlySortedBy}
+use Rattle.sva_step.specs.declared.refusals.Refusal.{Refusal}
+use Rattle.sva_step.specs.declared.refusals.Refusal.TheVariants as refusal
 
 -- each page is above the one before it
 abbrev pub IsRising : List (ℕ × (ℕ × Bool)) → Type 0
@@ -11,6 +13,11 @@ IsRising mappings = IsStrictlySortedBy nat_cmp (keys_of mappings)
 -- the frame at a page and its write flag
 abbrev pub mapping_at : List (ℕ × (ℕ × Bool)) → ℕ → Option (ℕ × Bool)
 mapping_at mappings page = lookup (is_at (nat_cmp page)) mappings
+
+-- why a page isn't mapped anew where this is at it: it is mapped, or there is no memory for it
+abbrev pub unmapped_by : Option (ℕ × Bool) → Refusal
+unmapped_by (Some mapping) = refusal.Mapped
+unmapped_by None = refusal.OutOfMemory
 
 -- with one page more, at its place in the order
 abbrev pub with_page : List (ℕ × (ℕ × Bool)) → ℕ → ℕ → Bool → List (ℕ × (ℕ × Bool))

@@ -3,6 +3,8 @@
 
 mod laws;
 mod pages;
+mod reading;
 
 pub use laws::space_laws;
 pub use pages::Space;
+pub use reading::Mapping;

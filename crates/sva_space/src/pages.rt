@@ -1,18 +1,19 @@
 //! The pages of an address space, each with its frame.
 
-ghost use Rattle.std.specs.Prelude.{◌≡◌, ◌↔◌, ◌<◌, ◌≤◌, ℕ, [], ◌∷◌, IfSome, IfNone, IfErr, IsSome, IsTrue, OnOk, Some, None, find, length, option_map};
+ghost use Rattle.std.specs.Prelude.{◌≡◌, ◌↔◌, ◌<◌, ◌≤◌, ℕ, [], ◌∷◌, IfSome, IfNone, IfErr, IsSome, IsTrue, OnErr, OnOk, Some, None, find, length, option_map};
 
 use std::alloc::{AllocError, Global};
 use std::collections::BTreeMap;
 use std::marker::Model;
 use sva_frames::Frame;
+use sva_step::Refusal;
 
 /// The pages of an address space, each with its frame and whether it may be written.
 ///
 /// Contracts see the list of mappings (page, (frame, write)) in rising order of pages, a frame by its number. A
 /// space must be spent: emptied, and closed.
 pub struct Space {
-    pages: BTreeMap<u64, (Frame, bool)>,
+    pub(crate) pages: BTreeMap<u64, (Frame, bool)>,
 }
 
 impl Model for Space {
@@ -27,7 +28,7 @@ impl Model for Space {
 }
 
 impl Space {
-    ghost use Rattle.sva_space.specs.Pages.{IsRising, mapping_at, is_between, mappings_between, AllMapped};
+    ghost use Rattle.sva_space.specs.Pages.{IsRising, mapping_at, is_between, mappings_between, AllMapped, unmapped_by};
     ghost use Rattle.sva_space.specs.Calls.{Map, Unmap, after};
 
     /// A space without pages.
@@ -54,6 +55,32 @@ impl Space {
             Err(failure) => {
                 let (_page, (frame, _write)) = failure.value;
                 Err((frame, AllocError))
+            }
+        }
+    }
+
+    /// Maps a page, or says why not: `Mapped` where it is mapped already, and else `OutOfMemory`. Then the frame comes back, and
+    /// nothing changes. One search serves for both the question and the mapping.
+    pub fn map_new(&mut self, page: u64, frame: Frame, write: bool) -> Result<(), (Frame, Refusal)>
+        ensures ok { OnOk result (self.new ≡ after self.old (Map page frame write)) }
+        ensures new { OnOk result (mapping_at self.old page ≡ None) }
+        ensures same { OnErr result (self.new ≡ self.old) }
+        ensures err { IfErr result (λ failure. (failure.0 ≡ frame) × (failure.1 ≡ unmapped_by (mapping_at self.old page))) }
+        ensures rising { IsRising self.new }
+    {
+        let mapping = (frame, write);
+        match self.pages.insert(page, mapping) {
+            Ok(None) => Ok(()),
+            Ok(Some(before)) => {
+                let new = self.pages.insert(page, before);
+                let Ok(Some((frame, _write))) = new else {
+                    unreachable!()
+                };
+                Err((frame, Refusal::Mapped))
+            }
+            Err(failure) => {
+                let (_page, (frame, _write)) = failure.value;
+                Err((frame, Refusal::OutOfMemory))
             }
         }
     }

@@ -140,6 +140,13 @@ impl GroupTable {
         }
     }
 
+    /// What has each index, of 0 to 31.
+    pub fn places(&self) -> &[GroupPlace]
+        ensures { result.now ≡ self.now }
+    {
+        self.places.as_slice()
+    }
+
     /// How many page requests are outstanding: at most 32.
     pub fn outstanding(&self) -> u8
         ensures count { result ≡ outstanding_of self.now }

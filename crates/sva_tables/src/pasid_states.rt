@@ -73,6 +73,13 @@ impl PasidStates {
         }
     }
 
+    /// The states by PASID, of 0 to 32: there is no PASID 0, and its place is `Off`.
+    pub fn places(&self) -> &[PasidState]
+        ensures { result.now ≡ self.now }
+    {
+        self.states.as_slice()
+    }
+
     /// The state of a PASID; that of one outside 1 to 32 is `Off`.
     #[tactic(auto, using(crate::proofs::Places::past_the_end))]
     pub fn state_of(&self, pasid: u64) -> PasidState

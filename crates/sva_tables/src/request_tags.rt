@@ -91,6 +91,13 @@ impl RequestTags {
         }
     }
 
+    /// What has each tag, of 0 to 31.
+    pub fn places(&self) -> &[RequestTag]
+        ensures { result.now ≡ self.now }
+    {
+        self.places.as_slice()
+    }
+
     /// The lowest tag that no request has, 0 to 31; none where each has one.
     pub fn lowest_free(&self) -> Option<u8>
         ensures found { result ≡ position is_free self.now }

@@ -91,6 +91,13 @@ impl TakenTable {
         }
     }
 
+    /// What is taken under each ITag, of 0 to 31.
+    pub fn places(&self) -> &[Option<Taken>]
+        ensures { result.now ≡ self.now }
+    {
+        self.places.as_slice()
+    }
+
     /// Takes an invalidation under this ITag; one from 32 on has no place.
     #[tactic(auto, using(crate::proofs::Places::past_the_end))]
     pub fn take(&mut self, itag: u8, taken: Taken)

@@ -100,6 +100,13 @@ impl UseSlots {
         }
     }
 
+    /// What is in each slot, of 0 to 15.
+    pub fn places(&self) -> &[UseSlot]
+        ensures { result.now ≡ self.now }
+    {
+        self.slots.as_slice()
+    }
+
     /// What is in a slot; one from 16 on is free.
     #[tactic(auto, using(crate::proofs::Places::past_the_end))]
     pub fn at(&self, slot: u64) -> UseSlot

@@ -161,7 +161,7 @@ static MISTAKES: [(&[&str], &str); 9] = [
     (
         &[],
         "error: 'svahost' requires a subcommand but one was not provided
-  [subcommands: replay, check, storm]
+  [subcommands: replay, check, storm, plain, test, show, trace]
 
 Usage: svahost <COMMAND>
 
@@ -335,6 +335,10 @@ Commands:
   replay  Runs the scenario on standard input, and prints its report
   check   Reads the scenario on standard input, and prints how many steps it has
   storm   Plays the scenario on standard input by threads, and prints what an audit of their calls says
+  plain   Prints the scenario that the script on standard input stands for
+  test    Runs the script on standard input, and compares each answer with what it expects
+  show    Runs the script on standard input, and prints what the host keeps behind its last line
+  trace   Runs the script on standard input, and prints each step with its answer and its messages
 
 Options:
   -h, --help     Print help (see more with '--help')

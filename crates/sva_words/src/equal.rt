@@ -7,5 +7,6 @@ ghost use Rattle.std.specs.Str.{bytes_eq};
 pub fn is(word: &[u8], wanted: &[u8]) -> bool
     ensures { result ≡ bytes_eq word.now wanted.now }
 {
-    word == wanted
+    // Most words that are asked for have another length.
+    word.len() == wanted.len() && word == wanted
 }

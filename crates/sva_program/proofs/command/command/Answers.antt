@@ -1,22 +1,23 @@
-use Rattle.std.proofs.Common.{rules, ap, codes, true, ◌≡◌, ◌∙◌}
+use Rattle.std.proofs.Common.{ap, codes, ◌∙◌}
 use Rattle.std.proofs.lemmas.Result.{IfOk-weaker}
-use Rattle.clap.specs.Words.{App, app_of, new_app, with_rule, with_subcommand}
-use Rattle.sva_program.specs.Command.{turns_rule}
+use Rattle.clap.specs.Words.{App, Text, new_app, with_rule, with_subcommand}
+use Rattle.sva_program.specs.Command.{live_rule, turns_rule}
 use Rattle.sva_program.proofs.command.command.Goals as goal
 
-abbrev top : App
-top = let plain = new_app (codes "svahost") in record plain {
-  top =
-      record plain.top { has_version = true; subcommand_required = true; disable_help_subcommand = true };
-}
+-- a program with a command more, that takes no arguments
+abbrev with_bare : Text → App → App
+with_bare name app = with_subcommand app (new_app name).top
+
+abbrev with_storm : App → App
+with_storm app = with_subcommand app (with_rule (new_app (codes "storm")) turns_rule).top
 
 pub returns : goal.returns
 returns c =
-    let top_is : app_of c.disable_help_subcommand-bare.result ≡ top = search rules in
-    let replaying_is : app_of c.in_ok-replaying.replaying ≡ with_subcommand top (new_app (codes "replay")).top =
-    c.in_ok-replaying.ensures ∙ ap (λ (a : App). with_subcommand a (new_app (codes "replay")).top) top_is in
-    let checking_is : app_of c.in_ok-checking.checking
-    ≡ with_subcommand (with_subcommand top (new_app (codes "replay")).top) (new_app (codes "check")).top =
-    c.in_ok-checking.ensures ∙ ap (λ (a : App). with_subcommand a (new_app (codes "check")).top) replaying_is in
-    IfOk-weaker c.with_storm.result _ _ (λ r added. added
-    ∙ ap (λ (a : App). with_subcommand a (with_rule (new_app (codes "storm")) turns_rule).top) checking_is) c.with_storm.ensures
+    let replaying_is = c.in_ok-replaying.ensures ∙ ap (with_bare (codes "replay")) c.in_ok-bare.ensures in
+    let checking_is = c.in_ok-checking.ensures ∙ ap (with_bare (codes "check")) replaying_is in
+    let storming_is = c.in_ok-storming.ensures ∙ ap with_storm checking_is in
+    let plain_is = c.in_ok-plain_too.ensures ∙ ap (with_bare (codes "plain")) storming_is in
+    let testing_is = c.in_ok-testing.ensures ∙ ap (with_bare (codes "test")) plain_is in
+    let showing_is = c.in_ok-showing.ensures ∙ ap (with_bare (codes "show")) testing_is in
+    IfOk-weaker c.with_trace.result _ _ (λ r added. added
+    ∙ ap (λ (a : App). with_subcommand a (with_rule (new_app (codes "trace")) live_rule).top) showing_is) c.with_trace.ensures

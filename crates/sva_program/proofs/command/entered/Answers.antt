@@ -1,6 +1,6 @@
 use Rattle.std.proofs.Common.{rules}
 use Rattle.clap.specs.Words.{found_of, rows_of}
-use Rattle.sva_program.proofs.ReadLemmas.{entered_storm}
+use Rattle.sva_program.proofs.ReadLemmas.{entered_storm, entered_trace}
 use Rattle.sva_program.proofs.command.entered.Goals as goal
 
 pub returns-in-Some-storm-default : goal.returns-in-Some-storm-default
@@ -8,3 +8,9 @@ returns-in-Some-storm-default c =
     let stage = c.in-Some-storm-default in
     entered_storm c.args.matches.now stage.field-0-0.now (rows_of (found_of stage.below.now)) c.turns.result stage.is-storm stage.ensures.name
     stage.ensures.rows c.turns.ensures
+
+pub returns-in-Some-trace-default : goal.returns-in-Some-trace-default
+returns-in-Some-trace-default c readable =
+    let stage = c.in-Some-trace-default in
+    entered_trace c.args.matches.now stage.field-0-0.now (rows_of (found_of stage.below.now)) c.live.result stage.is-trace stage.ensures.name
+    stage.ensures.rows c.live.ensures

@@ -4,7 +4,8 @@ use Rattle.sva_scenario.specs.declared.streams.DriveFault.TheVariants.{Memory}
 use Rattle.sva_program.specs.Command.{faults_of, texts}
 use Rattle.sva_program.specs.Run.{Reports}
 use Rattle.sva_program.proofs.RunLemmas.{among_faults, asked_text, only_memory, unwritten}
-use Rattle.sva_program.proofs.LineLemmas.{help_unmistaken, no_command_asks, no_command_taken, one_alone, takes, version_unmistaken}
+use Rattle.sva_program.proofs.CallLemmas.{help_unmistaken, no_command_asks, no_command_taken, version_unmistaken}
+use Rattle.sva_program.proofs.LineLemmas.{one_alone, takes}
 use Rattle.sva_program.proofs.run.main_with.Goals as goal
 
 pub returns-in-Ok-clause-run : goal.returns-in-Ok-clause-run

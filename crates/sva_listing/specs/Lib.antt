@@ -1,0 +1,7 @@
+pub mod Pieces
+pub mod Memory
+pub mod Devices
+pub mod Units
+pub mod Messages
+pub mod Listing
+pub mod Worked

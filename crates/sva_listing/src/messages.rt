@@ -1,0 +1,281 @@
+//! The messages in flight.
+
+ghost use Rattle.std.specs.Prelude.{◌≡◌, ◌++◌, ◌%◌, OnOk, find, flat_map, is_some, map, option_map};
+ghost use Rattle.std.specs.Char.{digit_char};
+ghost use Rattle.std.specs.List.{list_any};
+ghost use Rattle.sva_labels.specs.Finding.{holds_back, kind_of};
+ghost use Rattle.sva_listing.specs.Listing.{message_lines};
+ghost use Rattle.sva_listing.specs.Messages.{code_text, hex_text, message_line, message_text, scope_text};
+ghost use Rattle.sva_listing.specs.Messages.{standing_text};
+ghost use Rattle.sva_listing.specs.Pieces.{field};
+ghost use Rattle.sva_model.specs.LinkOrder.{is_order_down, is_page_request, stays_behind};
+ghost use Rattle.sva_model.specs.Message.Message.{CompletionMessage, InvalidateMessage, ResponseMessage};
+ghost use Rattle.sva_model.specs.Message.Message.{RequestMessage, InvalidatedMessage};
+ghost use Rattle.sva_parts_by_labels.specs.Flights.{code_seen, kind_seen, scope_seen};
+ghost use Rattle.sva_snapshot.specs.Shown.{flight_shown};
+
+use crate::pieces::{end_line, put_extent, put_field, put_flags, put_head, put_request, put_word};
+use std::alloc::AllocError;
+use sva_msg::{Code, Extent, Scope};
+use sva_snapshot::{Flight, Kind, Snapshot};
+
+/// The digit of a number's last four bits.
+fn digit(number: u32) -> u8
+    ensures { result ≡ digit_char (number % 16) }
+{
+    let low = (number % 16) as u8;
+    if low < 10 {
+        b'0' + low
+    } else {
+        b'a' + (low - 10)
+    }
+}
+
+/// Appends a vector: eight hexadecimal digits.
+fn put_vector(out: &mut Vec<u8>, vector: u32) -> Result<(), AllocError>
+    ensures { OnOk result (out.new.items ≡ out.old.items ++ hex_text 8 vector) }
+{
+    let digits = [
+        digit(vector >> 28),
+        digit(vector >> 24),
+        digit(vector >> 20),
+        digit(vector >> 16),
+        digit(vector >> 12),
+        digit(vector >> 8),
+        digit(vector >> 4),
+        digit(vector),
+    ];
+    out.extend_from_slice(&digits)
+}
+
+/// Appends the pages that a scope names.
+fn put_scope(out: &mut Vec<u8>, scope: Scope) -> Result<(), AllocError>
+    ensures { OnOk result (out.new.items ≡ out.old.items ++ scope_text (scope_seen scope)) }
+{
+    put_extent(out, Extent::of(scope))
+}
+
+/// Appends a response code.
+fn put_code(out: &mut Vec<u8>, code: Code) -> Result<(), AllocError>
+    ensures { OnOk result (out.new.items ≡ out.old.items ++ code_text (code_seen code)) }
+{
+    put_word(
+        out,
+        match code {
+            Code::Success => " success",
+            Code::InvalidRequest => " invalid",
+            Code::ResponseFailure => " failure",
+        },
+    )
+}
+
+/// Appends two words, each with a number.
+fn put_two(
+    out: &mut Vec<u8>,
+    first: &str,
+    number: u64,
+    second: &str,
+    next: u64,
+) -> Result<(), AllocError>
+    ensures { OnOk result (out.new.items ≡ out.old.items ++ (field first.now number ++ field second.now next)) }
+{
+    put_field(out, first, number)?;
+    put_field(out, second, next)
+}
+
+/// Appends a translation completion.
+fn put_completion(
+    out: &mut Vec<u8>,
+    tag: u8,
+    frame: u32,
+    read: bool,
+    write: bool,
+) -> Result<(), AllocError>
+    ensures { OnOk result (out.new.items ≡ out.old.items ++ message_text (CompletionMessage tag frame read write)) }
+{
+    put_two(
+        out,
+        " completion tag ",
+        u64::from(tag),
+        " frame ",
+        u64::from(frame),
+    )?;
+    put_flags(out, read, write)
+}
+
+/// Appends an invalidate request.
+fn put_invalidate(out: &mut Vec<u8>, itag: u64, pasid: u64, scope: Scope) -> Result<(), AllocError>
+    ensures { OnOk result (out.new.items ≡ out.old.items
+        ++ message_text (InvalidateMessage itag pasid (scope_seen scope))) }
+{
+    put_two(out, " invalidate itag ", itag, " pasid ", pasid)?;
+    put_scope(out, scope)
+}
+
+/// Appends a response to a group of page requests.
+fn put_response(out: &mut Vec<u8>, pasid: u32, index: u8, code: Code) -> Result<(), AllocError>
+    ensures { OnOk result (out.new.items ≡ out.old.items
+        ++ message_text (ResponseMessage pasid index (code_seen code))) }
+{
+    put_two(
+        out,
+        " response pasid ",
+        u64::from(pasid),
+        " group ",
+        u64::from(index),
+    )?;
+    put_code(out, code)
+}
+
+/// Appends a translation request.
+fn put_translation_request(
+    out: &mut Vec<u8>,
+    tag: u64,
+    pasid: u64,
+    page: u64,
+) -> Result<(), AllocError>
+    ensures { OnOk result (out.new.items ≡ out.old.items ++ message_text (RequestMessage tag pasid page)) }
+{
+    put_two(out, " request tag ", tag, " pasid ", pasid)?;
+    put_field(out, " page ", page)
+}
+
+/// Appends an invalidate completion, with its Completion Count field.
+fn put_invalidated(out: &mut Vec<u8>, vector: u32, count: u8) -> Result<(), AllocError>
+    ensures { OnOk result (out.new.items ≡ out.old.items ++ message_text (InvalidatedMessage vector count)) }
+{
+    put_word(out, " invalidated ")?;
+    put_vector(out, vector)?;
+    put_field(out, " count ", u64::from(count))
+}
+
+/// Appends a message: the word for its kind, and its fields.
+fn put_kind(out: &mut Vec<u8>, kind: &Kind) -> Result<(), AllocError>
+    ensures { OnOk result (out.new.items ≡ out.old.items ++ message_text (kind_seen kind.now)) }
+{
+    match kind {
+        Kind::Start { pasid } => put_field(out, " start pasid ", u64::from(*pasid)),
+        Kind::Stop { pasid } => put_field(out, " stop pasid ", u64::from(*pasid)),
+        Kind::Reset => put_word(out, " reset"),
+        Kind::Completion {
+            tag,
+            frame,
+            read,
+            write,
+        } => put_completion(out, *tag, *frame, *read, *write),
+        Kind::Invalidate { itag, pasid, scope } => {
+            put_invalidate(out, u64::from(*itag), u64::from(*pasid), *scope)
+        }
+        Kind::Response { pasid, index, code } => put_response(out, *pasid, *index, *code),
+        Kind::Request { tag, pasid, page } => {
+            put_translation_request(out, u64::from(*tag), u64::from(*pasid), *page)
+        }
+        Kind::Invalidated { vector, count } => put_invalidated(out, *vector, count.get()),
+        Kind::PageRequest(request) => {
+            put_word(out, " page-request")?;
+            put_request(out, request)
+        }
+        Kind::Marker { pasid } => put_field(out, " marker pasid ", u64::from(*pasid)),
+        Kind::ResetDone => put_word(out, " reset-done"),
+    }
+}
+
+/// Must a start, a stop or a reset not overtake a message of this kind?
+fn is_order_down(kind: &Kind) -> bool
+    ensures { result ≡ is_order_down (kind_of (kind_seen kind.now)) }
+{
+    matches!(
+        kind,
+        Kind::Start { .. }
+            | Kind::Stop { .. }
+            | Kind::Reset
+            | Kind::Invalidate { .. }
+            | Kind::Response { .. }
+    )
+}
+
+/// Is it a page request?
+fn is_page_request(kind: &Kind) -> bool
+    ensures { result ≡ is_page_request (kind_of (kind_seen kind.now)) }
+{
+    matches!(kind, Kind::PageRequest(_))
+}
+
+/// Must a message of one kind not overtake an older one of another, at one endpoint?
+fn stays_behind(newer: &Kind, older: &Kind) -> bool
+    ensures { result ≡ stays_behind (kind_of (kind_seen newer.now)) (kind_of (kind_seen older.now)) }
+{
+    match newer {
+        Kind::PageRequest(request) => request.last && is_page_request(older),
+        Kind::Marker { .. } => is_page_request(older),
+        Kind::Start { .. } | Kind::Stop { .. } | Kind::Reset => is_order_down(older),
+        Kind::ResetDone => true,
+        Kind::Completion { .. }
+        | Kind::Invalidate { .. }
+        | Kind::Response { .. }
+        | Kind::Request { .. }
+        | Kind::Invalidated { .. } => false,
+    }
+}
+
+/// Does one message hold another back?
+fn holds_back(newer: &Flight, older: &Flight) -> bool
+    ensures { result ≡ holds_back (flight_shown newer.now) (flight_shown older.now) }
+{
+    older.number < newer.number
+        && older.message.endpoint == newer.message.endpoint
+        && stays_behind(&newer.message.kind, &older.message.kind)
+}
+
+/// The number of the oldest message that holds a message back.
+fn held_back_by(flight: &Flight, flights: &[Flight]) -> Option<u64>
+    ensures oldest { result ≡ option_map (λ older. older.number)
+        (find (holds_back (flight_shown flight.now)) (map flight_shown flights.now)) }
+    ensures any { is_some result ≡ list_any (holds_back (flight_shown flight.now)) (map flight_shown flights.now) }
+{
+    for older in flights {
+        if holds_back(flight, older) {
+            return Some(older.number);
+        }
+    }
+    None
+}
+
+/// Appends whether a message may be delivered, or what holds it back.
+fn put_standing(out: &mut Vec<u8>, snapshot: &Snapshot, flight: &Flight) -> Result<(), AllocError>
+    ensures { OnOk result (out.new.items ≡ out.old.items ++ standing_text snapshot.now (flight_shown flight.now)) }
+{
+    match held_back_by(flight, snapshot.in_flight.as_slice()) {
+        None => put_word(out, ", may be delivered"),
+        Some(older) => put_field(out, ", behind ", older),
+    }
+}
+
+/// Appends the line of a message.
+fn put_message(out: &mut Vec<u8>, snapshot: &Snapshot, flight: &Flight) -> Result<(), AllocError>
+    ensures { OnOk result (out.new.items ≡ out.old.items ++ message_line snapshot.now (flight_shown flight.now)) }
+{
+    put_head(out, "message ", flight.number)?;
+    put_field(out, " endpoint ", flight.message.endpoint)?;
+    put_kind(out, &flight.message.kind)?;
+    put_standing(out, snapshot, flight)?;
+    end_line(out)
+}
+
+/// Appends the lines of some of the messages.
+fn put_flights(out: &mut Vec<u8>, snapshot: &Snapshot, flights: &[Flight]) -> Result<(), AllocError>
+    ensures { OnOk result (out.new.items ≡ out.old.items
+        ++ flat_map (message_line snapshot.now) (map flight_shown flights.now)) }
+{
+    for flight in flights {
+        put_message(out, snapshot, flight)?;
+    }
+    Ok(())
+}
+
+/// Appends the lines of the messages in flight, the oldest first.
+pub(crate) fn put_messages(out: &mut Vec<u8>, snapshot: &Snapshot) -> Result<(), AllocError>
+    ensures { OnOk result (out.new.items ≡ out.old.items ++ message_lines snapshot.now) }
+{
+    put_flights(out, snapshot, snapshot.in_flight.as_slice())
+}

@@ -1,0 +1,4 @@
+pub mod LineLemmas
+pub mod FaultLemmas
+pub mod BeginLemmas
+pub mod WordLemmas

@@ -1,0 +1,4 @@
+pub mod Faults
+pub mod Said
+pub mod Begins
+pub mod Reading

@@ -1,0 +1,12 @@
+//! A script that is read before it is run: its config, its lines, and all that is wrong with them.
+#![tactic(auto)]
+
+mod faults;
+mod lines;
+mod reading;
+mod writing;
+
+pub use faults::put_wrong;
+pub use lines::{Lines, end_in, is_too_large};
+pub use reading::{Desk, config_of, put_words, read_script};
+pub use writing::{put_bad_config, put_counts, put_number, put_reply};

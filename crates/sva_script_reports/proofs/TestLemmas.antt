@@ -1,0 +1,46 @@
+-- The test of a script, line by line.
+use Rattle.std.proofs.Common.{◌≡◌, ◌∙◌, ◌+◌, ap, subst, sym, ℕ, List, [], ◌∷◌, ◌++◌}
+use Rattle.std.specs.Prelude.{Ok}
+use Rattle.sva_scenario.specs.declared.streams.Outcome.TheVariants.{Faulted}
+use Rattle.sva_script.specs.Lines.{script_words}
+use Rattle.sva_script_reports.specs.declared.testing.Compared.TheVariants.{Differs, NotExpected, Same}
+use Rattle.sva_script_reports.specs.Lines.{ComparesWords}
+use Rattle.sva_script_reading.specs.Said.{IsSaid, Said, well}
+use Rattle.sva_script_reading.specs.Begins.{Line}
+use Rattle.sva_script_reports.specs.Scripts.{At, test_from, test_line, verdict_text}
+
+-- what follows a line
+follows : (count : ℕ) (before : At) (all left : List Line) (line : Line) (words : List (List ℕ)) → all ≡ line ∷ left → words ≡ script_words line.1
+    → test_from count before all ≡ test_line before (line.0, line.1) count (λ more next. test_from more next left) words
+unfolding test_from
+follows count before all left line words is same =
+    ap (test_from count before) is ∙ ap (test_line before line count (λ more next. test_from more next left)) (sym same)
+
+-- an answer that is as expected
+pub test_same : (whole : Said) (before after : At) (line : Line) (words : List (List ℕ)) (old new : List ℕ) (all left : List Line) (count more : ℕ)
+    → whole ≡ test_from count before all → all ≡ line ∷ left → words ≡ script_words line.1 → more ≡ count + 1
+    → ComparesWords before line.0 words old new after (Ok Same) → whole ≡ test_from more after left
+test_same whole before after line words old new all left count more so_far is same one compares =
+    so_far ∙ follows count before all left line words is same ∙ compares.1 line.1 count (λ more next. test_from more next left)
+    ∙ ap (λ n. test_from n after left) (sym one)
+
+-- a line of which nothing is expected
+pub test_passed : (whole : Said) (before after : At) (line : Line) (words : List (List ℕ)) (old new : List ℕ) (all left : List Line) (count : ℕ)
+    → whole ≡ test_from count before all → all ≡ line ∷ left → words ≡ script_words line.1
+    → ComparesWords before line.0 words old new after (Ok NotExpected) → whole ≡ test_from count after left
+test_passed whole before after line words old new all left count so_far is same compares =
+    so_far ∙ follows count before all left line words is same ∙ compares.1 line.1 count (λ more next. test_from more next left)
+
+-- an answer that differs
+pub test_stopped : (whole : Said) (before after : At) (line : Line) (words : List (List ℕ)) (old new : List ℕ) (all left : List Line) (count : ℕ)
+    → whole ≡ test_from count before all → all ≡ line ∷ left → words ≡ script_words line.1 → old ≡ []
+    → ComparesWords before line.0 words old new after (Ok Differs) → IsSaid whole new (Ok Faulted)
+test_stopped whole before after line words old new all left count so_far is same none compares =
+    subst (λ said. IsSaid said new (Ok Faulted))
+    (sym (so_far ∙ follows count before all left line words is same ∙ compares.3 line.1 count (λ more next. test_from more next left)))
+    (sym compares.1, compares.2 ∙ ap (λ l. l ++ compares.0.text) none)
+
+-- none is left
+pub test_end : (count : ℕ) (at : At) (all : List Line) → all ≡ [] → test_from count at all ≡ well (verdict_text count)
+unfolding test_from
+test_end count at all is = ap (test_from count at) is

@@ -1,0 +1,6 @@
+pub mod Scripts
+pub mod Lines
+pub mod Shows
+pub mod Prints
+pub mod Rows
+pub mod Traces

@@ -1,0 +1,75 @@
+-- What a call makes of a line of a script that runs.
+use Rattle.std.specs.Prelude.{◌≡◌, ℕ, ◌+◌, Bool, true, false, is_none, not, List, [], ◌∷◌, ◌++◌, Result, Ok, Err}
+use Rattle.std.specs.declared.alloc.AllocError.{AllocError}
+use Rattle.sva_scenario.specs.declared.streams.Outcome.TheVariants.{Faulted}
+use Rattle.sva_script.specs.declared.faults.Stop.{Stop}
+use Rattle.sva_script.specs.declared.faults.Stop.TheVariants as stop
+use Rattle.sva_script_reading.specs.Said.{IsSaid, Said, faulty}
+use Rattle.sva_script.specs.Lines.{parts_of, script_words}
+use Rattle.sva_script_reading.specs.Begins.{Line, fault_of}
+use Rattle.sva_script_reports.specs.Scripts.{At, plain_line, plain_step, test_line, test_made, test_step}
+use Rattle.sva_script_reports.specs.declared.testing.Compared.{Compared}
+use Rattle.sva_script_reports.specs.declared.testing.Compared.TheVariants.{Differs, NotExpected, Same}
+use Rattle.sva_script_runs.specs.Runs.{Running}
+
+-- behind a line of the script
+abbrev pub behind_line : Running → At
+behind_line running = record { is_config = false; running = running }
+
+-- the line of a scenario was appended, or the line is wrong, and that alone is written
+abbrev pub StepsPlain : Running → (line : ℕ) → List (List ℕ) → (old new : List ℕ) → Running → Result Bool AllocError → Type 0
+StepsPlain before line words old new after (Ok true) =
+    (text : List ℕ) × (new ≡ old ++ text)
+    × ((out : List ℕ) (rest : List ℕ → At → Said) → plain_step before line words out rest ≡ rest (out ++ text) (behind_line after))
+StepsPlain before line words old new after (Ok false) =
+    (said : Said) × IsSaid said new (Ok Faulted) × ((out : List ℕ) (rest : List ℕ → At → Said) → plain_step before line words out rest ≡ said)
+StepsPlain before line words old new after (Err lack) = Unit {0}
+
+-- the answer is as expected, or nothing is expected of it, or it differs or the line is wrong, and that alone is written
+abbrev pub Compares : Running → (line : ℕ) → List (List ℕ) → (old new : List ℕ) → Running → Result Compared AllocError → Type 0
+Compares before line words old new after (Ok Same) =
+    (new ≡ old)
+    × ((count : ℕ) (rest : ℕ → At → Said) → test_step before line words count rest ≡ rest (count + 1) (behind_line after))
+Compares before line words old new after (Ok NotExpected) =
+    (new ≡ old) × ((count : ℕ) (rest : ℕ → At → Said) → test_step before line words count rest ≡ rest count (behind_line after))
+Compares before line words old new after (Ok Differs) =
+    (said : Said) × (said.outcome ≡ Faulted) × (new ≡ old ++ said.text)
+    × ((count : ℕ) (rest : ℕ → At → Said) → test_step before line words count rest ≡ said)
+Compares before line words old new after (Err lack) = Unit {0}
+
+-- want of memory, as a line tells it
+abbrev pub stopped : Result (Unit {0}) AllocError → Result (Unit {0}) Stop
+stopped (Ok done) = Ok done
+stopped (Err lack) = Err stop.Memory
+
+-- a line was taken, and what it expects is to be compared with its answer; or it is wrong, and changes nothing
+abbrev pub AnswersLine : Running → (line : ℕ) → List (List ℕ) → Running → (told answer expected : List ℕ) → Result (Unit {0}) Stop → Type 0
+AnswersLine before line words after told answer expected (Ok done) =
+    (count : ℕ) (rest : ℕ → At → Said) → test_step before line words count rest
+    ≡ test_made (not (is_none (parts_of words).expected)) line told answer expected count (λ more. rest more (behind_line after))
+AnswersLine before line words after told answer expected (Err stop.Memory) = Unit {0}
+AnswersLine before line words after told answer expected (Err (stop.Wrong wrong)) =
+    (after ≡ before)
+    × ((count : ℕ) (rest : ℕ → At → Said) → test_step before line words count rest ≡ faulty (fault_of before.known line words wrong ∷ []))
+
+-- ---- The words of a line, be it a step, the config or nothing
+
+-- its line of a scenario was appended, or it is wrong, and that alone is written
+abbrev pub WordsPlain : At → Line → (old new : List ℕ) → At → Result Bool AllocError → Type 0
+WordsPlain before line old new after (Ok true) =
+    (text : List ℕ) × (new ≡ old ++ text)
+    × ((out : List ℕ) (rest : List ℕ → At → Said) → plain_line before line out rest (script_words line.1) ≡ rest (out ++ text) after)
+WordsPlain before line old new after (Ok false) =
+    (said : Said) × IsSaid said new (Ok Faulted) × ((out : List ℕ) (rest : List ℕ → At → Said) → plain_line before line out rest (script_words line.1) ≡ said)
+WordsPlain before line old new after (Err lack) = Unit {0}
+
+-- the answer is as expected, or nothing is expected, or it differs or the line is wrong, and that alone is written
+abbrev pub ComparesWords : At → (line : ℕ) → List (List ℕ) → (old new : List ℕ) → At → Result Compared AllocError → Type 0
+ComparesWords before line words old new after (Ok Same) =
+    (new ≡ old) × ((text : List ℕ) (count : ℕ) (rest : ℕ → At → Said) → test_line before (line, text) count rest words ≡ rest (count + 1) after)
+ComparesWords before line words old new after (Ok NotExpected) =
+    (new ≡ old) × ((text : List ℕ) (count : ℕ) (rest : ℕ → At → Said) → test_line before (line, text) count rest words ≡ rest count after)
+ComparesWords before line words old new after (Ok Differs) =
+    (said : Said) × (said.outcome ≡ Faulted) × (new ≡ old ++ said.text)
+    × ((text : List ℕ) (count : ℕ) (rest : ℕ → At → Said) → test_line before (line, text) count rest words ≡ said)
+ComparesWords before line words old new after (Err lack) = Unit {0}

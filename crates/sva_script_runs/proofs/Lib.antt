@@ -1,0 +1,3 @@
+pub mod FindLemmas
+pub mod RunLemmas
+pub mod TakeLemmas

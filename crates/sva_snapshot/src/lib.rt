@@ -1,0 +1,29 @@
+//! A snapshot of a world: everything that it keeps, by numbers and labels, as a plain value of lists.
+#![tactic(auto)]
+
+mod bindings;
+mod devices;
+mod endpoints;
+mod flights;
+mod jobs;
+mod snapshots;
+mod spaces;
+mod taking;
+mod units;
+
+pub use bindings::{Binding, Stage};
+pub use devices::{Cached, Device};
+pub use endpoints::Endpoint;
+pub use flights::Flight;
+pub use jobs::{HostGroup, Job};
+pub use snapshots::Snapshot;
+pub use spaces::Space;
+pub use sva_endpoint::{GroupPlace, PasidState, RequestTag, Taken, Use, UseSlot};
+pub use sva_frames::{Held, Target};
+pub use sva_itags::Busy;
+pub use sva_msg::{Kind, Message, PageRequest};
+pub use sva_prq::Ask;
+pub use sva_queue::Descriptor;
+pub use sva_space::Mapping;
+pub use taking::snapshot;
+pub use units::Unit;

@@ -1,0 +1,50 @@
+//! What a command on a script prints.
+
+use std::alloc::Global;
+use sva_scenario::{DriveFault, Outcome, Told};
+use sva_script_reports::{Columns, Saying, print, trace};
+
+/// Does `plain` of a script print this, and end so?
+pub(crate) fn is_plain(
+    alloc: Global,
+    script: &str,
+    want: &str,
+    end: Outcome,
+) -> Result<bool, DriveFault> {
+    let mut reader = Told::new(script.as_bytes());
+    let mut writer = Told::new(Vec::new(alloc));
+    let ended = print(alloc, Saying::Plain, &mut reader, &mut writer)?;
+    Ok(ended == end && writer.inner().as_slice() == want.as_bytes())
+}
+
+/// Does `test` of a script print this, and end so?
+pub(crate) fn is_tested(
+    alloc: Global,
+    script: &str,
+    want: &str,
+    end: Outcome,
+) -> Result<bool, DriveFault> {
+    let mut reader = Told::new(script.as_bytes());
+    let mut writer = Told::new(Vec::new(alloc));
+    let ended = print(alloc, Saying::Test, &mut reader, &mut writer)?;
+    Ok(ended == end && writer.inner().as_slice() == want.as_bytes())
+}
+
+/// Does `trace` of a script print this, and end so?
+pub(crate) fn is_traced(
+    alloc: Global,
+    is_live: bool,
+    script: &str,
+    want: &str,
+    end: Outcome,
+) -> Result<bool, DriveFault> {
+    let mut reader = Told::new(script.as_bytes());
+    let mut writer = Told::new(Vec::new(alloc));
+    let columns = if is_live {
+        Columns::Tabbed
+    } else {
+        Columns::Padded
+    };
+    let ended = trace(alloc, columns, &mut reader, &mut writer)?;
+    Ok(ended == end && writer.inner().as_slice() == want.as_bytes())
+}

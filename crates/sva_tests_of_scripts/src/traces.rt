@@ -1,0 +1,60 @@
+//! Traces.
+
+use crate::said::is_traced;
+use std::test::Fail;
+use sva_scenario::Outcome;
+
+static SCRIPT: &str = "config 1 4 1
+# a comment
+s: space
+b: bind 0 s
+deliver b => started
+map s 16 r
+ask 0 b 16
+deliver next
+look 9";
+
+#[test]
+fn a_table(rt: HostRuntime) -> Result<(), Fail> {
+    let alloc = rt.alloc();
+    let want = "3    space                      space 0
+4    bind 0 0                   binding 0 pasid 1      -> 0 start
+5    deliver 0                  started                <- 0 start
+6    map 0 16 r                 frame 0
+7    ask 0 1 16                 tag 0                  -> 1 request
+8    deliver 1                  completion             <- 1 request, -> 2 completion
+9    look 9                     refused 8 NoFrame
+     end                        free 3 mapped 1 withheld 0
+";
+    assert!(rt; is_traced(alloc, false, SCRIPT, want, Outcome::Done)?);
+    Ok(())
+}
+
+#[test]
+fn live(rt: HostRuntime) -> Result<(), Fail> {
+    let alloc = rt.alloc();
+    let want = "3\tspace\tspace 0
+4\tbind 0 0\tbinding 0 pasid 1\t-> 0 start
+5\tdeliver 0\tstarted\t<- 0 start
+6\tmap 0 16 r\tframe 0
+7\task 0 1 16\ttag 0\t-> 1 request
+8\tdeliver 1\tcompletion\t<- 1 request, -> 2 completion
+9\tlook 9\trefused 8 NoFrame
+\tend\tfree 3 mapped 1 withheld 0
+";
+    assert!(rt; is_traced(alloc, true, SCRIPT, want, Outcome::Done)?);
+    Ok(())
+}
+
+#[test]
+fn wrong_lines_are_passed(rt: HostRuntime) -> Result<(), Fail> {
+    let alloc = rt.alloc();
+    let script = "space\nconfig 1 1 1\nspac\nspace\n";
+    let want = "line 1: 'space': wanted config
+line 3: 'spac': wanted a step (space?)
+4    space                      space 0
+     end                        free 1 mapped 0 withheld 0
+";
+    assert!(rt; is_traced(alloc, false, script, want, Outcome::Faulted)?);
+    Ok(())
+}

@@ -1,0 +1,4 @@
+# One line too many, of which the last is the counts.
+echo 'config 1 4 1'
+head -c 65535 /dev/zero | sed 's/\x00/#\n/g'
+echo 'end => free 4 mapped 0 withheld 0'

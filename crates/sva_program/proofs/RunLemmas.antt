@@ -14,11 +14,11 @@ use Rattle.sva_scenario.specs.declared.streams.DriveFault.TheVariants.{Read, Wri
 use Rattle.sva_scenario.specs.declared.streams.Outcome.{Outcome}
 use Rattle.sva_scenario.specs.Report.{check_of, report_of}
 use Rattle.sva_scenario.proofs.StormLemmas.{lacking_of}
-use Rattle.sva_script_reports.specs.Prints.{Prints}
+use Rattle.sva_script_reading.specs.Said.{Prints}
 use Rattle.sva_script_reading.specs.Said.{Said}
 use Rattle.sva_script_reports.specs.Scripts.{plain_of, test_of}
 use Rattle.sva_script_reports.specs.Shows.{show_of}
-use Rattle.sva_script_reports.specs.Traces.{trace_of}
+use Rattle.sva_script_traces.specs.Traces.{trace_of}
 use Rattle.sva_program.specs.Run.{HasCause, Makes, Reports, WhereKnown, columns_of}
 use Rattle.sva_program.specs.declared.command.Asked.{Asked}
 use Rattle.sva_program.specs.declared.command.Asked.TheVariants.{Check, Plain, Replay, Show, Storm, Test, Trace}

@@ -9,12 +9,12 @@ use Rattle.sva_scenario.specs.declared.streams.DriveFault.{DriveFault}
 use Rattle.sva_scenario.specs.declared.streams.DriveFault.TheVariants.{Read, Write, Memory}
 use Rattle.sva_scenario.specs.declared.streams.Outcome.{Outcome}
 use Rattle.sva_scenario.specs.declared.streams.Outcome.TheVariants.{Done, Faulted}
-use Rattle.sva_script_reports.specs.declared.rows.Columns.{Columns}
-use Rattle.sva_script_reports.specs.declared.rows.Columns.TheVariants.{Padded, Tabbed}
-use Rattle.sva_script_reports.specs.Prints.{Prints}
+use Rattle.sva_script_traces.specs.declared.rows.Columns.{Columns}
+use Rattle.sva_script_traces.specs.declared.rows.Columns.TheVariants.{Padded, Tabbed}
+use Rattle.sva_script_reading.specs.Said.{Prints}
 use Rattle.sva_script_reports.specs.Scripts.{plain_of, test_of}
 use Rattle.sva_script_reports.specs.Shows.{show_of}
-use Rattle.sva_script_reports.specs.Traces.{trace_of}
+use Rattle.sva_script_traces.specs.Traces.{trace_of}
 use Rattle.sva_program.specs.declared.command.Asked.{Asked}
 use Rattle.sva_program.specs.declared.command.Asked.TheVariants.{Replay, Check, Storm, Plain, Test, Show, Trace}
 

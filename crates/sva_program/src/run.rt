@@ -18,7 +18,8 @@ use std::io::{ErrorKind as IoErrorKind, Read, Write};
 use std::sync::Wait;
 use std::thread::Threads;
 use sva_scenario::{DriveFault, Outcome, Told, check, drive, write_all};
-use sva_script_reports::{Columns, Saying, print, trace};
+use sva_script_reports::{Saying, print};
+use sva_script_traces::{Columns, trace};
 
 /// The steps were run, or help was shown.
 const DONE: u8 = 0;

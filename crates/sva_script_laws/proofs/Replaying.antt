@@ -34,8 +34,9 @@ use Rattle.sva_script_reading.specs.Said.{Said, bad, well}
 use Rattle.sva_script_reports.specs.Scripts as scripts
 use Rattle.sva_script_reading.specs.Begins.{Line, begun, config_at, config_by, config_in, config_with, faults_from, if_right, joined_words}
 use Rattle.sva_script_reading.specs.Begins.{lines_from, said_by}
-use Rattle.sva_script_reports.specs.Scripts.{At, comment_of, counts_at, if_small, past_config, past_line, plain_from, plain_line, start, step_line}
-use Rattle.sva_script_reports.specs.Traces.{NoEnd}
+use Rattle.sva_script_reading.specs.Begins.{counts_at}
+use Rattle.sva_script_reports.specs.Scripts.{At, comment_of, if_small, past_config, past_line, plain_from, plain_line, start, step_line}
+use Rattle.sva_script_traces.specs.Traces.{NoEnd}
 use Rattle.sva_script_laws.specs.Replays.{ScriptsReplay, answer_line, answer_read, answers_from, step_answer}
 use Rattle.sva_script_laws.proofs.Written.{Clean, comment_clean, config_line_read, config_not_skipped, lines_clean, lines_written, not_skipped, silent}
 use Rattle.sva_script_laws.proofs.Written.{skipped, step_line_read, step_not_skipped, written}

@@ -9,7 +9,8 @@ use Rattle.sva_script_runs.specs.Lines.{LineRead, Plain}
 use Rattle.sva_script_runs.specs.Runs.{Running, read_at}
 use Rattle.sva_script_reading.specs.Said.{well}
 use Rattle.sva_script_reading.specs.Begins.{Line, begin_of, lines_from, said_by}
-use Rattle.sva_script_reports.specs.Scripts.{At, counts_at, past_config, past_line, plain_of, start}
+use Rattle.sva_script_reading.specs.Begins.{counts_at}
+use Rattle.sva_script_reports.specs.Scripts.{At, past_config, past_line, plain_of, start}
 
 -- what a line's step is answered, a line; `end => ..` has no step
 abbrev pub step_answer : Wire → Option Plain → List ℕ

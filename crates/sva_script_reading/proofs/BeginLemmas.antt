@@ -15,7 +15,7 @@ use Rattle.sva_script_reading.specs.Faults.{Fault, fault_text}
 use Rattle.sva_script_reading.specs.Said.{faults_text}
 use Rattle.sva_script_reading.specs.Reading.{BeginsWith, HasConfig, ReadsConfig, ReadsLine}
 use Rattle.sva_script_reading.specs.Begins.{Line, at_word, begin_of, begun, config_at, config_by, config_in, config_with, fault_of, faults_at}
-use Rattle.sva_script_reading.specs.Begins.{faults_from, if_right, joined_words, lines_from}
+use Rattle.sva_script_reading.specs.Begins.{config_alone, faults_from, first_config, if_right, joined_words, lines_from}
 use Rattle.sva_script_reading.proofs.FaultLemmas.{faults_both, none_bad}
 
 -- ---- The config
@@ -135,6 +135,24 @@ begins_wrong text (Ok found) config left old mid new small is none has told some
     let all : new ≡ faults_text (faults_from [] false left) = told ∙ ap (λ l. l ++ faults_text (faults_from [] false left)) (has.2 ∙ none) in
     rw small (subst (λ begin. BeginsWith (begun begin) None new) is
     (by_faults found.0 (faults_from [] false found.1) new (all ∙ ap (λ lines. faults_text (faults_from [] false lines)) has.1) some))
+
+-- the config alone
+alone : (text : List ℕ) (begin : Result (Config × List Line) Fault) (left : List Line) (old new : List ℕ) (found : Option Config)
+    → is_too_large text ≡ false → begin ≡ config_in 0 (lines_from 1 text) → old ≡ [] → HasConfig begin found left old new
+    → BeginsWith (first_config text) found new
+alone text (Ok both) left old new (Some config) small is none has =
+    rw small (subst (λ begin. BeginsWith (config_alone begin) (Some config) new) is (has.0, has.2 ∙ none))
+alone text (Err fault) left old new None small is none has =
+    rw small (subst (λ begin. BeginsWith (config_alone begin) None new) is
+    (refl, has ∙ ap (λ l. l ++ fault_text fault) none ∙ sym (append-nil (fault_text fault))))
+alone text (Ok both) left old new None small is none has = absurd has
+alone text (Err fault) left old new (Some config) small is none has = absurd has
+
+pub config_begins : (text : List ℕ) (begin : Result (Config × List Line) Fault) (left : List Line) (old new : List ℕ)
+    (result : Result (Option Config) AllocError) → is_too_large text ≡ false → begin ≡ config_in 0 (lines_from 1 text) → old ≡ []
+    → IfOk result (λ found. HasConfig begin found left old new) → IfOk result (λ found. BeginsWith (first_config text) found new)
+config_begins text begin left old new (Ok found) small is none has = alone text begin left old new found small is none has
+config_begins text begin left old new (Err lack) small is none has = tt
 
 -- ---- Words as they are lent
 

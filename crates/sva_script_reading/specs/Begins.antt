@@ -1,5 +1,5 @@
 -- A script before it is run: its lines, its config, and all that is wrong with them.
-use Rattle.std.specs.Prelude.{ℕ, ◌+◌, nat_lt, Bool, true, false, if◌then◌else◌, List, [], ◌∷◌, ◌++◌, codes}
+use Rattle.std.specs.Prelude.{count_by, ℕ, ◌+◌, nat_lt, Bool, true, false, if◌then◌else◌, List, [], ◌∷◌, ◌++◌, codes}
 use Rattle.std.specs.Prelude.{flat_map, length}
 use Rattle.std.specs.Prelude.{is_err, is_none, position, Option, None, Result, Ok, Err}
 use Rattle.std.specs.List.{enumerate_from}
@@ -8,9 +8,12 @@ use Rattle.std.specs.Str.{bytes_eq}
 use Rattle.sva_step.specs.declared.limits.Config.{Config}
 use Rattle.sva_step.specs.declared.refusals.Refusal.TheVariants.{BadConfig}
 use Rattle.sva_step.specs.Refusals.{refusal_text}
+use Rattle.sva_labels.specs.Finding.{is_free}
+use Rattle.sva_model.specs.Wire.{Wire}
+use Rattle.sva_address_spaces.specs.Steps.{is_mapped_place, is_withheld_place}
 use Rattle.sva_grammar.specs.declared.faults.Cause.{Cause}
 use Rattle.sva_grammar.specs.Grammar.{config_read, is_too_large, lines_of, number}
-use Rattle.sva_scenario.specs.Report.{ended, is_fit}
+use Rattle.sva_scenario.specs.Report.{counts_text, ended, is_fit}
 use Rattle.sva_script.specs.declared.faults.Wanted.{Wanted}
 use Rattle.sva_script.specs.declared.faults.Wanted.TheVariants as wanted
 use Rattle.sva_script.specs.declared.faults.Wrong.{Wrong}
@@ -113,13 +116,32 @@ abbrev pub begun : Result (Config × List Line) Fault → Result Config Said
 begun (Ok (config, lines)) = if_right config (faults_from [] false lines)
 begun (Err fault) = Err (faulty (fault ∷ []))
 
+abbrev pub too_large : Said
+too_large = bad (ended (codes "line 0: the script has more than 1048576 bytes or 65536 lines"))
+
+-- the config of a script, whatever is wrong with the lines behind it, or what is said of one that has none
+abbrev pub config_alone : Result (Config × List Line) Fault → Result Config Said
+config_alone (Ok (config, lines)) = Ok config
+config_alone (Err fault) = Err (faulty (fault ∷ []))
+
+abbrev pub first_config : List ℕ → Result Config Said
+first_config text = if is_too_large text then Err too_large else config_alone (config_in 0 (lines_from 1 text))
+
 -- the config of a script, or what is said of one that can't be run
 abbrev pub begin_of : List ℕ → Result Config Said
-begin_of text =
-    if is_too_large text then Err (bad (ended (codes "line 0: the script has more than 1048576 bytes or 65536 lines")))
-    else begun (config_in 0 (lines_from 1 text))
+begin_of text = if is_too_large text then Err too_large else begun (config_in 0 (lines_from 1 text))
 
 -- a script is run where its config is within its limits
 abbrev pub said_by : (run : Config → Said) → Result Config Said → Said
 said_by run (Ok config) = if is_fit config then run config else bad (ended (refusal_text BadConfig))
 said_by run (Err said) = said
+
+-- ---- What is kept
+
+-- the counts of what is kept
+abbrev pub counts_at : Wire → List ℕ
+counts_at wire = counts_text (record {
+  free = count_by is_free wire.places;
+  mapped = count_by is_mapped_place wire.places;
+  withheld = count_by is_withheld_place wire.places;
+})

@@ -1,8 +1,10 @@
 -- What a command says of a script: a text, and how it ends.
-use Rattle.std.specs.Prelude.{◌≡◌, ℕ, List, flat_map, Result, Ok, Err}
+use Rattle.std.specs.Prelude.{IfOk, Option, ◌≡◌, ℕ, List, flat_map, Result, Ok, Err}
 use Rattle.std.specs.declared.alloc.AllocError.{AllocError}
+use Rattle.sva_scenario.specs.declared.streams.DriveFault.{DriveFault}
 use Rattle.sva_scenario.specs.declared.streams.Outcome.{Outcome}
 use Rattle.sva_scenario.specs.declared.streams.Outcome.TheVariants.{Done, Faulted}
+use Rattle.sva_scenario.specs.Streams.{Writes}
 use Rattle.sva_script_reading.specs.Faults.{Fault, fault_text}
 
 pub record Said : Type 0 where
@@ -28,3 +30,7 @@ faulty faults = bad (faults_text faults)
 abbrev pub IsSaid : Said → (out : List ℕ) → Result Outcome AllocError → Type 0
 IsSaid said out (Ok outcome) = (outcome ≡ said.outcome) × (out ≡ said.text)
 IsSaid said out (Err lack) = Unit {0}
+
+-- it was written, and the outcome is its own; or a prefix of it, where the result is a fault
+abbrev pub Prints : Said → Option (List ℕ) → Option (List ℕ) → Result Outcome DriveFault → Type 0
+Prints said old new result = Writes old new said.text result × IfOk result (λ outcome. outcome ≡ said.outcome)

@@ -8,5 +8,5 @@ mod writing;
 
 pub use faults::put_wrong;
 pub use lines::{Lines, end_in, is_too_large};
-pub use reading::{Desk, config_of, put_words, read_script};
+pub use reading::{Desk, config_of, put_words, read_config, read_script};
 pub use writing::{put_bad_config, put_counts, put_number, put_reply};

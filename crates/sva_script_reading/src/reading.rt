@@ -7,7 +7,7 @@ ghost use Rattle.sva_script.specs.Names.{given_of};
 ghost use Rattle.sva_script_runs.specs.Runs.{with_name};
 ghost use Rattle.sva_script_reading.specs.Said.{faults_text};
 ghost use Rattle.sva_script_reading.specs.Reading.{BeginsWith, HasConfig, ReadsConfig, ReadsLine, ReadsWords};
-ghost use Rattle.sva_script_reading.specs.Begins.{begin_of, config_by, config_in, config_wrong, faults_from, good_counts, joined_words, lines_from, noted};
+ghost use Rattle.sva_script_reading.specs.Begins.{begin_of, config_by, config_in, config_wrong, faults_from, first_config, good_counts, joined_words, lines_from, noted};
 
 use crate::faults::put_wrong;
 use crate::lines::{Lines, is_too_large};
@@ -69,6 +69,27 @@ pub fn read_script(
             })
         }
     }
+}
+
+/// Reads the config of a script alone, or `None` where it is wrong or missing, which is written to `faults`. What is wrong with
+/// the lines behind it isn't asked.
+pub fn read_config(
+    alloc: Global,
+    text: &[u8],
+    faults: &mut Vec<u8>,
+) -> Result<Option<Config>, AllocError>
+    requires { faults.old.items ≡ [] }
+    ensures begins { IfOk result (λ found. BeginsWith (first_config text.now) found faults.new.items) }
+    ensures short { IfOk result (λ found. IfSome found (λ config. length text.now ≤ 1048576)) }
+{
+    if is_too_large(text) {
+        faults.extend_from_slice(TOO_LARGE)?;
+        return Ok(None);
+    }
+    let mut lines = Lines::new(text);
+    let mut desk = Desk::new(alloc);
+    let names = Names::new(alloc);
+    take_config(&mut lines, &mut desk, &names, faults)
 }
 
 /// Takes lines off up to the config, and gives it; what is wrong is appended to `faults`. Lines that say nothing are

@@ -10,11 +10,12 @@ use Rattle.sva_scenario.specs.declared.streams.Outcome.{Outcome}
 use Rattle.sva_scenario.specs.Report.{ended}
 use Rattle.sva_script_reports.specs.declared.printing.Saying.{Saying}
 use Rattle.sva_script_reports.specs.declared.printing.Saying.TheVariants.{Plain, Show, Test}
-use Rattle.sva_script_reports.specs.Prints.{Prints, said_of}
+use Rattle.sva_script_reading.specs.Said.{Prints}
+use Rattle.sva_script_reports.specs.Prints.{said_of}
 use Rattle.sva_script_reading.specs.Said.{Said, bad}
 use Rattle.sva_script_reports.specs.Shows.{show_from}
-use Rattle.sva_script_reading.specs.Begins.{begin_of, begun, config_in, lines_from, said_by}
-use Rattle.sva_script_reports.specs.Scripts.{plain_from, start, test_from}
+use Rattle.sva_script_reading.specs.Begins.{begin_of, begun, config_alone, config_in, first_config, lines_from, said_by}
+use Rattle.sva_script_reports.specs.Scripts.{plain_from, start, test_of, tested}
 
 abbrev large : Said
 large = bad (ended (codes "line 0: the script has more than 1048576 bytes or 65536 lines"))
@@ -33,9 +34,23 @@ by_size run text false e =
     let short : length text ≤ 1048577 = omega (arith, ltb-false 1048576 (length text) e) in
     ap (λ kept. said_by (run kept) (begin_of kept)) (take_all 1048577 text short)
 
+no_config : (text : List ℕ) → 1048576 < length text → first_config text ≡ Err large
+no_config text long =
+    ap (λ t. cond (t || ltb 65536 (length (lines_of text))) (Err large) (config_alone (config_in 0 (lines_from 1 text))))
+    (lt-ltb 1048576 (length text) long)
+
+test_front : (text : List ℕ) (long : Bool) → ltb 1048576 (length text) ≡ long → test_of (take 1048577 text) ≡ test_of text
+test_front text true e =
+    let long : 1048576 < length text = grind (arith, lt-ltb) in
+    let front : 1048576 < length (take 1048577 text) = omega (arith, length-take 1048577 text) in
+    ap (tested (take 1048577 text)) (no_config (take 1048577 text) front) ∙ sym (ap (tested text) (no_config text long))
+test_front text false e =
+    let short : length text ≤ 1048577 = omega (arith, ltb-false 1048576 (length text) e) in
+    ap test_of (take_all 1048577 text short)
+
 front_said : (saying : Saying) (text : List ℕ) → said_of saying (take 1048577 text) ≡ said_of saying text
 front_said Plain text = by_size (λ kept config. plain_from [] (start config) (lines_from 1 kept)) text (ltb 1048576 (length text)) refl
-front_said Test text = by_size (λ kept config. test_from 0 (start config) (lines_from 1 kept)) text (ltb 1048576 (length text)) refl
+front_said Test text = test_front text (ltb 1048576 (length text)) refl
 front_said Show text = by_size (λ kept config. show_from (start config) (lines_from 1 kept)) text (ltb 1048576 (length text)) refl
 
 pub kept_print : (saying : Saying) (known old new : Option (List ℕ)) (kept text : List ℕ) (result : Result Outcome DriveFault)

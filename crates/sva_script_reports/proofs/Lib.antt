@@ -1,8 +1,6 @@
 pub mod PlainLemmas
 pub mod TestLemmas
 pub mod StepLemmas
-pub mod TraceLemmas
+pub mod EndLemmas
 pub mod FrontLemmas
-pub mod RowLemmas
-pub mod InputLemmas
 pub mod ShowLemmas

@@ -2,5 +2,3 @@ pub mod Scripts
 pub mod Lines
 pub mod Shows
 pub mod Prints
-pub mod Rows
-pub mod Traces

@@ -1,6 +1,7 @@
 -- What a call makes of a line of a script that runs.
 use Rattle.std.specs.Prelude.{◌≡◌, ℕ, ◌+◌, Bool, true, false, is_none, not, List, [], ◌∷◌, ◌++◌, Result, Ok, Err}
 use Rattle.std.specs.declared.alloc.AllocError.{AllocError}
+use Rattle.sva_step.specs.declared.limits.Config.{Config}
 use Rattle.sva_scenario.specs.declared.streams.Outcome.TheVariants.{Faulted}
 use Rattle.sva_script.specs.declared.faults.Stop.{Stop}
 use Rattle.sva_script.specs.declared.faults.Stop.TheVariants as stop
@@ -26,31 +27,36 @@ StepsPlain before line words old new after (Ok false) =
 StepsPlain before line words old new after (Err lack) = Unit {0}
 
 -- the answer is as expected, or nothing is expected of it, or it differs or the line is wrong, and that alone is written
-abbrev pub Compares : Running → (line : ℕ) → List (List ℕ) → (old new : List ℕ) → Running → Result Compared AllocError → Type 0
-Compares before line words old new after (Ok Same) =
+abbrev pub Compares : Running → (line : ℕ) → List (List ℕ) → (old new : List ℕ) → (is_last : Bool) → Running → Result Compared AllocError → Type 0
+Compares before line words old new is_last after (Ok Same) =
     (new ≡ old)
-    × ((count : ℕ) (rest : ℕ → At → Said) → test_step before line words count rest ≡ rest (count + 1) (behind_line after))
-Compares before line words old new after (Ok NotExpected) =
-    (new ≡ old) × ((count : ℕ) (rest : ℕ → At → Said) → test_step before line words count rest ≡ rest count (behind_line after))
-Compares before line words old new after (Ok Differs) =
+    × ((count : ℕ) (rest : ℕ → Bool → At → Said) → test_step before line words count rest ≡ rest (count + 1) is_last (behind_line after))
+Compares before line words old new is_last after (Ok NotExpected) =
+    (new ≡ old) × ((count : ℕ) (rest : ℕ → Bool → At → Said) → test_step before line words count rest ≡ rest count is_last (behind_line after))
+Compares before line words old new is_last after (Ok Differs) =
     (said : Said) × (said.outcome ≡ Faulted) × (new ≡ old ++ said.text)
-    × ((count : ℕ) (rest : ℕ → At → Said) → test_step before line words count rest ≡ said)
-Compares before line words old new after (Err lack) = Unit {0}
+    × ((count : ℕ) (rest : ℕ → Bool → At → Said) → test_step before line words count rest ≡ said)
+Compares before line words old new is_last after (Err lack) = Unit {0}
 
--- want of memory, as a line tells it
-abbrev pub stopped : Result (Unit {0}) AllocError → Result (Unit {0}) Stop
-stopped (Ok done) = Ok done
-stopped (Err lack) = Err stop.Memory
+-- what is wrong with the lines of a script was written in place of what was there, if something is
+abbrev pub IsToldOf : Result Config Said → (old new : List ℕ) → Type 0
+IsToldOf (Ok config) old new = new ≡ old
+IsToldOf (Err wrong) old new = (new ≡ wrong.text) × (wrong.outcome ≡ Faulted)
+
+-- whether it is the last line, or want of memory, as a line tells it
+abbrev pub stopped : (is_last : Bool) → Result (Unit {0}) AllocError → Result Bool Stop
+stopped is_last (Ok done) = Ok is_last
+stopped is_last (Err lack) = Err stop.Memory
 
 -- a line was taken, and what it expects is to be compared with its answer; or it is wrong, and changes nothing
-abbrev pub AnswersLine : Running → (line : ℕ) → List (List ℕ) → Running → (told answer expected : List ℕ) → Result (Unit {0}) Stop → Type 0
-AnswersLine before line words after told answer expected (Ok done) =
-    (count : ℕ) (rest : ℕ → At → Said) → test_step before line words count rest
-    ≡ test_made (not (is_none (parts_of words).expected)) line told answer expected count (λ more. rest more (behind_line after))
+abbrev pub AnswersLine : Running → (line : ℕ) → List (List ℕ) → Running → (told answer expected : List ℕ) → Result Bool Stop → Type 0
+AnswersLine before line words after told answer expected (Ok is_last) =
+    (count : ℕ) (rest : ℕ → Bool → At → Said) → test_step before line words count rest
+    ≡ test_made (not (is_none (parts_of words).expected)) line told answer expected count (λ more. rest more is_last (behind_line after))
 AnswersLine before line words after told answer expected (Err stop.Memory) = Unit {0}
 AnswersLine before line words after told answer expected (Err (stop.Wrong wrong)) =
     (after ≡ before)
-    × ((count : ℕ) (rest : ℕ → At → Said) → test_step before line words count rest ≡ faulty (fault_of before.known line words wrong ∷ []))
+    × ((count : ℕ) (rest : ℕ → Bool → At → Said) → test_step before line words count rest ≡ faulty (fault_of before.known line words wrong ∷ []))
 
 -- ---- The words of a line, be it a step, the config or nothing
 
@@ -64,12 +70,15 @@ WordsPlain before line old new after (Ok false) =
 WordsPlain before line old new after (Err lack) = Unit {0}
 
 -- the answer is as expected, or nothing is expected, or it differs or the line is wrong, and that alone is written
-abbrev pub ComparesWords : At → (line : ℕ) → List (List ℕ) → (old new : List ℕ) → At → Result Compared AllocError → Type 0
-ComparesWords before line words old new after (Ok Same) =
-    (new ≡ old) × ((text : List ℕ) (count : ℕ) (rest : ℕ → At → Said) → test_line before (line, text) count rest words ≡ rest (count + 1) after)
-ComparesWords before line words old new after (Ok NotExpected) =
-    (new ≡ old) × ((text : List ℕ) (count : ℕ) (rest : ℕ → At → Said) → test_line before (line, text) count rest words ≡ rest count after)
-ComparesWords before line words old new after (Ok Differs) =
+abbrev pub ComparesWords : At → (was_past : Bool) → (line : ℕ) → List (List ℕ) → (old new : List ℕ) → (is_past : Bool) → At → Result Compared AllocError
+    → Type 0
+ComparesWords before was_past line words old new is_past after (Ok Same) =
+    (new ≡ old) × ((text : List ℕ) (count : ℕ) (rest : ℕ → Bool → At → Said)
+    → test_line before was_past (line, text) count rest words ≡ rest (count + 1) is_past after)
+ComparesWords before was_past line words old new is_past after (Ok NotExpected) =
+    (new ≡ old) × ((text : List ℕ) (count : ℕ) (rest : ℕ → Bool → At → Said)
+    → test_line before was_past (line, text) count rest words ≡ rest count is_past after)
+ComparesWords before was_past line words old new is_past after (Ok Differs) =
     (said : Said) × (said.outcome ≡ Faulted) × (new ≡ old ++ said.text)
-    × ((text : List ℕ) (count : ℕ) (rest : ℕ → At → Said) → test_line before (line, text) count rest words ≡ said)
-ComparesWords before line words old new after (Err lack) = Unit {0}
+    × ((text : List ℕ) (count : ℕ) (rest : ℕ → Bool → At → Said) → test_line before was_past (line, text) count rest words ≡ said)
+ComparesWords before was_past line words old new is_past after (Err lack) = Unit {0}

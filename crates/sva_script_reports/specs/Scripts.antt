@@ -1,20 +1,20 @@
 -- What `plain` and `test` make of a whole script.
-use Rattle.std.specs.Prelude.{ℕ, ◌+◌, ◌==◌, not, Bool, true, false, if◌then◌else◌, List, [], ◌∷◌, ◌++◌, codes, count_by, decimal, drop}
+use Rattle.std.specs.Prelude.{ℕ, ◌+◌, ◌==◌, not, Bool, true, false, if◌then◌else◌, List, [], ◌∷◌, ◌++◌, codes, decimal, drop, is_none}
 use Rattle.std.specs.Prelude.{position, Option, Some, None, Result, Ok, Err}
 use Rattle.std.specs.Option.{option_map_or}
 use Rattle.sva_step.specs.declared.limits.Config.{Config}
-use Rattle.sva_labels.specs.Finding.{is_free}
 use Rattle.sva_labels.specs.Host.{first_wire, reply_of}
-use Rattle.sva_address_spaces.specs.Steps.{is_mapped_place, is_withheld_place}
 use Rattle.sva_model.specs.Wire.{Wire}
 use Rattle.sva_grammar.specs.Grammar.{is_too_large, words_of}
-use Rattle.sva_scenario.specs.Report.{counts_text, ended, reply_text}
+use Rattle.sva_scenario.specs.Report.{ended, reply_text}
 use Rattle.sva_script.specs.declared.faults.Wanted.{Wanted}
 use Rattle.sva_script.specs.declared.faults.Wanted.TheVariants as wanted
 use Rattle.sva_script.specs.declared.faults.Wrong.{Wrong}
 use Rattle.sva_script.specs.Expect.{are_as_expected}
 use Rattle.sva_script.specs.Lines.{Parts, parts_of, script_words}
-use Rattle.sva_script_reading.specs.Begins.{Line, begin_of, fault_of, joined_words, lines_from, said_by}
+use Rattle.sva_scenario.specs.declared.streams.Outcome.{Outcome}
+use Rattle.sva_scenario.specs.declared.streams.Outcome.TheVariants.{Done, Faulted}
+use Rattle.sva_script_reading.specs.Begins.{Line, at_word, begin_of, counts_at, fault_of, first_config, joined_words, lines_from, said_by}
 use Rattle.sva_script_reading.specs.Said.{Said, bad, faulty, well}
 use Rattle.sva_script_runs.specs.Lines.{LineRead, Plain}
 use Rattle.sva_script_runs.specs.Runs.{Running, behind, read_at}
@@ -76,14 +76,6 @@ plain_of text = said_by (λ config. plain_from [] (start config) (lines_from 1 t
 
 -- ---- The test
 
--- the counts of what is kept
-abbrev pub counts_at : Wire → List ℕ
-counts_at wire = counts_text (record {
-  free = count_by is_free wire.places;
-  mapped = count_by is_mapped_place wire.places;
-  withheld = count_by is_withheld_place wire.places;
-})
-
 -- what a line is answered: a step by the definitions, and the last line the counts
 abbrev pub answer_at : Wire → Option Plain → List ℕ
 answer_at wire None = counts_at wire
@@ -122,24 +114,42 @@ test_made false line told answer expected count rest = rest count
 test_made true line told answer expected count rest = judged count line told answer (drop 1 expected) rest
 
 -- what a line comes to where so many answers were as expected; `rest` is what those behind it come to
-abbrev pub test_read : Running → (line : ℕ) → List (List ℕ) → (count : ℕ) → (rest : ℕ → At → Said) → Result LineRead Wrong → Said
+abbrev pub test_read : Running → (line : ℕ) → List (List ℕ) → (count : ℕ) → (rest : ℕ → Bool → At → Said) → Result LineRead Wrong → Said
 test_read running line words count rest (Ok read) =
-    compared count line (told_step read.step) (answer_at running.seen read.step) (λ more. rest more (past_line running line (parts_of words) read))
-    read.expected
+    compared count line (told_step read.step) (answer_at running.seen read.step)
+    (λ more. rest more (is_none read.step) (past_line running line (parts_of words) read)) read.expected
 test_read running line words count rest (Err wrong) = faulty (fault_of running.known line words wrong ∷ [])
 
-abbrev pub test_step : Running → (line : ℕ) → List (List ℕ) → (count : ℕ) → (rest : ℕ → At → Said) → Said
+abbrev pub test_step : Running → (line : ℕ) → List (List ℕ) → (count : ℕ) → (rest : ℕ → Bool → At → Said) → Said
 test_step running line words count rest = test_read running line words count rest (read_at running (parts_of words))
 
-abbrev pub test_line : At → Line → (count : ℕ) → (rest : ℕ → At → Said) → List (List ℕ) → Said
-test_line at line count rest [] = rest count at
-test_line at line count rest words = if at.is_config then rest count (past_config at) else test_step at.running line.0 words count rest
+-- behind `end => ..` no line may say anything
+abbrev pub test_line : At → (is_past : Bool) → Line → (count : ℕ) → (rest : ℕ → Bool → At → Said) → List (List ℕ) → Said
+test_line at is_past line count rest [] = rest count is_past at
+test_line at is_past line count rest words =
+    if at.is_config then rest count is_past (past_config at)
+    else if is_past then faulty (fault_of at.running.known line.0 words (at_word 0 wanted.NoLine) ∷ [])
+    else test_step at.running line.0 words count rest
 
--- what is said where so many answers were as expected, and these lines are left
-unfoldable pub test_from : (count : ℕ) → At → List Line → Said
-test_from count at [] = well (verdict_text count)
-test_from count at (line ∷ lines) = test_line at line count (λ more next. test_from more next lines) (script_words line.1)
+-- what is said where so many answers were as expected, the last line was there or not, and these lines are left
+unfoldable pub test_from : (count : ℕ) → (is_past : Bool) → At → List Line → Said
+test_from count is_past at [] = well (verdict_text count)
+test_from count is_past at (line ∷ lines) =
+    test_line at is_past line count (λ more past next. test_from more past next lines) (script_words line.1)
+
+-- what is wrong with the lines of a script is told in place of the first answer that differs, and all of it
+abbrev pub told_by : Outcome → (said wrong : Said) → Said
+told_by Done said wrong = said
+told_by Faulted said wrong = wrong
+
+abbrev pub or_wrong : Result Config Said → Said → Said
+or_wrong (Ok config) said = said
+or_wrong (Err wrong) said = told_by said.outcome said wrong
+
+abbrev pub tested : List ℕ → Result Config Said → Said
+tested text (Ok config) = or_wrong (begin_of text) (said_by (λ config. test_from 0 false (start config) (lines_from 1 text)) (Ok config))
+tested text (Err said) = said
 
 -- what `test` says of a script
 abbrev pub test_of : List ℕ → Said
-test_of text = said_by (λ config. test_from 0 (start config) (lines_from 1 text)) (begin_of text)
+test_of text = tested text (first_config text)

@@ -4,7 +4,8 @@ ghost use Rattle.std.specs.Prelude.{◌≡◌, ◌⊎◌, ◌<◌, ◌≤◌, []
 ghost use Rattle.std.specs.Io.KnownBytes.{IsAtEnd};
 ghost use Rattle.sva_scenario.specs.declared.reading.TheConstants.{MOST_TURNS};
 ghost use Rattle.sva_scenario.specs.Streams.{IsNew, Tells};
-ghost use Rattle.sva_script_reports.specs.Prints.{Prints, said_of};
+ghost use Rattle.sva_script_reading.specs.Said.{Prints};
+ghost use Rattle.sva_script_reports.specs.Prints.{said_of};
 ghost use Rattle.sva_script_reading.specs.Said.{IsSaid};
 
 use crate::plain_lines::plain;

@@ -72,12 +72,11 @@ behind running line name (Some plain) = record {
 }
 
 -- a line's name was noted with what it came to, and the world is that of before
-abbrev pub IsNamed : Running → (line : ℕ) → Option (List ℕ) → Taken → Running → Result (Option Taken) Stop → Type 0
-IsNamed old line name taken new (Ok found) =
-    (found ≡ Some taken)
-    × (new ≡ record { seen = old.seen; known = with_name old.known name (record { line = line; told = Some taken.told }) })
-IsNamed old line name taken new (Err stop.Memory) = Unit {0}
-IsNamed old line name taken new (Err (stop.Wrong fault)) = ⊥
+abbrev pub IsNamed : Running → (line : ℕ) → Option (List ℕ) → Told → Running → Result (Unit {0}) Stop → Type 0
+IsNamed old line name told new (Ok done) =
+    new ≡ record { seen = old.seen; known = with_name old.known name (record { line = line; told = Some told }) }
+IsNamed old line name told new (Err stop.Memory) = Unit {0}
+IsNamed old line name told new (Err (stop.Wrong fault)) = ⊥
 
 -- what is told of a line's step
 abbrev pub TellsStep : Wire → Option Plain → Option Taken → Type 0

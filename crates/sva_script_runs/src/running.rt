@@ -104,7 +104,10 @@ impl Run {
         match read_line(&self.names, Some(&self.world), words, plain, expected) {
             Ok(None) => Ok(None),
             Ok(Some(step)) => match self.apply(&step) {
-                Ok(taken) => self.name(alloc, line, parts_of(words).name, taken),
+                Ok(taken) => match self.name(alloc, line, parts_of(words).name, &taken.told) {
+                    Ok(()) => Ok(Some(taken)),
+                    Err(stop) => Err(stop),
+                },
                 Err(stop) => Err(stop),
             },
             Err(stop) => Err(stop),
@@ -117,20 +120,20 @@ impl Run {
         alloc: Global,
         line: u64,
         name: Option<&[u8]>,
-        taken: Taken,
-    ) -> Result<Option<Taken>, Stop>
+        told: &Told,
+    ) -> Result<(), Stop>
         requires { IfSome name (λ name. given_of name.now self.old.known ≡ None) }
-        ensures { IsNamed self.old line (option_map (λ name. name.now) name.entry) taken self.new result }
+        ensures { IsNamed self.old line (option_map (λ name. name.now) name.entry) told.now self.new result }
     {
         let Some(name) = name else {
-            return Ok(Some(taken));
+            return Ok(());
         };
         let given = Given {
             line,
-            told: Some(taken.told),
+            told: Some(*told),
         };
         match self.names.put(alloc, name, given) {
-            Ok(()) => Ok(Some(taken)),
+            Ok(()) => Ok(()),
             Err(_) => Err(Stop::Memory),
         }
     }

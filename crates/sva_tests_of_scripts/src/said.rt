@@ -2,7 +2,8 @@
 
 use std::alloc::Global;
 use sva_scenario::{DriveFault, Outcome, Told};
-use sva_script_reports::{Columns, Saying, print, trace};
+use sva_script_reports::{Saying, print};
+use sva_script_traces::{Columns, trace};
 
 /// Does `plain` of a script print this, and end so?
 pub(crate) fn is_plain(

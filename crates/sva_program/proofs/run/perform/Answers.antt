@@ -2,10 +2,10 @@ use Rattle.std.proofs.Common.{IfSome, ap, subst, sym}
 use Rattle.std.proofs.lemmas.Result.{IfOk-weaker}
 use Rattle.sva_scenario.specs.Report.{check_of, check_outcome_of, outcome_of, report_of}
 use Rattle.sva_scenario.specs.Storms.{StormsOf}
-use Rattle.sva_script_reports.specs.Prints.{Prints}
+use Rattle.sva_script_reading.specs.Said.{Prints}
 use Rattle.sva_script_reports.specs.Scripts.{plain_of, test_of}
 use Rattle.sva_script_reports.specs.Shows.{show_of}
-use Rattle.sva_script_reports.specs.Traces.{trace_of}
+use Rattle.sva_script_traces.specs.Traces.{trace_of}
 use Rattle.sva_program.specs.Run.{Reports}
 use Rattle.sva_program.proofs.RunLemmas.{caused, printed, reported, run_reported}
 use Rattle.sva_program.proofs.run.perform.Goals as goal

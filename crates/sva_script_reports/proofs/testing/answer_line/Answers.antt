@@ -1,4 +1,4 @@
-use Rattle.std.proofs.Common.{◌∙◌, List, Ok, Some, None, ap, map, subst, ℕ}
+use Rattle.std.proofs.Common.{◌∙◌, List, Ok, Some, None, ap, false, map, subst, true, ℕ}
 use denote.Ref.{Bor}
 use Rattle.sva_script.specs.Lines.{parts_of}
 use Rattle.sva_script_runs.specs.Runs.{Takes}
@@ -8,7 +8,7 @@ use Rattle.sva_script_reports.proofs.testing.answer_line.Goals as goal
 pub returns-in-Ok-Some : goal.returns-in-Ok-Some
 returns-in-Ok-Some c =
     let words = map {A = Bor (List ℕ)} {B = List ℕ} (λ word. word.now) c.args.words.now in
-    answers_if c.args.run.now c.take.new.self c.args.number words c.take.new.plain.items c.put_reply.new.out.items c.take.new.expected.items c.put_reply.result
+    answers_if c.args.run.now c.take.new.self c.args.number words c.take.new.plain.items c.put_reply.new.out.items c.take.new.expected.items false c.put_reply.result
     c.stopped.result c.stopped.ensures c.put_reply.ensures
     (step_answered c.args.run.now c.take.new.self c.args.number words c.take.new.plain.items c.take.new.expected.items c.clear.new.self.items
     c.put_reply.new.out.items c.in-Ok-Some.taken
@@ -18,7 +18,7 @@ returns-in-Ok-Some c =
 pub returns-in-Ok-None : goal.returns-in-Ok-None
 returns-in-Ok-None c =
     let words = map {A = Bor (List ℕ)} {B = List ℕ} (λ word. word.now) c.args.words.now in
-    answers_if c.args.run.now c.take.new.self c.args.number words c.put_end.new.plain.items c.put_end.new.answer.items c.take.new.expected.items c.put_end.result
+    answers_if c.args.run.now c.take.new.self c.args.number words c.put_end.new.plain.items c.put_end.new.answer.items c.take.new.expected.items true c.put_end.result
     c.stopped-in-Ok-None.result c.stopped-in-Ok-None.ensures c.put_end.ensures
     (λ both. end_answered c.args.run.now c.take.new.self c.args.number words c.take.new.plain.items c.take.new.expected.items c.clear.new.self.items
     c.put_end.new.plain.items c.put_end.new.answer.items c.counts.result

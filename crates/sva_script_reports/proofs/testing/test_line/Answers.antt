@@ -11,7 +11,7 @@ pub returns-in-Err-Wrong : goal.returns-in-Err-Wrong
 returns-in-Err-Wrong c =
     let given = map {A = Bor (List ℕ)} {B = List ℕ} (λ word. word.now) c.as_slice-words.result.now in
     line_failed c.args.run.now c.answer_line.new.run c.args.number _ given c.answer_line.new.plain.items c.answer_line.new.answer.items
-    c.answer_line.new.expected.items c.args.out.now.items c.put_wrong.new.out.items c.names.result.now c.in-Err-Wrong.wrong
+    c.answer_line.new.expected.items c.args.out.now.items c.put_wrong.new.out.items c.args.is_last.now c.names.result.now c.in-Err-Wrong.wrong
     (ap (λ ws. map {A = Bor (List ℕ)} {B = List ℕ} (λ word. word.now) ws) c.as_slice-words.ensures.value)
     (subst (λ r. AnswersLine c.args.run.now c.args.number given c.answer_line.new.run c.answer_line.new.plain.items c.answer_line.new.answer.items
     c.answer_line.new.expected.items r) (c.in-Err-Wrong.is ∙ ap Err c.in-Err-Wrong.field-0-is) c.answer_line.ensures)
@@ -27,7 +27,7 @@ returns c =
     ≡ c.args.out.now.items ++ miss_text c.args.number c.answer_line.new.plain.items c.behind_space-expected.result.now c.answer_line.new.answer.items =
     search rules in
     line_differs c.args.run.now c.answer_line.new.run c.args.number _ given c.answer_line.new.plain.items c.answer_line.new.answer.items
-    c.answer_line.new.expected.items c.behind_space-expected.result.now c.args.out.now.items c.put_miss.new.out.items
+    c.answer_line.new.expected.items c.behind_space-expected.result.now c.args.out.now.items c.put_miss.new.out.items c.in-Ok.last
     (ap (λ ws. map {A = Bor (List ℕ)} {B = List ℕ} (λ word. word.now) ws) c.as_slice-words.ensures.value)
     (subst (λ r. AnswersLine c.args.run.now c.args.number given c.answer_line.new.run c.answer_line.new.plain.items c.answer_line.new.answer.items
     c.answer_line.new.expected.items r) c.in-Ok.is c.answer_line.ensures) some shown differs told

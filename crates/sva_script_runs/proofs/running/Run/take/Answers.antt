@@ -8,8 +8,8 @@ use Rattle.sva_script_runs.specs.Runs.{Running, read_at}
 use Rattle.sva_script_runs.proofs.TakeLemmas.{line_taken}
 use Rattle.sva_script_runs.proofs.running.Run.take.Goals as goal
 
-pub returns-in-Ok : goal.returns-in-Ok
-returns-in-Ok c =
+pub returns-in-Ok-name : goal.returns-in-Ok-name
+returns-in-Ok-name c =
     let parts : Parts = parts_of (map {A = Bor (List ℕ)} {B = List ℕ} (λ word. word.now) c.args.words.now) in
     let reads : Reads (read_at c.args.self.now parts) c.read_line.new.plain.items c.read_line.new.expected.items (Ok (Some c.in-Ok-Some.step)) =
     subst (λ (run : Running). Reads (read_at run parts) c.read_line.new.plain.items c.read_line.new.expected.items (Ok (Some c.in-Ok-Some.step)))
@@ -18,5 +18,5 @@ returns-in-Ok c =
     c.read_line.new.expected.items (Ok found)) c.in-Ok-Some.field-0-is c.in-Ok-Some.ensures) in
     line_taken c.args.self.now c.apply.new.self c.name.new.self c.args.line parts
     (option_map (λ (name : Bor (List ℕ)). name.now) c.parts_of.result.name)
-    c.read_line.new.plain.items c.read_line.new.expected.items (read_at c.args.self.now parts) c.in-Ok-Some.step c.in-Ok.taken c.name.result reads
-    c.in-Ok.ensures c.parts_of.ensures.name c.name.ensures
+    c.read_line.new.plain.items c.read_line.new.expected.items (read_at c.args.self.now parts) c.in-Ok-Some.step c.in-Ok.taken reads
+    c.in-Ok.ensures c.parts_of.ensures.name c.in-Ok-name.ensures

@@ -2,10 +2,10 @@ use Rattle.std.proofs.Common.{◌≡◌, ◌∙◌, ◌+◌, List, ap, map, rule
 use denote.Ref.{Bor}
 use Rattle.sva_script.proofs.WordLemmas.{on_ok_by}
 use Rattle.sva_script.specs.Lines.{script_words}
-use Rattle.sva_script_reports.specs.Traces.{Tracer}
+use Rattle.sva_script_traces.specs.Traces.{Tracer}
 use Rattle.sva_script_reading.proofs.BeginLemmas.{some_words}
-use Rattle.sva_script_reports.proofs.TraceLemmas.{line_told}
-use Rattle.sva_script_reports.proofs.tracing.Tracer.take_line.Goals as goal
+use Rattle.sva_script_traces.proofs.TraceLemmas.{line_told}
+use Rattle.sva_script_traces.proofs.tracing.Tracer.take_line.Goals as goal
 
 pub returns : goal.returns
 returns c =

@@ -4,8 +4,8 @@ use Rattle.sva_grammar.specs.Grammar.{config_read}
 use Rattle.sva_script.proofs.WordLemmas.{on_ok_by}
 use Rattle.sva_script_reading.specs.Reading.{ReadsConfig}
 use Rattle.sva_script_reading.specs.Begins.{config_by, joined_words}
-use Rattle.sva_script_reports.proofs.RowLemmas.{config_opened, config_refused}
-use Rattle.sva_script_reports.proofs.tracing.Tracer.take_config.Goals as goal
+use Rattle.sva_script_traces.proofs.RowLemmas.{config_opened, config_refused}
+use Rattle.sva_script_traces.proofs.tracing.Tracer.take_config.Goals as goal
 
 pub returns-in-Ok : goal.returns-in-Ok
 returns-in-Ok c =

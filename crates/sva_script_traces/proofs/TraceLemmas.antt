@@ -1,6 +1,6 @@
 -- A trace, line by line and piece by piece.
 use Rattle.std.proofs.Common.{◌≡◌, ◌∙◌, ap, refl, subst, sym, arith, ℕ, suc, ◌+◌, ◌<◌, ◌==◌, Bool, true, false, ◌||◌, cond, List, [], ◌∷◌, ◌++◌, append-nil, append_assoc}
-use Rattle.std.proofs.Common.{length, ltb, not, rules, take, drop, Some, None, ◌≤◌}
+use Rattle.std.proofs.Common.{length, ltb, not, take, drop, Some, None, ◌≤◌}
 use Rattle.std.specs.List.{enumerate_from, list_any, position, prefix_len}
 use Rattle.std.proofs.lemmas.List.{length-append}
 use Rattle.std.proofs.lemmas.List.Folds.{list_any-append}
@@ -11,11 +11,11 @@ use Rattle.sva_grammar.proofs.LineLemmas.{lines_of-first, lines_of-last}
 use Rattle.sva_grammar.proofs.PlaceLemmas.{not_found}
 use Rattle.sva_script.proofs.ItemLemmas.{found_at}
 use Rattle.sva_script.specs.Lines.{script_words}
-use Rattle.sva_script_reports.specs.declared.rows.Columns.{Columns}
+use Rattle.sva_script_traces.specs.declared.rows.Columns.{Columns}
 use Rattle.sva_script_reading.specs.Said.{Said}
 use Rattle.sva_script_reading.specs.Begins.{lines_from}
-use Rattle.sva_script_reports.specs.Traces.{NoEnd, Traced, Tracer, Traces, TracesLine, Tracing, end_of, end_outcome, end_said, then_said}
-use Rattle.sva_script_reports.specs.Traces.{trace_from, trace_line, trace_more, trace_rest, trace_words}
+use Rattle.sva_script_traces.specs.Traces.{NoEnd, Traced, Tracer, Traces, TracesLine, Tracing, end_of, end_outcome, end_said, then_said}
+use Rattle.sva_script_traces.specs.Traces.{trace_from, trace_line, trace_more, trace_rest, trace_words}
 
 -- ---- Lines
 

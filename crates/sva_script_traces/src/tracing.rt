@@ -5,10 +5,10 @@ ghost use Rattle.std.specs.Io.KnownBytes.{IsAtEnd};
 ghost use Rattle.sva_scenario.specs.declared.reading.TheConstants.{MOST_TURNS};
 ghost use Rattle.sva_grammar.specs.Grammar.{config_read};
 ghost use Rattle.sva_scenario.specs.Streams.{IsNew, Tells, Writes};
-ghost use Rattle.sva_script_reports.specs.Prints.{Prints};
+ghost use Rattle.sva_script_reading.specs.Said.{Prints};
 ghost use Rattle.sva_script_reading.specs.Begins.{config_by, joined_words};
-ghost use Rattle.sva_script_reports.specs.Traces.{NoEnd, Traces, TracesLine, TracesPiece, end_of, end_outcome, fresh, trace_config, trace_of};
-ghost use Rattle.sva_script_reports.specs.Traces.{trace_rest, trace_words};
+ghost use Rattle.sva_script_traces.specs.Traces.{NoEnd, Traces, TracesLine, TracesPiece, end_of, end_outcome, fresh, trace_config, trace_of};
+ghost use Rattle.sva_script_traces.specs.Traces.{trace_rest, trace_words};
 
 use crate::rows::{Columns, put_end, put_row};
 use std::alloc::{AllocError, Global};
@@ -35,7 +35,7 @@ struct Tracer {
 }
 
 impl Model for Tracer {
-    ghost use Rattle.sva_script_reports.specs.Traces.{Tracer as TracerSeen};
+    ghost use Rattle.sva_script_traces.specs.Traces.{Tracer as TracerSeen};
 
     ghost Value = { TracerSeen };
 
@@ -68,30 +68,7 @@ pub fn trace<R: Read, W: Write>(
     ensures turns { reader.new.calls ≤ MOST_TURNS }
 {
     let mut tracer = Tracer::new(alloc, columns);
-    let mut held: Vec<u8> = Vec::new(alloc);
-    let mut out: Vec<u8> = Vec::new(alloc);
-    let mut piece = [0u8; 4096];
-    for _turn in 0..MOST_TURNS {
-        let Some(count) = reader.read_once(&mut piece) else {
-            return Err(DriveFault::Read);
-        };
-        out.clear();
-        if count == 0 {
-            if tracer.take_end(alloc, &held, &mut out).is_err() {
-                return Err(DriveFault::Memory);
-            }
-            write_piece(writer, out.as_slice())?;
-            return Ok(tracer.outcome());
-        }
-        if tracer
-            .take_piece(alloc, &piece[..count], &mut held, &mut out)
-            .is_err()
-        {
-            return Err(DriveFault::Memory);
-        }
-        write_piece(writer, out.as_slice())?;
-    }
-    Err(DriveFault::Read)
+    tracer.run(alloc, reader, writer)
 }
 
 /// Writes the rows of a piece. Where the number of calls might not fit 64 bits any more, nothing is written: `Memory`.
@@ -119,6 +96,52 @@ impl Tracer {
             has_ended: false,
             has_faulted: false,
         }
+    }
+
+    /// Reads line by line, and writes the rows of each piece as they come.
+    fn run<R: Read, W: Write>(
+        &mut self,
+        alloc: Global,
+        reader: &mut Told<R>,
+        writer: &mut Told<W>,
+    ) -> Result<Outcome, DriveFault>
+        requires fresh { self.old ≡ record { columns = self.old.columns; lines = 0; tracing = fresh } }
+        requires reader { IsNew reader.old }
+        requires writer { IsNew writer.old }
+        ensures printed { IfSome (R.remaining reader.old.inner)
+            (λ input. Prints (trace_of self.old.columns input) (W.contents writer.old.inner) (W.contents writer.new.inner) result) }
+        ensures end { OnOk result ((reader.new.failures ≡ 0) × IsAtEnd (R.remaining reader.new.inner) × (writer.new.failures ≡ 0)) }
+        ensures read { result ≡ Err DriveFault.Read → (writer.new.failures ≡ 0)
+            × ((reader.new.failures ≡ 1) ⊎ ((reader.new.failures ≡ 0) × (reader.new.calls ≡ MOST_TURNS))) }
+        ensures write { result ≡ Err DriveFault.Write → (reader.new.failures ≡ 0) × (writer.new.failures ≡ 1) }
+        ensures memory { result ≡ Err DriveFault.Memory → (reader.new.failures ≡ 0) × (writer.new.failures ≡ 0) }
+        ensures asked { 0 < reader.new.calls }
+        ensures turns { reader.new.calls ≤ MOST_TURNS }
+    {
+        let mut held: Vec<u8> = Vec::new(alloc);
+        let mut out: Vec<u8> = Vec::new(alloc);
+        let mut piece = [0u8; 4096];
+        for _turn in 0..MOST_TURNS {
+            let Some(count) = reader.read_once(&mut piece) else {
+                return Err(DriveFault::Read);
+            };
+            out.clear();
+            if count == 0 {
+                if self.take_end(alloc, &held, &mut out).is_err() {
+                    return Err(DriveFault::Memory);
+                }
+                write_piece(writer, out.as_slice())?;
+                return Ok(self.outcome());
+            }
+            if self
+                .take_piece(alloc, &piece[..count], &mut held, &mut out)
+                .is_err()
+            {
+                return Err(DriveFault::Memory);
+            }
+            write_piece(writer, out.as_slice())?;
+        }
+        Err(DriveFault::Read)
     }
 
     /// How the trace ended.

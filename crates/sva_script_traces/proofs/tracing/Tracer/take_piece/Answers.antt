@@ -1,9 +1,9 @@
 use Rattle.std.proofs.Common.{◌≡◌, ◌∙◌, ◌+◌, ◌-◌, ◌++◌, [], arith, ap, drop, length, subst, sym, take}
 use Rattle.sva_script.proofs.ItemLemmas.{to_end}
-use Rattle.sva_script_reports.specs.Traces.{NoEnd, TracesLine}
+use Rattle.sva_script_traces.specs.Traces.{NoEnd, TracesLine}
 use Rattle.sva_script_reading.proofs.FaultLemmas.{on_ok_if}
-use Rattle.sva_script_reports.proofs.TraceLemmas.{TracedSoFar, cut_at, no_end-both, none_in, piece_line}
-use Rattle.sva_script_reports.proofs.tracing.Tracer.take_piece.Goals as goal
+use Rattle.sva_script_traces.proofs.TraceLemmas.{TracedSoFar, cut_at, no_end-both, none_in, piece_line}
+use Rattle.sva_script_traces.proofs.tracing.Tracer.take_piece.Goals as goal
 
 pub loop-end-preserved : goal.loop-end-preserved
 loop-end-preserved c =

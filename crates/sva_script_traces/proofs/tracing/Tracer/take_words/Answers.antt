@@ -3,9 +3,9 @@ use denote.Ref.{Bor}
 use Rattle.sva_script.proofs.WordLemmas.{on_ok_by}
 use Rattle.sva_script.specs.Lines.{parts_of}
 use Rattle.sva_script_runs.specs.Runs.{Takes}
-use Rattle.sva_script_reports.specs.Rows.{row_seen, row_text}
-use Rattle.sva_script_reports.proofs.RowLemmas.{row_told}
-use Rattle.sva_script_reports.proofs.tracing.Tracer.take_words.Goals as goal
+use Rattle.sva_script_traces.specs.Rows.{row_seen, row_text}
+use Rattle.sva_script_traces.proofs.RowLemmas.{row_told}
+use Rattle.sva_script_traces.proofs.tracing.Tracer.take_words.Goals as goal
 
 pub returns-in-Ok-Some : goal.returns-in-Ok-Some
 returns-in-Ok-Some c =

@@ -1,6 +1,6 @@
 use Rattle.std.proofs.Common.{◌+◌, ◌≤◌, length}
-use Rattle.sva_script_reports.proofs.TraceLemmas.{TracedSoFar}
-use Rattle.sva_script_reports.proofs.tracing.Tracer.take_piece.Given as goal
+use Rattle.sva_script_traces.proofs.TraceLemmas.{TracedSoFar}
+use Rattle.sva_script_traces.proofs.tracing.Tracer.take_piece.Given as goal
 
 -- what was said so far, and what is held and left of the piece
 abbrev pub invariant-loop-end : goal.invariant-loop-end

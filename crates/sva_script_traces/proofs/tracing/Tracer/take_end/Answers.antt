@@ -2,8 +2,8 @@ use Rattle.std.proofs.Common.{◌≡◌, ◌<◌, [], arith, length, rules}
 use Rattle.std.proofs.lemmas.Grind.{common_steps}
 use Rattle.sva_script.proofs.WordLemmas.{on_ok_by}
 use Rattle.sva_script_reading.proofs.FaultLemmas.{on_ok_all}
-use Rattle.sva_script_reports.proofs.TraceLemmas.{end_here, end_last, ends_here, ends_last, nothing_held}
-use Rattle.sva_script_reports.proofs.tracing.Tracer.take_end.Goals as goal
+use Rattle.sva_script_traces.proofs.TraceLemmas.{end_here, end_last, ends_here, ends_last, nothing_held}
+use Rattle.sva_script_traces.proofs.tracing.Tracer.take_end.Goals as goal
 
 pub returns-then-is_empty-clause-said : goal.returns-then-is_empty-clause-said
 returns-then-is_empty-clause-said c =

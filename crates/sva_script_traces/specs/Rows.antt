@@ -6,8 +6,8 @@ use Rattle.sva_step.specs.declared.steps.Step.TheVariants.{Deliver}
 use Rattle.sva_model.specs.Message.{Message}
 use Rattle.sva_scenario.specs.Report.{ended, reply_text}
 use Rattle.sva_script.specs.declared.given.Told.{Told}
-use Rattle.sva_script_reports.specs.declared.rows.Columns.{Columns}
-use Rattle.sva_script_reports.specs.declared.rows.Columns.TheVariants.{Padded, Tabbed}
+use Rattle.sva_script_traces.specs.declared.rows.Columns.{Columns}
+use Rattle.sva_script_traces.specs.declared.rows.Columns.TheVariants.{Padded, Tabbed}
 use Rattle.sva_parts_by_labels.specs.Flights.{kind_seen}
 use Rattle.sva_script_runs.specs.declared.running.Taken.{Taken}
 use Rattle.sva_script_runs.specs.Messages.{kind_word}

@@ -7,11 +7,11 @@ use Rattle.sva_scenario.specs.declared.streams.DriveFault.{DriveFault}
 use Rattle.sva_scenario.specs.declared.streams.Outcome.{Outcome}
 use Rattle.sva_scenario.specs.Streams.{AppendsPrefix}
 use Rattle.sva_scenario.proofs.StreamLemmas.{AppendsPrefix-after, AppendsPrefix-longer}
-use Rattle.sva_script_reports.specs.declared.rows.Columns.{Columns}
-use Rattle.sva_script_reports.specs.Prints.{Prints}
+use Rattle.sva_script_traces.specs.declared.rows.Columns.{Columns}
+use Rattle.sva_script_reading.specs.Said.{Prints}
 use Rattle.sva_script_reading.specs.Said.{Said}
-use Rattle.sva_script_reports.specs.Traces.{Tracer, TracesPiece, fresh, then_said, trace_of, trace_rest}
-use Rattle.sva_script_reports.proofs.TraceLemmas.{then_both}
+use Rattle.sva_script_traces.specs.Traces.{Tracer, TracesPiece, fresh, then_said, trace_of, trace_rest}
+use Rattle.sva_script_traces.proofs.TraceLemmas.{then_both}
 
 -- what holds of a call that didn't fail
 pub good : {A E P : Type 0} (result : Result A E) → is_err result ≡ false → OnOk result P → P

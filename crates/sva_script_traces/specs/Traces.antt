@@ -16,12 +16,12 @@ use Rattle.sva_script.specs.Lines.{parts_of, script_words}
 use Rattle.sva_script_runs.specs.Lines.{LineRead, Plain}
 use Rattle.sva_script_runs.specs.Messages.{link_of}
 use Rattle.sva_script_runs.specs.Runs.{Running, behind, delivered_by, read_at, sent_of, told_of}
-use Rattle.sva_script_reports.specs.declared.rows.Columns.{Columns}
+use Rattle.sva_script_traces.specs.declared.rows.Columns.{Columns}
 use Rattle.sva_script_reading.specs.Faults.{Fault, fault_text}
-use Rattle.sva_script_reports.specs.Rows.{Row, end_text, row_text}
+use Rattle.sva_script_traces.specs.Rows.{Row, end_text, row_text}
 use Rattle.sva_script_reading.specs.Said.{Said}
 use Rattle.sva_script_reading.specs.Begins.{Line, at_word, config_by, fault_of, joined_words, lines_from}
-use Rattle.sva_script_reports.specs.Scripts.{counts_at}
+use Rattle.sva_script_reading.specs.Begins.{counts_at}
 
 -- where a trace is: the run, once there is a config; may no line follow, and was one wrong?
 pub record Tracing : Type 0 where

@@ -16,8 +16,8 @@ use Rattle.sva_script_runs.specs.Lines.{LineRead, Plain, plain_text}
 use Rattle.sva_script_runs.specs.Runs.{IsTaken, Running, Takes, TakesRead, TellsStep, behind, read_at}
 use Rattle.sva_script_reading.specs.Faults.{Fault}
 use Rattle.sva_script_reading.specs.Reading.{ReadsConfig}
-use Rattle.sva_script_reports.specs.Rows.{row_seen, row_text}
-use Rattle.sva_script_reports.specs.Traces.{Traced, Tracer, Traces, Tracing, is_wrong, row_of, trace_config, trace_read, trace_step, trace_words}
+use Rattle.sva_script_traces.specs.Rows.{row_seen, row_text}
+use Rattle.sva_script_traces.specs.Traces.{Traced, Tracer, Traces, Tracing, is_wrong, row_of, trace_config, trace_read, trace_step, trace_words}
 use Rattle.sva_script.specs.declared.faults.Wanted.TheVariants as wanted
 use Rattle.sva_script_reading.specs.Begins.{at_word, fault_of}
 

@@ -1,0 +1,3 @@
+pub mod TraceLemmas
+pub mod RowLemmas
+pub mod InputLemmas

@@ -1,0 +1,8 @@
+//! The trace of a script: a row for each step, as it comes.
+#![tactic(auto)]
+
+mod rows;
+mod tracing;
+
+pub use rows::Columns;
+pub use tracing::trace;

@@ -1,2 +1,11 @@
 pub mod Written
+pub mod StepWords
+pub mod PlainWords
+pub mod ConfigWords
+pub mod AnswerTexts
+pub mod RowTexts
+pub mod StepLines
+pub mod Judging
+pub mod Following
+pub mod Beginning
 pub mod Replaying

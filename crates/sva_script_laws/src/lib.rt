@@ -1,10 +1,27 @@
-//! The laws of scripts: what a script's scenario is, and what its report has.
+//! The laws of scripts: what a script's scenario is, what its report has, and what tests and traces have of that.
 #![tactic(auto)]
 
 ghost use Rattle.sva_script_laws.specs.Replays.{ScriptsReplay};
+ghost use Rattle.sva_script_laws.specs.Tests.{NoneIsSkipped, TestsCompare, TestsPass};
+ghost use Rattle.sva_script_laws.specs.Traces.{TracesAnswer};
 
-/// The scenario of a script is one that a replay takes, and its report has, line by line, the answers with which the script's
-/// lines were resolved, and at its end the counts.
+/// The scenario of a script is one that a replay takes, and its report has, line by line, the answers with which the
+/// script's lines were resolved, and at its end the counts.
 pub fn scripts_replay()
     ensures { ScriptsReplay }
+{}
+
+/// Of a script that has a scenario, a test compares what its lines expect with the lines of that one's report, each at
+/// its own place. It passes exactly where all are met, and says how many these are; else it tells the first that isn't.
+/// No line that says what it expects is passed over.
+pub fn tests_compare()
+    ensures compares { TestsCompare }
+    ensures passes { TestsPass }
+    ensures all { NoneIsSkipped }
+{}
+
+/// Of a script that has a scenario, the trace has a row for each step of that, in order, with the answer that stands at
+/// its place in the report, and last the report's counts.
+pub fn traces_answer()
+    ensures { TracesAnswer }
 {}

@@ -1,0 +1,64 @@
+-- A row of a trace, as it is made of its step's answer and messages.
+use Rattle.std.proofs.Common.{◌≡◌, ◌∙◌, ap, append-nil, append_assoc, cond, refl, ℕ, ◌||◌, Bool, true, false, List, [], ◌∷◌, ◌++◌, codes, decimal, Option}
+use Rattle.std.proofs.Common.{Some, None}
+use Rattle.std.specs.Prelude.{is_some}
+use Rattle.sva_step.specs.declared.steps.Step.{Step}
+use Rattle.sva_step.specs.declared.steps.Step.TheVariants.{Deliver}
+use Rattle.sva_model.specs.Message.{Message}
+use Rattle.sva_scenario.specs.Report.{reply_text}
+use Rattle.sva_script_traces.specs.declared.rows.Columns.{Columns}
+use Rattle.sva_script_traces.specs.Rows.{Row, column, delivered_text, messages_text, row_text, sends, sent_text}
+use Rattle.sva_script_laws.specs.Traces.{LineRow, behind_step, line_text}
+
+-- what is told of its messages, where something is
+abbrev pub messages_by : (test : Bool) → Row → Option (List ℕ)
+messages_by true row = Some (messages_text row)
+messages_by false row = None
+
+abbrev pub row_made : (line : ℕ) → (plain : List ℕ) → Row → LineRow
+row_made line plain row = record {
+  line = line;
+  plain = plain;
+  answer = reply_text row.told.reply;
+  messages = messages_by (is_some row.delivered || sends row.told) row;
+}
+
+neither : (a b : Bool) → (a || b) ≡ false → (a ≡ false) × (b ≡ false)
+neither true b is = absurd (cc is)
+neither false b is = (refl, is)
+
+is_none : (delivered : Option Message) → is_some delivered ≡ false → delivered ≡ None
+is_none None is = refl
+is_none (Some kind) is = absurd (cc is)
+
+no_delivery : (step : Step) (behind : List ℕ) → delivered_text step None behind ≡ []
+no_delivery (Deliver message) behind = refl
+no_delivery step behind = refl
+
+-- where no message was delivered or sent, nothing is told
+no_messages : (row : Row) → (is_some row.delivered || sends row.told) ≡ false → messages_text row ≡ []
+no_messages row none =
+    let parts = neither (is_some row.delivered) (sends row.told) none in
+    (λ i. delivered_text row.step (is_none row.delivered parts.0 i) (cond (parts.1 i) (codes ", ") [])
+    ++ cond (parts.1 i) (sent_text row.told row.first_sent) [])
+    ∙ ap (λ l. l ++ []) (no_delivery row.step [])
+
+pub row_is : (columns : Columns) (line : ℕ) (plain : List ℕ) (row : Row) → row_text columns line plain row ≡ line_text columns (row_made line plain row)
+row_is columns line plain row = by_test (is_some row.delivered || sends row.told) refl
+  where
+    front : List ℕ
+    front = column columns 5 (decimal line) ++ column columns 27 plain
+
+    answer : List ℕ
+    answer = reply_text row.told.reply
+
+    by_test : (test : Bool) → (is_some row.delivered || sends row.told) ≡ test
+        → front ++ cond test (column columns 23 answer) answer ++ messages_text row ++ 10 ∷ []
+        ≡ front ++ (behind_step columns answer (messages_by test row) ++ 10 ∷ [])
+    by_test true some =
+        ap (λ l. l ++ 10 ∷ []) (append_assoc front (column columns 23 answer) (messages_text row))
+        ∙ append_assoc front (column columns 23 answer ++ messages_text row) (10 ∷ [])
+    by_test false none =
+        ap (λ messages. front ++ answer ++ messages ++ 10 ∷ []) (no_messages row none)
+        ∙ ap (λ l. l ++ 10 ∷ []) (append-nil (front ++ answer))
+        ∙ append_assoc front answer (10 ∷ [])

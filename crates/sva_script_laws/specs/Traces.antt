@@ -1,0 +1,54 @@
+-- A trace has the answers of the report.
+use Rattle.std.specs.Prelude.{◌≡◌, ℕ, List, [], ◌∷◌, ◌++◌, codes, decimal, flat_map, map, Option, Some, None}
+use Rattle.sva_grammar.specs.Grammar.{lines_of, said_lines}
+use Rattle.sva_scenario.specs.Report.{ended, report_of}
+use Rattle.sva_script_reading.specs.Said.{well}
+use Rattle.sva_script_reports.specs.Scripts.{plain_of}
+use Rattle.sva_script_traces.specs.declared.rows.Columns.{Columns}
+use Rattle.sva_script_traces.specs.Rows.{column}
+use Rattle.sva_script_traces.specs.Traces.{trace_of}
+
+-- a row of a trace: the number of its line, the step as a line of the scenario, its answer, and what is told of
+-- messages, where something is
+pub record LineRow : Type 0 where
+  pub line : ℕ
+  pub plain : List ℕ
+  pub answer : List ℕ
+  pub messages : Option (List ℕ)
+
+-- the answer; where messages are told behind it, it is a column
+abbrev pub behind_step : Columns → (answer : List ℕ) → Option (List ℕ) → List ℕ
+behind_step columns answer None = answer
+behind_step columns answer (Some messages) = column columns 23 answer ++ messages
+
+-- the row of a step, and that of the end
+abbrev pub line_text : Columns → LineRow → List ℕ
+line_text columns it =
+    column columns 5 (decimal it.line) ++ column columns 27 it.plain
+    ++ ended (behind_step columns it.answer it.messages)
+
+abbrev pub last_text : Columns → (counts : List ℕ) → List ℕ
+last_text columns counts = column columns 5 [] ++ column columns 27 (codes "end") ++ ended counts
+
+-- a trace that has these rows, and these counts at its end
+abbrev pub rows_text : Columns → List LineRow → (counts : List ℕ) → List ℕ
+rows_text columns rows counts = flat_map (λ it. line_text columns it) rows ++ last_text columns counts
+
+-- a report whose lines are the answers of these rows, and last these counts
+abbrev pub rows_report : List LineRow → (counts : List ℕ) → List ℕ
+rows_report rows counts = flat_map (λ (it : LineRow). ended it.answer) rows ++ ended counts
+
+-- the lines of these that say something, the first of which bears this number
+abbrev pub said_texts : (first : ℕ) → List (List ℕ) → List (List ℕ)
+said_texts first lines = map (λ line. line.1) (said_lines first lines)
+
+-- Where a script has a scenario, its trace is made of rows, whatever its columns: one of each line of the scenario
+-- behind the config that says something, with the answer that stands at its place in the report. Last both have the
+-- same counts.
+abbrev pub TracesAnswer : Type 0
+TracesAnswer =
+    (text plain : List ℕ) → plain_of text ≡ well plain
+    → (config : List ℕ) × (rows : List LineRow) × (counts : List ℕ)
+    × (said_texts 1 (lines_of plain) ≡ config ∷ map (λ (it : LineRow). it.plain) rows)
+    × ((columns : Columns) → trace_of columns text ≡ well (rows_text columns rows counts))
+    × (report_of plain ≡ rows_report rows counts)

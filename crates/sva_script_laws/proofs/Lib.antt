@@ -9,3 +9,6 @@ pub mod Judging
 pub mod Following
 pub mod Beginning
 pub mod Replaying
+pub mod LineTexts
+pub mod KeptLines
+pub mod Keeping

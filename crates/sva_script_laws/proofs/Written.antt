@@ -167,6 +167,11 @@ no_space byte line other =
     let within : nat_lt 0 (suc (length line)) ≡ true = grind (arith, nat_tests) in
     rw other (ap (λ t. option_map_or (λ first. drop first (byte ∷ line)) (cond t (Some 0) None) []) within)
 
+-- a line that is skipped is all comment
+pub comment_kept : (line : List ℕ) → is_skipped line ≡ true → comment_of line ≡ line
+comment_kept [] is = refl
+comment_kept (byte ∷ line) is = let same : byte ≡ 35 = search rules in no_space byte line (ap (λ b. b == 32) same)
+
 -- where a line says nothing, its comment is skipped
 pub silent : (line : List ℕ) → script_words line ≡ [] → is_skipped (comment_of line) ≡ true
 unfolding said

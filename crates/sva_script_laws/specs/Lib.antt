@@ -1,3 +1,4 @@
 pub mod Replays
 pub mod Traces
 pub mod Tests
+pub mod Plains

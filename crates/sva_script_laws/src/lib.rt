@@ -1,6 +1,7 @@
 //! The laws of scripts: what a script's scenario is, what its report has, and what tests and traces have of that.
 #![tactic(auto)]
 
+ghost use Rattle.sva_script_laws.specs.Plains.{PlainsAreSame, PlainsStay, ScenariosArePlain, UnfitIsTold};
 ghost use Rattle.sva_script_laws.specs.Replays.{ScriptsReplay};
 ghost use Rattle.sva_script_laws.specs.Tests.{NoneIsSkipped, TestsCompare, TestsPass};
 ghost use Rattle.sva_script_laws.specs.Traces.{TracesAnswer};
@@ -9,6 +10,16 @@ ghost use Rattle.sva_script_laws.specs.Traces.{TracesAnswer};
 /// script's lines were resolved, and at its end the counts.
 pub fn scripts_replay()
     ensures { ScriptsReplay }
+{}
+
+/// A scenario that a replay runs, read as a script, is its own plain scenario, byte for byte; only an LF that its last
+/// line lacks is put there, unless that makes it too large. It is the same scenario, with the same report. The plain
+/// scenario of any script is its own. Where the config is out of its limits, what the report says is said in its place.
+pub fn scenarios_are_plain()
+    ensures bytes { ScenariosArePlain }
+    ensures same { PlainsAreSame }
+    ensures again { PlainsStay }
+    ensures unfit { UnfitIsTold }
 {}
 
 /// Of a script that has a scenario, a test compares what its lines expect with the lines of that one's report, each at

@@ -11,7 +11,7 @@ use Rattle.sva_labels.specs.Causes.{numbers_spent}
 use Rattle.sva_labels.specs.Host.{Decision, checked, decide_of}
 use Rattle.sva_labels.specs.Moves.{Move, moved, sent, with_device}
 use Rattle.sva_labels.specs.Outcomes as outcomes
-use Rattle.sva_labels.specs.Outcomes.{by_one, label, result_of}
+use Rattle.sva_labels.specs.Outcomes.{by_one}
 use Rattle.sva_msg.specs.declared.messages.Kind.{Kind}
 use Rattle.sva_msg.specs.Bag.{InFlight}
 use Rattle.sva_endpoint.specs.Tables.{Tables}

@@ -1,7 +1,7 @@
 -- The plan of an unmapping, unit by unit.
-use Rattle.std.proofs.Common.{◌≡◌, ◌≢◌, ◌⊎◌, inl, inr, refl, ap, sym, subst, ◌∙◌, ℕ, ◌+◌, ◌<◌, ◌≤◌, ◌^◌, Bool, true, false, arith}
+use Rattle.std.proofs.Common.{◌≡◌, ◌≢◌, ◌⊎◌, inl, inr, refl, ap, sym, subst, ◌∙◌, ℕ, suc, ◌+◌, ◌<◌, ◌≤◌, Bool, true, false, arith}
 use Rattle.std.specs.Prelude.{◌&&◌, not, if◌then◌else◌, nat_lt, Option, Some, None, option_map, List, [], ◌∷◌, length, slice_get, slice_set}
-use Rattle.std.specs.Prelude.{slice_index_or, Ok, Err}
+use Rattle.std.specs.Prelude.{slice_index_or, Err}
 use Rattle.std.proofs.lemmas.List.{length-map, map-set}
 use Rattle.std.proofs.lemmas.Option.{slice_get-get_or}
 use Rattle.std.proofs.Math.ListN.{get_or-map}
@@ -9,7 +9,7 @@ use Rattle.std.proofs.lemmas.Bool.Decides.{nat_tests}
 use Rattle.sva_step.specs.declared.refusals.Refusal.TheVariants as refusal
 use Rattle.sva_frames.specs.declared.waits.Target.{Target}
 use Rattle.sva_model.specs.Words.{tabulate, any_below, count_below}
-use Rattle.sva_model.specs.Wire.{Wire, BindingWire, TargetWire, UnitWire}
+use Rattle.sva_model.specs.Wire.{Wire, TargetWire}
 use Rattle.sva_labels.specs.Finding.{submits, submits_by, is_before_invalidating, has_room, unit_of, bound_at}
 use Rattle.sva_labels.specs.Causes.{lacks, waits_needed}
 use Rattle.sva_labels.specs.Moves.{target_by, target_by_stage, cookie_at, pasid_or_0}
@@ -21,12 +21,12 @@ use Rattle.sva_address_spaces.specs.Pieces.{verdict}
 use Rattle.sva_address_spaces.specs.Seen.{target_seen, targets_seen}
 use Rattle.sva_pasid.specs.declared.places.TableEntry.{TableEntry}
 use Rattle.sva_pasid.specs.Places.{place_between}
-use Rattle.sva_parts_by_labels.specs.Bindings.{binding_seen, stage_or_quiet}
+use Rattle.sva_parts_by_labels.specs.Bindings.{stage_or_quiet}
 use Rattle.sva_host_state.specs.declared.host_state.HostState.TheInside.{Inside as HostState}
 use Rattle.sva_host_state.specs.declared.host_state.Port.{Port}
 use Rattle.sva_host_state.specs.declared.unmapping.Plan.{Plan}
 use Rattle.sva_host_state.specs.Inner.{wire_of}
-use Rattle.sva_host_state.specs.Unmapping.{pasid_at, target_at, lacks_room, of_first, IsPlanned, IsPlan, unit_causes, Plans}
+use Rattle.sva_host_state.specs.Unmapping.{pasid_at, target_at, lacks_room, of_first, IsPlanned, IsPlan, Plans}
 use Rattle.sva_host_state.proofs.TakenOut.{any_none, any_next, counted_none, counted_there, counted_off, unit_there, bound_there}
 
 -- A table of the first so many units.
@@ -145,11 +145,10 @@ submits_there host v e n slice d p a b view within same found opened before =
 
 -- The plan.
 
-pub starts : (w : Wire) (n d : ℕ) (plan : Plan) → plan.space ≡ n → plan.pasids ≡ nothing → plan.waits ≡ nothing → plan.cookies ≡ 0
+pub starts : (w : Wire) (n d : ℕ) (plan : Plan) → plan.pasids ≡ nothing → plan.waits ≡ nothing → plan.cookies ≡ 0
     → IsPlanned w n d 0 plan
-starts w n d plan of pasids waits cookies =
+starts w n d plan pasids waits cookies =
     record {
-      of_space = of;
       pasids = pasids ∙ none_first (pasid_at w n);
       waits = ap targets_seen waits ∙ none_first (target_at w n);
       cookies = cookies ∙ counted_none (submits w n);
@@ -177,7 +176,6 @@ pub unbound : (w : Wire) (n d e : ℕ) (plan : Plan) → IsPlanned w n d e plan 
 unbound w n d e plan is none =
     let off : submits w n e ≡ false = ap (submits_by (unit_of w e)) none in
     record {
-      of_space = is.of_space;
       pasids = same_first (pasid_at w n) e plan.pasids is.pasids (pasid_off w n e off);
       waits = same_first (target_at w n) e (targets_seen plan.waits) is.waits (ap (target_by (unit_of w e) (cookie_at w n e)) none);
       cookies = is.cookies ∙ sym (counted_off e (submits w n) off);
@@ -186,7 +184,6 @@ unbound w n d e plan is none =
 
 -- What the frames wait for there is noted, and nothing else.
 pub record IsNoted (w : Wire) (n e : ℕ) (plan after : Plan) : Type 0 where
-  pub space : after.space ≡ plan.space
   pub pasids : after.pasids ≡ plan.pasids
   pub waits : targets_seen after.waits ≡ of_first (e + 1) (target_at w n)
   pub cookies : after.cookies ≡ plan.cookies
@@ -195,7 +192,6 @@ pub awaits : (w : Wire) (n e : ℕ) (plan after : Plan) (t : Target) (waits : Li
     → Some (target_seen t) ≡ target_at w n e → after ≡ record plan { waits = waits } → waits ≡ slice_set plan.waits e (Some t) → IsNoted w n e plan after
 awaits w n e plan after t waits before is changed pushed =
     record {
-      space = ap (λ (p : Plan). p.space) changed;
       pasids = ap (λ (p : Plan). p.pasids) changed;
       waits =
           more_first (target_at w n) e (Some (target_seen t)) (targets_seen plan.waits) (targets_seen after.waits) before is
@@ -207,7 +203,6 @@ pub awaits_nothing : (w : Wire) (n e : ℕ) (plan after : Plan) → targets_seen
     → after ≡ plan → IsNoted w n e plan after
 awaits_nothing w n e plan after before none same =
     record {
-      space = ap (λ (p : Plan). p.space) same;
       pasids = ap (λ (p : Plan). p.pasids) same;
       waits = ap (λ (p : Plan). targets_seen p.waits) same ∙ same_first (target_at w n) e (targets_seen plan.waits) before (sym none);
       cookies = ap (λ (p : Plan). p.cookies) same;
@@ -220,7 +215,6 @@ pub asks : (w : Wire) (n d e t : ℕ) (plan noted after : Plan) → IsPlanned w 
     → IsPlanned w n d (e + 1) after
 asks w n d e t plan noted after is note gets room bearer changed =
     record {
-      of_space = ap (λ (p : Plan). p.space) changed ∙ note.space ∙ is.of_space;
       pasids =
           more_first (pasid_at w n) e (Some t) plan.pasids after.pasids is.pasids (ap Some bearer ∙ sym (pasid_there w n e gets))
           (ap (λ (p : Plan). p.pasids) changed ∙ ap (λ l. slice_set l e (Some t)) note.pasids);
@@ -234,7 +228,6 @@ pub asks_not : (w : Wire) (n d e : ℕ) (plan noted after : Plan) → IsPlanned 
     → after ≡ noted → IsPlanned w n d (e + 1) after
 asks_not w n d e plan noted after is note off same =
     record {
-      of_space = ap (λ (p : Plan). p.space) same ∙ note.space ∙ is.of_space;
       pasids = ap (λ (p : Plan). p.pasids) same ∙ note.pasids ∙ same_first (pasid_at w n) e plan.pasids is.pasids (pasid_off w n e off);
       waits = ap (λ (p : Plan). targets_seen p.waits) same ∙ note.waits;
       cookies = ap (λ (p : Plan). p.cookies) same ∙ note.cookies ∙ is.cookies ∙ sym (counted_off e (submits w n) off);
@@ -252,7 +245,6 @@ no_room w n d e within gets full =
     by_room (any_below (length w.parts) (lacks_room w n d)) (lacks w.next_cookie (waits_needed w n))
     (any_below-intro (length w.parts) (lacks_room w n d) e within (first_alone (submits w n e) (has_room (unit_of w e) d) gets full))
 
--- it is that of the very space that it names
-pub plan_itself : (w : Wire) (n d k : ℕ) (plan : Plan) → d ≡ k → IsPlan w n d plan → IsPlan w plan.space k plan
-plan_itself w n d k plan same is =
-    subst (λ (m : ℕ). IsPlan w plan.space m plan) same (subst (λ (m : ℕ). IsPlan w m d plan) (sym is.of_space) is)
+-- a plan for so many descriptors and their wait
+pub plan_with_wait : (w : Wire) (n count : ℕ) (plan : Plan) → IsPlan w n (count + 1) plan → IsPlan w n (suc count) plan
+plan_with_wait w n count plan is = subst (λ (k : ℕ). IsPlan w n k plan) (omega arith) is

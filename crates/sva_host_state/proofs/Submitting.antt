@@ -1,12 +1,12 @@
 -- The units get their descriptors by a plan, one after another.
-use Rattle.std.proofs.Common.{◌≡◌, ◌≢◌, ◌⊎◌, inl, inr, refl, ap, sym, subst, ◌∙◌, ℕ, suc, ◌+◌, ◌<◌, ◌≤◌, ◌^◌, Bool, true, false, arith}
-use Rattle.std.specs.Prelude.{if◌then◌else◌, ◌&&◌, not, nat_lt, Ok, Option, Some, None, List, [], ◌∷◌, map, length, slice_set, slice_index_or}
+use Rattle.std.proofs.Common.{◌≡◌, ◌≢◌, ◌⊎◌, inl, inr, refl, ap, sym, ◌∙◌, ℕ, ◌+◌, ◌<◌, ◌≤◌, Bool, true, false, arith}
+use Rattle.std.specs.Prelude.{if◌then◌else◌, nat_lt, Ok, Option, Some, None, List, [], ◌∷◌, map, length, slice_set, slice_index_or}
 use Rattle.std.proofs.lemmas.List.{length-map}
 use Rattle.std.proofs.lemmas.Bool.Decides.{nat_tests}
 use Rattle.sva_model.specs.Words.{tabulate, any_below, count_below}
-use Rattle.sva_model.specs.Wire.{Wire, BindingWire, EndpointWire, UnitWire}
+use Rattle.sva_model.specs.Wire.{Wire, BindingWire, UnitWire}
 use Rattle.sva_labels.specs.Finding.{submits, submits_by, is_before_invalidating, has_room, unit_of, part_of, bound_at, idle}
-use Rattle.sva_labels.specs.Moves.{part_unmapped, cookie_at, pasid_or_0, descriptors_for, with_descriptors, with_unit}
+use Rattle.sva_labels.specs.Moves.{part_unmapped, cookie_at, pasid_or_0, descriptors_for, with_descriptors}
 use Rattle.sva_labels.specs.Causes.{waits_needed}
 use Rattle.sva_lemmas.proofs.Tests.{first_holds, second_holds_too}
 use Rattle.sva_lemmas.proofs.Words.{ℕ_cases, any_below-false}

@@ -30,7 +30,6 @@ of_first units at = tabulate 8 (λ endpoint. if nat_lt endpoint units then at en
 
 -- The plan, as far as the first so many units were asked: each of these that gets descriptors has room for so many.
 pub record IsPlanned (world : Wire) (space descriptors units : ℕ) (plan : Plan) : Type 0 where
-  pub of_space : plan.space ≡ space
   pub pasids : plan.pasids ≡ of_first units (pasid_at world space)
   pub waits : targets_seen plan.waits ≡ of_first units (target_at world space)
   pub cookies : plan.cookies ≡ count_below units (submits world space)

@@ -1,6 +1,6 @@
 //! The plan of an unmapping: what each unit gets where pages are taken out of a space, and what the frames wait for there.
 
-ghost use Rattle.std.specs.Prelude.{◌≡◌, if◌then◌else◌, ◌+◌, ◌≤◌, ◌*◌, ◌%◌, ◌^◌, option_map, suc};
+ghost use Rattle.std.specs.Prelude.{ℕ, ◌≡◌, if◌then◌else◌, ◌+◌, ◌≤◌, ◌*◌, ◌%◌, ◌^◌, option_map, suc};
 ghost use Rattle.sva_model.specs.Wire.TargetWire.{Cookie as CookieTarget, ResetEnd as ResetTarget};
 ghost use Rattle.sva_labels.specs.Moves.{target_by_stage};
 ghost use Rattle.sva_address_spaces.specs.Seen.{target_seen};
@@ -50,8 +50,6 @@ fn target_of(unit: &RemappingUnit, stage: &Option<Stage>, cookie: u64) -> Option
 /// What an unmapping of pages of a space asks of the units, and what its frames wait for.
 #[derive(Drop)]
 pub struct Plan {
-    /// The number of the space.
-    pub space: u64,
     /// The PASID under which the unit of an endpoint gets descriptors, by the endpoint's number, if it gets some.
     pub pasids: [Option<u32>; MOST_ENDPOINTS],
     /// What the frames wait for, unit by unit.
@@ -68,7 +66,6 @@ impl Plan {
         ensures { Plans host.now space descriptors result }
     {
         let mut plan = Plan {
-            space,
             pasids: [None; MOST_ENDPOINTS],
             waits: Waits::new(),
             cookies: 0,
@@ -98,13 +95,14 @@ impl Plan {
     /// Each unit that is to get descriptors gets them: for `count` ranges of 2^`order` pages, one behind another from `page`
     /// on, and with the next cookie for its wait.
     pub fn submit(&self, host: &mut HostState, page: u64, count: u64, order: u8)
-        requires plan { IsPlan host.old self.now.space (suc count) self.now }
+        requires plan { (space : ℕ) × IsPlan host.old space (suc count) self.now }
         requires given { AreGiven host.old }
         requires cookies { host.old.next_cookie + self.now.cookies ≤ 2 ^ 63 }
         requires small { order ≤ 9 }
         requires aligned { page % 2 ^ order ≡ 0 }
         requires low { page + count * 2 ^ order ≤ 2 ^ 36 }
-        ensures { host.new ≡ submitted host.old self.now.space page count order }
+        ensures { (space : ℕ) → IsPlan host.old space (suc count) self.now
+            → host.new ≡ submitted host.old space page count order }
     {
         for endpoint in 0..host.ports.len() {
             if let Some(pasid) = self.pasids[endpoint] {

@@ -1,14 +1,13 @@
-use Rattle.std.proofs.Common.{ℕ, ◌+◌, ◌∙◌, ap, sym, suc, arith}
+use Rattle.std.proofs.Common.{◌+◌, ◌∙◌, ap, sym}
 use Rattle.sva_step.specs.declared.steps.Step.TheVariants as step
 use Rattle.std.specs.Prelude.{Ok}
 use Rattle.sva_model.specs.Wire.{Wire}
 use Rattle.sva_model.specs.Outcomes.{unmap_answer}
 use Rattle.sva_labels.specs.Finding.{frames_of, pages_in}
-use Rattle.sva_host_state.specs.Unmapping.{submitted}
 use Rattle.sva_host_state.proofs.Devices.{kept}
 use Rattle.sva_host_state.proofs.PagesOut.{unmap_other, units_other, unmap_refused, units_refuse, units_fit, cookies_left, at_least_one, room_for}
 use Rattle.sva_host_state.proofs.PagesOut.{unmap_ends, empty_if, awaited_if}
-use Rattle.sva_host_state.proofs.Planning.{plan_itself}
+use Rattle.sva_host_state.proofs.Planning.{plan_with_wait}
 use Rattle.sva_host_state.proofs.NeverForMemory.{not_for_memory}
 use Rattle.sva_host_spaces.proofs.unmapping.unmap.Goals as goal
 use Rattle.sva_host_spaces.proofs.unmapping.unmap.Goals.{then-is_empty, else-is_empty}
@@ -24,8 +23,7 @@ returns-in_err-plan-clause-step c =
     (units_refuse c.host.inside _ c.args.space c.args.page c.args.count _ c.host.view_is c.in_ok-may_unmap.ensures c.in_err-plan.ensures)
 
 pub submit-requires-clause-plan : goal.submit-requires-clause-plan
-submit-requires-clause-plan c = plan_itself c.args.host.now c.args.space (c.args.count + 1)
-    (suc c.args.count) c.in_ok-plan.plan (omega arith) c.in_ok-plan.ensures.0
+submit-requires-clause-plan c = (c.args.space, plan_with_wait c.args.host.now c.args.space c.args.count c.in_ok-plan.plan c.in_ok-plan.ensures.0)
 
 pub submit-requires-clause-cookies : goal.submit-requires-clause-cookies
 submit-requires-clause-cookies c =
@@ -36,13 +34,14 @@ unmap-frames-requires-clause-room c =
     room_for c.args.host.now c.args.space c.args.count c.host-2.inside.address_spaces.places _ c.requires
     (at_least_one c.host.inside.address_spaces c.args.space c.args.page c.args.count c.in_ok-may_unmap.ensures)
     (units_fit c.args.host.now c.args.space (c.args.count + 1) c.in_ok-plan.ensures.1)
-    (ap (λ (w : Wire). w.places) (c.host-2.view_is ∙ c.submit.ensures))
+    (ap (λ (w : Wire). w.places) (c.host-2.view_is ∙ c.submit.ensures c.args.space
+    (plan_with_wait c.args.host.now c.args.space c.args.count c.in_ok-plan.plan c.in_ok-plan.ensures.0)))
     c.in_ok-plan.ensures.0.waits
 
 pub returns-clause-step : goal.returns-clause-step
 returns-clause-step c =
-    let seen = c.host-2.view_is ∙ c.submit.ensures
-    ∙ ap (λ (n : ℕ). submitted c.args.host.now n c.args.page c.args.count 0) c.in_ok-plan.ensures.0.of_space in
+    let seen = c.host-2.view_is ∙ c.submit.ensures c.args.space
+    (plan_with_wait c.args.host.now c.args.space c.args.count c.in_ok-plan.plan c.in_ok-plan.ensures.0) in
     let frames = c.unmap-frames.ensures.frames ∙ ap (λ (w : Wire). frames_of (pages_in w c.args.space) c.args.page c.args.count) seen in
     unmap_ends c.host.inside c.host-2.inside c.args.host.now c.args.space c.args.page c.args.count c.in_ok-plan.plan.waits c.unmap-frames.new.self
     c.if-is_empty.result

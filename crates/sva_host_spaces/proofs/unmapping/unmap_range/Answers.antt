@@ -1,15 +1,13 @@
-use Rattle.std.proofs.Common.{ℕ, ◌∙◌, ap, sym, refl, ◌+◌, ◌^◌, arith}
+use Rattle.std.proofs.Common.{◌∙◌, ap, sym, ◌+◌, ◌^◌, arith}
 use Rattle.sva_step.specs.declared.steps.Step.TheVariants as step
 use Rattle.std.specs.Prelude.{Ok}
 use Rattle.sva_model.specs.Wire.{Wire}
 use Rattle.sva_model.specs.Outcomes.{unmap_range_answer}
 use Rattle.sva_labels.specs.Finding.{is_mapped, pages_in}
 use Rattle.sva_model.specs.Words.{count_below}
-use Rattle.sva_host_state.specs.Unmapping.{submitted}
 use Rattle.sva_host_state.proofs.Devices.{kept}
 use Rattle.sva_host_state.proofs.PagesOut.{range_other, units_other, range_refused, range_refuse, units_fit, cookies_left, room_for, range_ends}
 use Rattle.sva_host_state.proofs.PagesOut.{empty_if, awaited_if}
-use Rattle.sva_host_state.proofs.Planning.{plan_itself}
 use Rattle.sva_host_state.proofs.NeverForMemory.{not_for_memory}
 use Rattle.sva_host_spaces.proofs.unmapping.unmap_range.Goals as goal
 use Rattle.sva_host_spaces.proofs.unmapping.unmap_range.Goals.{then-is_empty, else-is_empty}
@@ -25,7 +23,7 @@ returns-in_err-plan-clause-step c =
     (range_refuse c.host.inside _ c.args.space c.args.page c.args.order _ c.host.view_is c.in_ok-may_unmap_range.ensures c.in_err-plan.ensures)
 
 pub submit-requires-clause-plan : goal.submit-requires-clause-plan
-submit-requires-clause-plan c = plan_itself c.args.host.now c.args.space 2 2 c.in_ok-plan.plan refl c.in_ok-plan.ensures.0
+submit-requires-clause-plan c = (c.args.space, c.in_ok-plan.ensures.0)
 
 pub submit-requires-clause-cookies : goal.submit-requires-clause-cookies
 submit-requires-clause-cookies c = cookies_left c.args.host.now c.args.space 2 c.in_ok-plan.plan c.in_ok-plan.ensures.0 c.in_ok-plan.ensures.1
@@ -33,13 +31,13 @@ submit-requires-clause-cookies c = cookies_left c.args.host.now c.args.space 2 c
 pub unmap_range-frames-requires-clause-room : goal.unmap_range-frames-requires-clause-room
 unmap_range-frames-requires-clause-room c =
     room_for c.args.host.now c.args.space 1 c.host-2.inside.address_spaces.places _ c.requires (omega arith)
-    (units_fit c.args.host.now c.args.space 2 c.in_ok-plan.ensures.1) (ap (λ (w : Wire). w.places) (c.host-2.view_is ∙ c.submit.ensures))
+    (units_fit c.args.host.now c.args.space 2 c.in_ok-plan.ensures.1)
+    (ap (λ (w : Wire). w.places) (c.host-2.view_is ∙ c.submit.ensures c.args.space c.in_ok-plan.ensures.0))
     c.in_ok-plan.ensures.0.waits
 
 pub returns-clause-step : goal.returns-clause-step
 returns-clause-step c =
-    let seen = c.host-2.view_is ∙ c.submit.ensures
-    ∙ ap (λ (n : ℕ). submitted c.args.host.now n c.args.page 1 c.args.order) c.in_ok-plan.ensures.0.of_space in
+    let seen = c.host-2.view_is ∙ c.submit.ensures c.args.space c.in_ok-plan.ensures.0 in
     let frames = c.unmap_range-frames.ensures.frames
     ∙ ap (λ (w : Wire). count_below (2 ^ c.args.order) (λ j. is_mapped (pages_in w c.args.space) (c.args.page + j))) seen in
     range_ends c.host.inside c.host-2.inside c.args.host.now c.args.space c.args.page c.args.order c.in_ok-plan.plan.waits

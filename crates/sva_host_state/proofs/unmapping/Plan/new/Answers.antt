@@ -1,7 +1,7 @@
-use Rattle.std.proofs.Common.{◌≡◌, ◌∙◌, ◌<◌, ℕ, true, false, ap, refl, sym, arith}
-use Rattle.std.specs.Prelude.{◌&&◌, None, Some, length, slice_index_or}
+use Rattle.std.proofs.Common.{◌≡◌, ◌∙◌, ◌<◌, ap, refl, sym, arith}
+use Rattle.std.specs.Prelude.{◌&&◌, None, Some, length}
 use Rattle.sva_model.specs.Wire.{Wire}
-use Rattle.sva_labels.specs.Finding.{has_room, submits, is_before_invalidating}
+use Rattle.sva_labels.specs.Finding.{has_room, is_before_invalidating}
 use Rattle.sva_labels.specs.Moves.{pasid_or_0}
 use Rattle.sva_lemmas.proofs.Tests.{and_no}
 use Rattle.sva_parts_by_labels.specs.Bindings.{stage_or_quiet}
@@ -16,7 +16,7 @@ use Rattle.sva_host_state.proofs.unmapping.Plan.new.Goals.{then-is_open+then-is_
 use Rattle.sva_host_state.proofs.unmapping.Plan.new.Goals.{else-is_open-via-then-is_open+else-is_before_invalidating, else-is_open-via-else-is_open}
 
 pub loop-endpoint-init : goal.loop-endpoint-init
-loop-endpoint-init c = starts c.args.host.now c.args.space c.args.descriptors _ refl refl c.new.ensures refl
+loop-endpoint-init c = starts c.args.host.now c.args.space c.args.descriptors _ refl c.new.ensures refl
 
 pub loop-endpoint-preserved-in_default : goal.loop-endpoint-preserved-in_default
 loop-endpoint-preserved-in_default c =

@@ -1,14 +1,13 @@
-use Rattle.std.proofs.Common.{◌≡◌, ◌∙◌, ◌+◌, ◌<◌, ◌≤◌, ◌^◌, ℕ, suc, ap, refl, sym, subst, arith}
-use Rattle.std.specs.Prelude.{List, length, slice_index_or, slice_set}
-use Rattle.std.specs.List.{refill}
+use Rattle.std.proofs.Common.{◌∙◌, ◌+◌, ◌<◌, ◌≤◌, ◌^◌, ℕ, suc, ap, refl, sym, subst, arith}
+use Rattle.std.specs.Prelude.{List, length, slice_index_or}
 use Rattle.sva_model.specs.Wire.{Wire, EndpointWire}
-use Rattle.sva_labels.specs.Causes.{waits_needed}
 use Rattle.sva_labels.specs.Finding.{has_room}
 use Rattle.sva_labels.specs.Moves.{descriptors_for, with_descriptors}
 use Rattle.sva_iommu.specs.Seen.{UnitSeen, with_unit}
 use Rattle.sva_host_state.specs.declared.host_state.HostState.TheInside.{Inside as HostState}
 use Rattle.sva_host_state.specs.declared.host_state.Port.{Port}
 use Rattle.sva_host_state.specs.Inner.{wire_of, AreStaged, IsHostState}
+use Rattle.sva_host_state.specs.Unmapping.{IsPlan}
 use Rattle.sva_host_state.proofs.TakenOut.{parts_seen}
 use Rattle.sva_host_state.proofs.Units.{unit_rewritten, with_unit_host}
 use Rattle.sva_host_state.proofs.Submitting.{room_there, given_there, cookie_low, planned_at, opened_there, asked_some, asked_none, none_yet, all_have}
@@ -18,14 +17,15 @@ use Rattle.sva_host_state.proofs.unmapping.Plan.submit.Goals.{in-Some, in_defaul
 
 pub loop-endpoint-init : goal.loop-endpoint-init
 loop-endpoint-init c = (
-  c.host.view_is ∙ none_yet c.args.host.now c.args.self.now.space c.args.page c.args.count c.args.order,
+  λ n plan. c.host.view_is ∙ none_yet c.args.host.now n c.args.page c.args.count c.args.order,
   c.host.invariant,
 )
 
 pub bounds-deref_mut-endpoint : goal.bounds-deref_mut-endpoint
 bounds-deref_mut-endpoint c =
-    let long = long_so_far c.loop-endpoint.host-inside c.args.host.now c.args.self.now.space c.args.page c.args.count c.args.order
-    c.loop-endpoint.endpoint c.loop-endpoint.invariant.0 in
+    let n = c.requires.plan.0 in
+    let long = long_so_far c.loop-endpoint.host-inside c.args.host.now n c.args.page c.args.count c.args.order
+    c.loop-endpoint.endpoint (c.loop-endpoint.invariant.0 n c.requires.plan.1) in
     let parts = parts_seen c.host.inside c.args.host.now c.host.view_is in
     let same = ap (λ (l : List Port). length l) c.deref_mut.ensures.value in
     omega arith
@@ -33,112 +33,123 @@ bounds-deref_mut-endpoint c =
 pub submit_ranges-requires-clause-opened : goal.submit_ranges-requires-clause-opened
 submit_ranges-requires-clause-opened c =
     let w = c.args.host.now in
-    let n = c.args.self.now.space in
+    let n = c.requires.plan.0 in
+    let plan = c.requires.plan.1 in
+    let is = c.loop-endpoint.invariant.0 n plan in
     let e = c.loop-endpoint.endpoint in
     let parts = parts_seen c.host.inside w c.host.view_is in
     let most = c.len-endpoint-end.ensures.fits in
     let there : e < length w.parts = omega arith in
     let at = port_now c.loop-endpoint.host-inside w n c.args.page c.args.count c.args.order e c.deref_mut.result.now c.index-deref_mut-endpoint.result
-    c.loop-endpoint.invariant.1 c.loop-endpoint.invariant.0 there c.deref_mut.ensures.value in
+    c.loop-endpoint.invariant.1 is there c.deref_mut.ensures.value in
     let asked = asked_some w n e c.in-Some.pasid (sym c.in-Some.is
-    ∙ planned_at w n (suc c.args.count) e _ c.args.self.now c.requires.plan there (omega arith)) in
+    ∙ planned_at w n (suc c.args.count) e _ c.args.self.now plan there (omega arith)) in
     ap (λ (p : EndpointWire). p.unit.is_open)
-    (part_now c.loop-endpoint.host-inside w n c.args.page c.args.count c.args.order e _ c.loop-endpoint.invariant.0 there at)
+    (part_now c.loop-endpoint.host-inside w n c.args.page c.args.count c.args.order e _ is there at)
     ∙ opened_there w n e asked.0
 
 pub submit_ranges-requires-clause-room : goal.submit_ranges-requires-clause-room
 submit_ranges-requires-clause-room c =
     let w = c.args.host.now in
-    let n = c.args.self.now.space in
+    let n = c.requires.plan.0 in
+    let plan = c.requires.plan.1 in
+    let is = c.loop-endpoint.invariant.0 n plan in
     let e = c.loop-endpoint.endpoint in
     let parts = parts_seen c.host.inside w c.host.view_is in
     let most = c.len-endpoint-end.ensures.fits in
     let there : e < length w.parts = omega arith in
     let at = port_now c.loop-endpoint.host-inside w n c.args.page c.args.count c.args.order e c.deref_mut.result.now c.index-deref_mut-endpoint.result
-    c.loop-endpoint.invariant.1 c.loop-endpoint.invariant.0 there c.deref_mut.ensures.value in
+    c.loop-endpoint.invariant.1 is there c.deref_mut.ensures.value in
     let asked = asked_some w n e c.in-Some.pasid (sym c.in-Some.is
-    ∙ planned_at w n (suc c.args.count) e _ c.args.self.now c.requires.plan there (omega arith)) in
+    ∙ planned_at w n (suc c.args.count) e _ c.args.self.now plan there (omega arith)) in
     ap (λ (p : EndpointWire). has_room p.unit (suc c.args.count))
-    (part_now c.loop-endpoint.host-inside w n c.args.page c.args.count c.args.order e _ c.loop-endpoint.invariant.0 there at)
-    ∙ room_there w n (suc c.args.count) e c.requires.plan.room there asked.0
+    (part_now c.loop-endpoint.host-inside w n c.args.page c.args.count c.args.order e _ is there at)
+    ∙ room_there w n (suc c.args.count) e plan.room there asked.0
 
 pub submit_ranges-requires-clause-later : goal.submit_ranges-requires-clause-later
 submit_ranges-requires-clause-later c =
     let w = c.args.host.now in
-    let n = c.args.self.now.space in
+    let n = c.requires.plan.0 in
+    let plan = c.requires.plan.1 in
+    let is = c.loop-endpoint.invariant.0 n plan in
     let e = c.loop-endpoint.endpoint in
     let parts = parts_seen c.host.inside w c.host.view_is in
     let there : e < length w.parts = omega arith in
     let at = port_now c.loop-endpoint.host-inside w n c.args.page c.args.count c.args.order e c.deref_mut.result.now c.index-deref_mut-endpoint.result
-    c.loop-endpoint.invariant.1 c.loop-endpoint.invariant.0 there c.deref_mut.ensures.value in
+    c.loop-endpoint.invariant.1 is there c.deref_mut.ensures.value in
     let low = given_there w n e c.requires.given there in
     let same = ap (λ (p : EndpointWire). p.unit.waits_end)
-    (part_now c.loop-endpoint.host-inside w n c.args.page c.args.count c.args.order e _ c.loop-endpoint.invariant.0 there at) in
-    let cookie = ap (λ (u : Wire). u.next_cookie) c.loop-endpoint.invariant.0 in
+    (part_now c.loop-endpoint.host-inside w n c.args.page c.args.count c.args.order e _ is there at) in
+    let cookie = ap (λ (u : Wire). u.next_cookie) is in
     omega arith
 
 pub submit_ranges-requires-clause-number : goal.submit_ranges-requires-clause-number
 submit_ranges-requires-clause-number c =
     let w = c.args.host.now in
-    let n = c.args.self.now.space in
+    let n = c.requires.plan.0 in
+    let plan = c.requires.plan.1 in
+    let is = c.loop-endpoint.invariant.0 n plan in
     let e = c.loop-endpoint.endpoint in
     let parts = parts_seen c.host.inside w c.host.view_is in
     let most = c.len-endpoint-end.ensures.fits in
     let there : e < length w.parts = omega arith in
     let asked = asked_some w n e c.in-Some.pasid (sym c.in-Some.is
-    ∙ planned_at w n (suc c.args.count) e _ c.args.self.now c.requires.plan there (omega arith)) in
-    let low = cookie_low w n e (2 ^ 63) (subst (λ (k : ℕ). w.next_cookie + k ≤ 2 ^ 63) c.requires.plan.cookies c.requires.cookies) there asked.0 in
-    let cookie = ap (λ (u : Wire). u.next_cookie) c.loop-endpoint.invariant.0 in
+    ∙ planned_at w n (suc c.args.count) e _ c.args.self.now plan there (omega arith)) in
+    let low = cookie_low w n e (2 ^ 63) (subst (λ (k : ℕ). w.next_cookie + k ≤ 2 ^ 63) plan.cookies c.requires.cookies) there asked.0 in
+    let cookie = ap (λ (u : Wire). u.next_cookie) is in
     omega arith
 
 pub overflow_add-host : goal.overflow_add-host
 overflow_add-host c =
     let w = c.args.host.now in
-    let n = c.args.self.now.space in
+    let n = c.requires.plan.0 in
+    let plan = c.requires.plan.1 in
+    let is = c.loop-endpoint.invariant.0 n plan in
     let e = c.loop-endpoint.endpoint in
     let parts = parts_seen c.host.inside w c.host.view_is in
     let most = c.len-endpoint-end.ensures.fits in
     let there : e < length w.parts = omega arith in
     let asked = asked_some w n e c.in-Some.pasid (sym c.in-Some.is
-    ∙ planned_at w n (suc c.args.count) e _ c.args.self.now c.requires.plan there (omega arith)) in
-    let low = cookie_low w n e (2 ^ 63) (subst (λ (k : ℕ). w.next_cookie + k ≤ 2 ^ 63) c.requires.plan.cookies c.requires.cookies) there asked.0 in
-    let cookie = ap (λ (u : Wire). u.next_cookie) c.loop-endpoint.invariant.0 in
+    ∙ planned_at w n (suc c.args.count) e _ c.args.self.now plan there (omega arith)) in
+    let low = cookie_low w n e (2 ^ 63) (subst (λ (k : ℕ). w.next_cookie + k ≤ 2 ^ 63) plan.cookies c.requires.cookies) there asked.0 in
+    let cookie = ap (λ (u : Wire). u.next_cookie) is in
     omega arith
 
 pub loop-endpoint-preserved : goal.loop-endpoint-preserved
 loop-endpoint-preserved c =
     let w = c.args.host.now in
-    let n = c.args.self.now.space in
+    let n = c.requires.plan.0 in
+    let so_far = c.loop-endpoint.invariant.0 n c.requires.plan.1 in
     let e = c.loop-endpoint.endpoint in
     let host = c.loop-endpoint.host-inside in
     let is = c.loop-endpoint.invariant in
     let parts = parts_seen c.host.inside w c.host.view_is in
     let most = c.len-endpoint-end.ensures.fits in
     let there : e < length w.parts = omega arith in
-    let for = port_for host w n c.args.page c.args.count c.args.order e is.0 there in
+    let for = port_for host w n c.args.page c.args.count c.args.order e so_far there in
     elim c.match-self-endpoint.branch [
       | in-Some x ↦
           let slice = x.deref_mut.result.now in
           let port : Port = slice_index_or slice e x.index-deref_mut-endpoint.result in
-          let at = port_now host w n c.args.page c.args.count c.args.order e slice x.index-deref_mut-endpoint.result is.1 is.0 there
+          let at = port_now host w n c.args.page c.args.count c.args.order e slice x.index-deref_mut-endpoint.result is.1 so_far there
           x.deref_mut.ensures.value in
-          let asked = asked_some w n e x.in-Some.pasid (sym x.in-Some.is
-          ∙ planned_at w n (suc c.args.count) e _ c.args.self.now c.requires.plan there (omega arith)) in
+          let asked = λ (m : ℕ) (of : IsPlan w m (suc c.args.count) c.args.self.now). asked_some w m e x.in-Some.pasid (sym x.in-Some.is
+          ∙ planned_at w m (suc c.args.count) e _ c.args.self.now of there (omega arith)) in
           let after : UnitSeen → UnitSeen = λ (u : UnitSeen).
           with_unit u (with_descriptors u.unit (descriptors_for x.in-Some.pasid c.args.page c.args.count c.args.order host.next_cookie) host.next_cookie) in
           let rewritten = unit_rewritten host (wire_of host) e e slice slice x.index-deref_mut-endpoint.result x.index-deref_mut-endpoint.result
           x.submit_ranges.new.self after refl for x.deref_mut.ensures.value x.deref_mut.ensures.value x.submit_ranges.ensures in (
-            ap wire_of x.host-inside-is
+            λ m of. ap wire_of x.host-inside-is
                 ∙ ap (λ (items : List Port). wire_of (record host { ports = record { items = items }; next_cookie = host.next_cookie + 1 })) rewritten
-                ∙ gets host w n c.args.page c.args.count c.args.order e x.in-Some.pasid port is.0 there at asked.0 asked.1,
+                ∙ gets host w m c.args.page c.args.count c.args.order e x.in-Some.pasid port (is.0 m of) there at (asked m of).0 (asked m of).1,
             with_unit_host host c.match-self-endpoint.host-inside e port (after port.unit) is.1 at.sound
                 (ap (λ (h : HostState). h.ports.items) x.host-inside-is ∙ rewritten)
                 (subst (λ (h : HostState). AreStaged h.bindings) (sym x.host-inside-is) is.1.staged),
           )
       | in_default x ↦ (
-        ap wire_of x.host-inside-is ∙ is.0
-            ∙ gets_none w n c.args.page c.args.count c.args.order e (asked_none w n e (sym x.in_default.is
-            ∙ planned_at w n (suc c.args.count) e _ c.args.self.now c.requires.plan there (omega arith))),
+        λ m of. ap wire_of x.host-inside-is ∙ is.0 m of
+            ∙ gets_none w m c.args.page c.args.count c.args.order e (asked_none w m e (sym x.in_default.is
+            ∙ planned_at w m (suc c.args.count) e _ c.args.self.now of there (omega arith))),
         subst IsHostState (sym x.host-inside-is) is.1,
       )
     ]
@@ -148,5 +159,5 @@ returns c =
     let last = c.loop-endpoint-test.false in
     let most = c.loop-endpoint.auto.endpoint-end in
     let parts = parts_seen c.host.inside c.args.host.now c.host.view_is in
-    c.loop-endpoint.invariant.0
-    ∙ all_have c.args.host.now c.args.self.now.space c.args.page c.args.count c.args.order c.loop-endpoint.endpoint (omega arith)
+    λ n plan. c.loop-endpoint.invariant.0 n plan
+    ∙ all_have c.args.host.now n c.args.page c.args.count c.args.order c.loop-endpoint.endpoint (omega arith)

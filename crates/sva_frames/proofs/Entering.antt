@@ -128,7 +128,8 @@ list_ext [] (y ∷ ys) same = absurd (let h = same 0 in cc)
 list_ext (x ∷ xs) [] same = absurd (let h = same 0 in cc)
 list_ext (x ∷ xs) (y ∷ ys) same = ap (λ z. z ∷ xs) (same_Some x y (same 0)) ∙ ap (λ zs. y ∷ zs) (list_ext xs ys (λ n. same (suc n)))
 
-past_end : {A : Type 0} (xs : List A) (n : ℕ) → slice_get xs n ≡ None → length xs ≤ n
+-- where nothing stands the list is at its end
+pub past_end : {A : Type 0} (xs : List A) (n : ℕ) → slice_get xs n ≡ None → length xs ≤ n
 past_end [] n none = omega arith
 past_end (x ∷ xs) zero none = absurd (cc)
 past_end (x ∷ xs) (suc n) none = let rest : length xs ≤ n = past_end xs n none in omega arith

@@ -1,5 +1,5 @@
 -- One thing more of a list that is copied.
-use Rattle.std.proofs.Common.{◌≡◌, ℕ, ◌+◌, ◌<◌, ◌≤◌, zero, suc, List, [], ◌∷◌, ◌++◌, Some, None, length, get_or, map, take, filter, slice_get}
+use Rattle.std.proofs.Common.{◌≡◌, ℕ, ◌+◌, ◌<◌, zero, suc, List, [], ◌∷◌, ◌++◌, Some, length, get_or, map, take, filter, slice_get}
 use Rattle.std.proofs.Common.{Bool, true, false, cond, refl, sym, ap, ap₂, ◌∙◌, arith}
 use Rattle.std.proofs.lemmas.List.{append-nil, get_or-map, length-map, map_more, map_push, take-map, take_more}
 use Rattle.std.proofs.lemmas.List.Elements.{filter_more}
@@ -7,12 +7,6 @@ use Rattle.std.proofs.lemmas.Option.{slice_get_within, get_or_from_slice_get}
 use Rattle.sva_model.specs.Wire.{EndpointWire, HostGroupWire}
 use Rattle.sva_host.specs.Seen.{parts_with}
 use Rattle.sva_snapshot.specs.Shown.{part_with}
-
--- where nothing stands the list is at its end
-pub past_end : {A : Type 0} (xs : List A) (i : ℕ) → slice_get xs i ≡ None → length xs ≤ i
-past_end [] i none = omega arith
-past_end (x ∷ xs) zero none = absurd (cc)
-past_end (x ∷ xs) (suc i) none = let rest = past_end xs i none in omega (arith, rest)
 
 -- plain copies
 pub copied_more : {A : Type 0} (xs ys : List A) (i : ℕ) (y : A) → slice_get ys i ≡ Some y → xs ≡ take i ys → xs ++ y ∷ [] ≡ take (i + 1) ys

@@ -2,9 +2,10 @@ use Rattle.std.proofs.Common.{◌≡◌, ◌≤◌, ap, map, sym, ◌∙◌, ref
 use Rattle.std.specs.FinMap as finite
 use Rattle.std.specs.FinMap.{len-entries}
 use Rattle.std.proofs.lemmas.List.{take_all}
+use Rattle.sva_frames.proofs.Entering.{past_end}
 use Rattle.sva_parts_by_labels.specs.Device.{translation_seen}
 use Rattle.sva_snapshot.specs.Shown.{cached_shown}
-use Rattle.sva_snapshot.proofs.More.{shown_more, past_end}
+use Rattle.sva_snapshot.proofs.More.{shown_more}
 use Rattle.sva_snapshot.proofs.devices.cache_of.Goals as goal
 
 pub unreachable-requires : goal.unreachable-requires

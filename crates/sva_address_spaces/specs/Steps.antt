@@ -9,17 +9,22 @@ use Rattle.sva_model.specs.Wire.{Wire, PlaceWire}
 use Rattle.sva_model.specs.Wire.PlaceWire.{FreeWire, MappedWire, WithheldWire}
 use Rattle.sva_labels.specs.Finding.{pages_of, is_free}
 use Rattle.sva_labels.specs.Moves.{Move, moved, all_moved}
-use Rattle.sva_labels.specs.Host.{reply_of, next_of}
+use Rattle.sva_labels.specs.Host.{Decision, decide_of}
 use Rattle.sva_address_spaces.specs.Seen.{AddressSpacesSeen, address_spaces_of, with_address_spaces}
 
 -- before the first step
 abbrev pub first_address_spaces : (frames first : ℕ) → AddressSpacesSeen
 first_address_spaces frames first = record { spaces = []; places = tabulate frames (λ frame. FreeWire); next_space = first }
 
--- the step by labels; want of memory changes nothing, and comes only where the step would have been accepted
+-- what was decided is answered and done; want of memory changes nothing, and comes only where the step would have been
+-- accepted
+abbrev pub Does : Decision → Wire → Reply → Wire → Type 0
+Does decision before (Err refusal.OutOfMemory) after = IsOk decision.reply × (after ≡ before)
+Does decision before result after = (result ≡ decision.reply) × (after ≡ all_moved before decision.moves)
+
+-- the step by labels
 abbrev pub ByLabels : Wire → Step → Reply → Wire → Type 0
-ByLabels world step (Err refusal.OutOfMemory) after = IsOk (reply_of world step) × (after ≡ world)
-ByLabels world step result after = (result ≡ reply_of world step) × (after ≡ next_of world step)
+ByLabels before step result after = Does (decide_of before step) before result after
 
 -- a step that the spaces and frames alone decide, at each host that keeps them so
 abbrev pub Steps : Step → AddressSpacesSeen → Reply → AddressSpacesSeen → Type 0

@@ -19,21 +19,16 @@ use Rattle.sva_host_state.specs.declared.host_state.HostState.TheInside.{Inside 
 use Rattle.sva_host_state.specs.Inner.{wire_of}
 use Rattle.sva_host_state.specs.Steps.{Does, ByLabels}
 
-from_memory : (w : Wire) (s : Step) (r : Reply) (after : Wire) → memory.ByLabels w s r after → ByLabels w s r after
-from_memory w s (Err refusal.OutOfMemory) after is = is
-from_memory w s _ after is = is
-
 -- a step that the spaces and frames alone decide
 pub stepped : (host : HostState) (v : Wire) (s : Step) (r : Reply) (after : AddressSpacesSeen) → wire_of host ≡ v → memory.Steps s host.address_spaces r after
     → ByLabels v s r (wire_of (record host { address_spaces = after }))
 stepped host v s r after view steps =
-    subst (λ (u : Wire). ByLabels u s r (wire_of (record host { address_spaces = after }))) view
-    (from_memory (wire_of host) s r (wire_of (record host { address_spaces = after })) (steps (wire_of host) refl))
+    subst (λ (u : Wire). ByLabels u s r (wire_of (record host { address_spaces = after }))) view (steps (wire_of host) refl)
 
 pub looked : (host : HostState) (v : Wire) (s : Step) (r : Reply) → wire_of host ≡ v
     → memory.Steps s host.address_spaces r host.address_spaces → ByLabels v s r v
 looked host v s r view steps =
-    subst (λ (u : Wire). ByLabels u s r u) view (from_memory (wire_of host) s r (wire_of host) (steps (wire_of host) refl))
+    subst (λ (u : Wire). ByLabels u s r u) view (steps (wire_of host) refl)
 
 -- the end of a space
 

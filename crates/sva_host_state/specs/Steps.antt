@@ -1,28 +1,16 @@
 -- What a step does, by labels.
-use Rattle.std.specs.Prelude.{◌≡◌, ℕ, true, false, nat_lt, length, Result, Ok, Err, IsOk}
+use Rattle.std.specs.Prelude.{◌≡◌, ℕ, true, false, nat_lt, length, Result, Ok, Err}
 use Rattle.sva_step.specs.declared.refusals.Refusal.{Refusal}
 use Rattle.sva_step.specs.declared.refusals.Refusal.TheVariants as refusal
 use Rattle.sva_step.specs.declared.steps.Step.{Step}
-use Rattle.sva_model.specs.Steps.{Reply}
 use Rattle.sva_model.specs.Message.{Message}
 use Rattle.sva_model.specs.Message.Message.{StartMessage, StopMessage, CompletionMessage, InvalidateMessage, ResponseMessage}
 use Rattle.sva_model.specs.Wire.{Wire}
+pub use Rattle.sva_address_spaces.specs.Steps.{Does, ByLabels}
 use Rattle.sva_labels.specs.Causes.{lacks, causes_of}
-use Rattle.sva_labels.specs.Host.{Decision, decide_of}
-use Rattle.sva_labels.specs.Moves.{all_moved}
 use Rattle.sva_msg.specs.declared.messages.Kind.{Kind}
 use Rattle.sva_msg.specs.Bag.{InFlight, with_sent}
 use Rattle.sva_model.specs.Refusals.{unless_refused}
-
--- what was decided is answered and done; want of memory changes nothing, and comes only where the step would have been
--- accepted
-abbrev pub Does : Decision → Wire → Reply → Wire → Type 0
-Does decision before (Err refusal.OutOfMemory) after = IsOk decision.reply × (after ≡ before)
-Does decision before result after = (result ≡ decision.reply) × (after ≡ all_moved before decision.moves)
-
--- the step by labels
-abbrev pub ByLabels : Wire → Step → Reply → Wire → Type 0
-ByLabels before step result after = Does (decide_of before step) before result after
 
 -- what refuses a step: the first of its causes that holds, if one does
 abbrev pub MayStep : Wire → Step → Result (Unit {0}) Refusal → Type 0

@@ -1,5 +1,5 @@
 -- The same with the config, which stands before the steps.
-use Rattle.std.proofs.Common.{◌≡◌, ◌∙◌, ap, refl, sym, ℕ, ◌+◌, Bool, true, false, cond, List, [], ◌∷◌, ◌++◌, append_assoc, map, Some, None}
+use Rattle.std.proofs.Common.{◌≡◌, ◌∙◌, ap, refl, sym, ℕ, ◌+◌, ◌&&◌, not, Bool, true, false, cond, List, [], ◌∷◌, ◌++◌, append_assoc, map, Some, None}
 use Rattle.std.specs.Prelude.{Result, Ok, Err}
 use Rattle.sva_step.specs.declared.limits.Config.{Config}
 use Rattle.sva_step.specs.declared.refusals.Refusal.TheVariants.{BadConfig}
@@ -8,7 +8,8 @@ use Rattle.sva_step.specs.Refusals.{refusal_text}
 use Rattle.sva_labels.specs.Host.{first_wire}
 use Rattle.sva_grammar.specs.Grammar.{◌>>=◌, at_line, config_read, is_skipped, is_too_large, lines_of, said_lines, script_of, steps_of}
 use Rattle.sva_scenario.specs.Report.{ended, is_fit}
-use Rattle.sva_script.specs.Lines.{script_words}
+use Rattle.sva_script.specs.Lines.{parts_of, script_words}
+use Rattle.sva_script_runs.specs.Lines.{are_end, is_end}
 use Rattle.sva_script_runs.specs.Runs.{Running}
 use Rattle.sva_script_reading.specs.Faults.{Fault}
 use Rattle.sva_script_reading.specs.Said.{Said, bad, well}
@@ -18,9 +19,9 @@ use Rattle.sva_script_reports.specs.Scripts.{comment_of, past_config, plain_from
 use Rattle.sva_script_traces.specs.declared.rows.Columns.{Columns}
 use Rattle.sva_script_traces.specs.Traces.{Tracing, fresh, trace_config, trace_from, trace_line, trace_more}
 use Rattle.sva_script_laws.specs.Replays.{answer_line, answers_from}
-use Rattle.sva_script_laws.specs.Traces.{LineRow, rows_report, rows_text, said_texts}
+use Rattle.sva_script_laws.specs.Traces.{LineRow, is_written, rows_report, rows_text, said_texts, written_numbers}
 use Rattle.sva_script_laws.specs.Tests.{Expectation, expect_line, expectations_from, expecting, expects, judged_by}
-use Rattle.sva_script_laws.proofs.Following.{CleanLines, expecting_lines, follows, never, report_from}
+use Rattle.sva_script_laws.proofs.Following.{CleanLines, expecting_lines, follows, never, report_from, written_lines}
 use Rattle.sva_script_laws.proofs.ConfigWords.{config_expects}
 use Rattle.sva_script_laws.proofs.StepLines.{config_part, left_part}
 use Rattle.sva_script_laws.proofs.Written.{Clean, comment_clean, config_line_read, config_not_skipped, not_skipped, silent, skipped, written}
@@ -39,6 +40,8 @@ pub record Begins (config : Config) (lines : List Line) (out text : List ℕ) : 
   pub said : (n : ℕ) → said_texts n more ≡ first ∷ map (λ (it : LineRow). it.plain) rows
   pub answers : report_from (first_wire config) steps ≡ answers_from (start config) lines
   pub told : answers_from (start config) lines ≡ rows_report rows counts
+  pub number : ℕ
+  pub numbers : written_numbers lines ≡ number ∷ map (λ (it : LineRow). it.line) rows
   pub traced : (columns : Columns) (before : ℕ) → trace_from columns fresh before lines ≡ well (rows_text columns rows counts)
   pub none_skipped : map (λ (it : Expectation). it.line) (expectations_from 0 (start config) lines) ≡ expecting lines
   pub tested : test_from 0 false (start config) lines
@@ -71,6 +74,9 @@ begins_silent config line lines out text clean none left =
       said = λ n. ap (map (λ (l : Line). l.1)) (skipped n (comment_of line.1) left.more skips) ∙ left.said (n + 1);
       answers = left.answers ∙ sym answers_same;
       told = answers_same ∙ left.told;
+      number = left.number;
+      numbers =
+          ap (λ words. map (λ (l : Line). l.0) (cond (is_written words) (line ∷ written_lines lines) (written_lines lines))) none ∙ left.numbers;
       traced = λ columns before.
           ap (λ words. trace_more (λ next. trace_from columns next line.0 lines) (trace_line columns fresh line.0 words)) none
           ∙ left.traced columns line.0;
@@ -96,6 +102,10 @@ config_traced columns config rest fit =
     (record { run = Some (record { seen = first_wire config; known = [] }); has_ended = false; has_faulted = false }, [])
     (record { run = None; has_ended = true; has_faulted = true }, ended (refusal_text BadConfig)))) fit
 
+never_both : (test : Bool) → (test && false) ≡ false
+never_both true = refl
+never_both false = refl
+
 begins_here : (config : Config) (line : Line) (lines left : List Line) (word : List ℕ) (words : List (List ℕ)) (out text : List ℕ) → CleanLines lines
     → script_words line.1 ≡ word ∷ words → is_fit config ≡ true → faults_from [] false left ≡ []
     → config_with lines (config_by line.0 (word ∷ words) (config_read (joined_words (word ∷ words)))) ≡ Ok (config, left)
@@ -112,6 +122,9 @@ begins_here config line lines left word words out text clean said fit right foun
     let stands : (n : ℕ) → said_lines n (joined ∷ more.more) ≡ (n, joined) ∷ said_lines (n + 1) more.more =
     λ n. not_skipped n joined more.more (config_not_skipped joined config read.1) in
     let answers_same = ap (answer_line (start config) line (λ next. answers_from next lines)) said in
+    let no_end : is_end (parts_of (word ∷ words)) ≡ false =
+    ap (λ t. are_end (parts_of (word ∷ words)).step && t) (config_expects line.1 word words config said read.1)
+    ∙ never_both (are_end (parts_of (word ∷ words)).step) in
     record {
       more = joined ∷ more.more;
       first = joined;
@@ -128,6 +141,11 @@ begins_here config line lines left word words out text clean said fit right foun
       said = λ n. ap (map (λ (l : Line). l.1)) (stands n) ∙ ap (λ ls. joined ∷ ls) (more.said (n + 1));
       answers = more.answers ∙ sym answers_same;
       told = answers_same ∙ more.told;
+      number = line.0;
+      numbers =
+          ap (λ ws. map (λ (l : Line). l.0) (cond (is_written ws) (line ∷ written_lines lines) (written_lines lines))) said
+          ∙ ap (λ t. map (λ (l : Line). l.0) (cond (not t) (line ∷ written_lines lines) (written_lines lines))) no_end
+          ∙ ap (λ ns. line.0 ∷ ns) more.numbers;
       traced = λ columns before.
           ap (λ ws. trace_more (λ next. trace_from columns next line.0 lines) (trace_line columns fresh line.0 ws)) said
           ∙ ap (λ r. trace_more (λ next. trace_from columns next line.0 lines) (trace_config fresh (config_by line.0 (word ∷ words) r))) written_so

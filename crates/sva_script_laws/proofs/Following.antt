@@ -1,8 +1,7 @@
 -- What the lines of a script whose scenario is written say: the scenario's lines and steps, their answers, rows and expectations.
-use Rattle.std.proofs.Common.{◌≡◌, ◌∙◌, ap, refl, sym, ℕ, ◌+◌, Bool, true, false, cond, List, [], ◌∷◌, ◌++◌, append-nil, append_assoc, Option, Some}
-use Rattle.std.proofs.Common.{None}
+use Rattle.std.proofs.Common.{◌≡◌, ◌∙◌, ap, refl, sym, ℕ, ◌+◌, Bool, true, false, cond, List, [], ◌∷◌, ◌++◌, append-nil, append_assoc, Option, Some, None}
 use Rattle.std.proofs.Common.{codes, length, map}
-use Rattle.std.specs.Prelude.{filter, is_none, Result, Ok, Err, flat_map, slice_get, slice_index_or}
+use Rattle.std.specs.Prelude.{filter, is_none, not, Result, Ok, Err, flat_map, slice_get, slice_index_or}
 use Rattle.std.specs.List.{enumerate_from}
 use Rattle.sva_step.specs.declared.steps.Step.{Step}
 use Rattle.sva_model.specs.Wire.{Wire}
@@ -25,7 +24,7 @@ use Rattle.sva_script_reports.specs.Scripts.{At, comment_of, if_small, plain_fro
 use Rattle.sva_script_traces.specs.declared.rows.Columns.{Columns}
 use Rattle.sva_script_traces.specs.Traces.{NoEnd, Tracing, row_of, trace_from, trace_line, trace_more, trace_read, trace_step}
 use Rattle.sva_script_laws.specs.Replays.{answer_line, answer_read, answers_from, step_answer}
-use Rattle.sva_script_laws.specs.Traces.{LineRow, last_text, line_text, rows_report, rows_text, said_texts}
+use Rattle.sva_script_laws.specs.Traces.{LineRow, is_written, last_text, line_text, rows_report, rows_text, said_texts, written_numbers}
 use Rattle.sva_script_laws.specs.Tests.{Expectation, expect_line, expect_read, expectations_from, expectation, expecting, expects, judged_by, place_behind}
 use Rattle.sva_script_laws.proofs.AnswerTexts.{counts_clean, reply_clean}
 use Rattle.sva_script_laws.proofs.Judging.{at_place, expecting_so, judged_so, line_at_place, place_next}
@@ -63,6 +62,7 @@ pub record Follows (past : Bool) (running : Running) (lines : List Line) (out te
   pub said : (n : ℕ) → said_texts n more ≡ map (λ (it : LineRow). it.plain) rows
   pub answers : report_from running.seen steps ≡ answers_from (behind_line running) lines
   pub told : answers_from (behind_line running) lines ≡ rows_report rows counts
+  pub numbers : written_numbers lines ≡ map (λ (it : LineRow). it.line) rows
   pub traced : (columns : Columns) (before : ℕ) → trace_from columns (tracing_at past running) before lines ≡ well (rows_text columns rows counts)
   pub none_skipped : (place : ℕ) → map (λ (it : Expectation). it.line) (expectations_from place (behind_line running) lines) ≡ expecting lines
   pub tested : (front : List (List ℕ)) (count : ℕ)
@@ -72,6 +72,10 @@ pub record Follows (past : Bool) (running : Running) (lines : List Line) (out te
 -- those of some lines that say what they expect
 abbrev pub expecting_lines : List Line → List Line
 expecting_lines lines = filter (λ line. expects (script_words line.1)) lines
+
+-- and those that say something of the scenario
+abbrev pub written_lines : List Line → List Line
+written_lines lines = filter (λ line. is_written (script_words line.1)) lines
 
 -- what is bad isn't well
 pub never : (wrong right : List ℕ) → bad wrong ≡ well right → ⊥
@@ -101,6 +105,7 @@ follows_none past running out text is =
       said = λ n. refl;
       answers = refl;
       told = refl;
+      numbers = refl;
       traced = λ columns before. refl;
       none_skipped = λ place. refl;
       tested = λ front count. refl;
@@ -127,6 +132,8 @@ follows_silent past running line lines out text clean none left =
       said = λ n. ap (map (λ (l : Line). l.1)) (skipped n (comment_of line.1) left.more skips) ∙ left.said (n + 1);
       answers = left.answers ∙ sym answers_same;
       told = answers_same ∙ left.told;
+      numbers =
+          ap (λ words. map (λ (l : Line). l.0) (cond (is_written words) (line ∷ written_lines lines) (written_lines lines))) none ∙ left.numbers;
       traced = λ columns before.
           ap (λ words. trace_more (λ next. trace_from columns next line.0 lines) (trace_line columns (tracing_at past running) line.0 words)) none
           ∙ left.traced columns line.0;
@@ -168,7 +175,16 @@ expected place running line lines word words read step said at is =
     ∙ ap (λ s. expectation line.0 place s read.expected
     ++ expectations_from (place_behind place s) (behind_line (behind running line.0 (parts_of (word ∷ words)).name s)) lines) is
 
--- and where it stands among those that do
+-- is it one that says something of the scenario? The last line alone isn't
+numbered_by : (running : Running) (line : Line) (lines : List Line) (word : List ℕ) (words : List (List ℕ)) (read : LineRead) (step : Option Plain)
+    → script_words line.1 ≡ word ∷ words → read_at running (parts_of (word ∷ words)) ≡ Ok read → read.step ≡ step
+    → written_numbers (line ∷ lines) ≡ map (λ (l : Line). l.0) (cond (not (is_none step)) (line ∷ written_lines lines) (written_lines lines))
+numbered_by running line lines word words read step said at is =
+    ap (λ ws. map (λ (l : Line). l.0) (cond (is_written ws) (line ∷ written_lines lines) (written_lines lines))) said
+    ∙ ap (λ t. map (λ (l : Line). l.0) (cond (not t) (line ∷ written_lines lines) (written_lines lines)))
+    (sym (ends_is running.known (link_of (Some running.seen)) (parts_of (word ∷ words)) read at) ∙ ap (λ s. is_none s) is)
+
+-- where its expectation stands among all of them
 stands_so : (place : ℕ) (running : Running) (line : Line) (lines : List Line) (word : List ℕ) (words : List (List ℕ)) (read : LineRead) (step : Option Plain)
     → script_words line.1 ≡ word ∷ words → read_at running (parts_of (word ∷ words)) ≡ Ok read → read.step ≡ step
     → map (λ (it : Expectation). it.line)
@@ -247,6 +263,7 @@ follows_step running line lines word words read plain out text said at some left
       told =
           answers_are ∙ ap (λ l. ended reply ++ l) left.told
           ∙ sym (append_assoc (ended reply) (flat_map (λ (it : LineRow). ended it.answer) left.rows) (ended left.counts));
+      numbers = numbered_by running line lines word words read (Some plain) said at some ∙ ap (λ ns. line.0 ∷ ns) left.numbers;
       traced = λ columns before.
           traced_read columns running line lines before word words read (Some plain) said at some
           ∙ (λ i. record {
@@ -305,6 +322,7 @@ follows_end known running line lines word words read out text said at none right
       said = left.said;
       answers = left.answers ∙ sym answers_are;
       told = answers_are ∙ left.told;
+      numbers = numbered_by running line lines word words read None said at none ∙ left.numbers;
       traced = λ columns before. traced_read columns running line lines before word words read None said at none ∙ left.traced columns line.0;
       none_skipped = λ place. stands_so place running line lines word words read None said at none (left.none_skipped place);
       tested = λ front count.

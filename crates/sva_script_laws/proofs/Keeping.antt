@@ -23,8 +23,7 @@ use Rattle.sva_script_runs.specs.Runs.{Running, behind}
 use Rattle.sva_script_reading.specs.Faults.{Fault}
 use Rattle.sva_script_reading.specs.Said.{Said, bad, well}
 use Rattle.sva_script_reading.specs.Begins.{Line, begin_of, begun, config_at, config_by, config_in, config_with, faults_at, faults_from, faults_read}
-use Rattle.sva_script_reading.specs.Begins.{if_right, noted}
-use Rattle.sva_script_reading.specs.Begins.{lines_from, said_by, too_large}
+use Rattle.sva_script_reading.specs.Begins.{if_right, noted, lines_from, said_by, too_large}
 use Rattle.sva_script_reports.specs.Lines.{behind_line}
 use Rattle.sva_script_reports.specs.Scripts as scripts
 use Rattle.sva_script_reports.specs.Scripts.{At, comment_of, if_small, plain_from, plain_line, plain_of, start}

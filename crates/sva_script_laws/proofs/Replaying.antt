@@ -87,9 +87,11 @@ pub traces_answer : TracesAnswer
 traces_answer text plain is =
     let run = runs text plain is in
     let all = begins_all text plain run in (
+      all.number,
       all.first,
       all.rows,
       all.counts,
+      all.numbers,
       ap (said_texts 1) (lines_are run.config (lines_from 1 text) plain all) ∙ all.said 1,
       λ columns. all.traced columns 0,
       report_is text plain run ∙ all.told,

@@ -1,7 +1,5 @@
 -- The words of a scenario's step, as a script reads them: each stands at its place as it is.
-use Rattle.std.proofs.Common.{◌≡◌, ◌∙◌, ap, cond, refl, subst, sym, ℕ, ◌==◌, ◌||◌, suc, Bool, true, false, List, [], ◌∷◌, length}
-use Rattle.std.proofs.Common.{Some, None}
-use Rattle.std.proofs.Common.{arith}
+use Rattle.std.proofs.Common.{◌≡◌, ◌∙◌, ap, cond, refl, subst, sym, ℕ, ◌==◌, ◌||◌, suc, Bool, true, false, List, [], ◌∷◌, length, Some, None, arith}
 use Rattle.std.specs.Prelude.{is_ok, Result, Ok, Err}
 use Rattle.std.specs.Str.{bytes_eq}
 use Rattle.std.proofs.lemmas.Bool.{eqb-true}
@@ -11,8 +9,7 @@ use Rattle.sva_step.specs.declared.steps.Step.{Step}
 use Rattle.sva_grammar.specs.declared.faults.Cause.{Cause}
 use Rattle.sva_grammar.specs.declared.faults.Cause.TheVariants.{UnknownStep, WordCount}
 use Rattle.sva_grammar.specs.Grammar.{◌>>=◌, access, flags, group, has_words, has_words_or, is_last, number, one_number, vector, verdict, word}
-use Rattle.sva_grammar.specs.Grammar.{step_of, host_step, endpoint_step}
-use Rattle.sva_grammar.specs.Grammar.{space_step, drop_step, map_step, unmap_step, unmapr_step, look_step, bearer_step}
+use Rattle.sva_grammar.specs.Grammar.{step_of, host_step, endpoint_step, space_step, drop_step, map_step, unmap_step, unmapr_step, look_step, bearer_step}
 use Rattle.sva_grammar.specs.Grammar.{bind_step, unbind_step, advance_step, pump_step, serve_step, reset_step, take_step, answer_step}
 use Rattle.sva_grammar.specs.Grammar.{ask_step, use_step, end_step, evict_step, fault_step, finish_step, quit_step, deliver_step}
 use Rattle.sva_script.specs.declared.places.Field.{Field}

@@ -1,7 +1,11 @@
 -- A trace has the answers of the report.
-use Rattle.std.specs.Prelude.{◌≡◌, ℕ, List, [], ◌∷◌, ◌++◌, codes, decimal, flat_map, map, Option, Some, None}
+use Rattle.std.specs.Prelude.{◌≡◌, ℕ, List, [], ◌∷◌, ◌++◌, codes, decimal, filter, flat_map, map, not}
+use Rattle.std.specs.Prelude.{Bool, false, Option, Some, None}
 use Rattle.sva_grammar.specs.Grammar.{lines_of, said_lines}
 use Rattle.sva_scenario.specs.Report.{ended, report_of}
+use Rattle.sva_script.specs.Lines.{parts_of, script_words}
+use Rattle.sva_script_runs.specs.Lines.{is_end}
+use Rattle.sva_script_reading.specs.Begins.{Line, lines_from}
 use Rattle.sva_script_reading.specs.Said.{well}
 use Rattle.sva_script_reports.specs.Scripts.{plain_of}
 use Rattle.sva_script_traces.specs.declared.rows.Columns.{Columns}
@@ -42,13 +46,23 @@ rows_report rows counts = flat_map (λ (it : LineRow). ended it.answer) rows ++ 
 abbrev pub said_texts : (first : ℕ) → List (List ℕ) → List (List ℕ)
 said_texts first lines = map (λ line. line.1) (said_lines first lines)
 
--- Where a script has a scenario, its trace is made of rows, whatever its columns: one of each line of the scenario
--- behind the config that says something, with the answer that stands at its place in the report. Last both have the
--- same counts.
+-- does a line of a script say something of the scenario? It says something, and isn't `end => ..`
+abbrev pub is_written : List (List ℕ) → Bool
+is_written [] = false
+is_written words = not (is_end (parts_of words))
+
+-- the numbers of the lines that do
+abbrev pub written_numbers : List Line → List ℕ
+written_numbers lines = map (λ line. line.0) (filter (λ line. is_written (script_words line.1)) lines)
+
+-- Where a script has a scenario, its trace is made of rows, whatever its columns: one of each line of the script behind
+-- the config that says something of the scenario, with that line's number, the scenario's own line, and the answer that
+-- stands at its place in the report. Last both have the same counts.
 abbrev pub TracesAnswer : Type 0
 TracesAnswer =
     (text plain : List ℕ) → plain_of text ≡ well plain
-    → (config : List ℕ) × (rows : List LineRow) × (counts : List ℕ)
+    → (number : ℕ) × (config : List ℕ) × (rows : List LineRow) × (counts : List ℕ)
+    × (written_numbers (lines_from 1 text) ≡ number ∷ map (λ (it : LineRow). it.line) rows)
     × (said_texts 1 (lines_of plain) ≡ config ∷ map (λ (it : LineRow). it.plain) rows)
     × ((columns : Columns) → trace_of columns text ≡ well (rows_text columns rows counts))
     × (report_of plain ≡ rows_report rows counts)

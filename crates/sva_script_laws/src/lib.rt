@@ -31,8 +31,8 @@ pub fn tests_compare()
     ensures all { NoneIsSkipped }
 {}
 
-/// Of a script that has a scenario, the trace has a row for each step of that, in order, with the answer that stands at
-/// its place in the report, and last the report's counts.
+/// Of a script that has a scenario, the trace has a row for each step of that, in order, with the number of its line in
+/// the script and the answer that stands at its place in the report, and last the report's counts.
 pub fn traces_answer()
     ensures { TracesAnswer }
 {}

@@ -40,8 +40,9 @@ pub fn check<R: Read, W: Write>(
     check_text(alloc, text.as_slice(), writer)
 }
 
-/// Writes what a check says of a text.
-fn check_text<W: Write>(
+/// Writes how many steps a scenario's text has, or its line fault, which `Faulted` tells. After `Write` or `Memory` a
+/// prefix of that line was written; `Read` isn't answered.
+pub fn check_text<W: Write>(
     alloc: Global,
     text: &[u8],
     writer: &mut Told<W>,

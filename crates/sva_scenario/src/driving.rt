@@ -43,8 +43,9 @@ pub fn drive<R: Read, W: Write>(
     report_text(alloc, text.as_slice(), writer)
 }
 
-/// Writes the report of a text.
-fn report_text<W: Write>(
+/// Runs the steps of a scenario's text, and writes its report. `Faulted` tells that it is a line fault or a refused
+/// config. After `Write` or `Memory` a prefix of the report was written; `Read` isn't answered.
+pub fn report_text<W: Write>(
     alloc: Global,
     text: &[u8],
     writer: &mut Told<W>,

@@ -13,9 +13,9 @@ mod streams;
 mod told;
 mod writing;
 
-pub use checking::check;
+pub use checking::{check, check_text};
 pub use configs::laws;
-pub use driving::drive;
+pub use driving::{drive, report_text};
 pub use reading::{MOST_KEPT, MOST_TURNS, read_all};
 pub use storming::{read_scenario, report_audit};
 pub use streams::{DriveFault, Outcome};

@@ -129,7 +129,7 @@ def function_at(text, end):
             kind = impl.group(2) + (impl.group(1) or "")
         elif line.startswith("}"):
             kind = None
-        name = re.match(r"\s*(?:pub(?:\([a-z]+\))?\s+)?(?:const\s+)?fn\s+(\w+)", line)
+        name = re.match(r'\s*(?:pub(?:\([a-z]+\))?\s+)?(?:const\s+|extern "C"\s+)?fn\s+(\w+)', line)
         if name:
             found = (kind if line[0] == " " else None), name.group(1)
     return found
@@ -203,6 +203,7 @@ def planted():
     for script in ("refused-memory", "cuts"):
         told = re.findall(r'^    (?:    )?"([^"]+)": (?:lambda|refused|behind_a_refusal|unrefused|unmet)\b', text_of(f"{ROOT}/scripts/{script}"), re.M)
         found[script] = list(dict.fromkeys(told))
+    found["embedded"] = re.findall(r"^#(?:el)?if PLANT == \d+ /\* (.+) \*/$", text_of(f"{ROOT}/scripts/embedded.c"), re.M)
     return found
 
 

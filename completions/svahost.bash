@@ -1,0 +1,30 @@
+# Completion of svahost for bash. Installed as share/bash-completion/completions/svahost; by hand: source it.
+
+_svahost() {
+  local current=${COMP_WORDS[COMP_CWORD]} command=${COMP_WORDS[1]-} before=${COMP_WORDS[COMP_CWORD - 1]-} words=--help
+  COMPREPLY=()
+  # behind < or > the shell's own completion of files
+  if [[ $before == [\<\>] || $current == [\<\>]* ]]; then
+    compopt -o default 2> /dev/null
+    return
+  fi
+  if [ "$COMP_CWORD" -eq 1 ]; then
+    words='replay check storm plain test show trace --help --version'
+  elif [ "$command" = trace ]; then
+    words='--live --help'
+  elif [ "$command" = storm ]; then
+    [ "$before" = --turns ] && return
+    words='--turns --help'
+  elif [[ $1 == */* && $command == show ]]; then
+    # the script of the repository takes --after and files too, and an installed program doesn't
+    [ "$before" = --after ] && return
+    words='--after --help'
+  elif [[ $1 == */* && $command == test ]]; then
+    compopt -o filenames 2> /dev/null
+    mapfile -t COMPREPLY < <(compgen -f -X '!*.sv[as]' -- "$current"; compgen -d -- "$current")
+    return
+  fi
+  mapfile -t COMPREPLY < <(compgen -W "$words" -- "$current")
+}
+
+complete -F _svahost svahost

@@ -1,0 +1,3 @@
+pub mod Tests
+pub mod Parts
+pub mod Snapshots

@@ -107,6 +107,16 @@ pub fn parts_of<'w, 'a>(words: &'w [&'a [u8]]) -> Parts<'w, 'a>
     }
 }
 
+/// The name of a line's words, without its colon, where they have one.
+pub fn name_in<'a>(words: &[&'a [u8]]) -> Option<&'a [u8]>
+    ensures { option_map (λ name. name.now) result ≡ (parts_of (map (λ word. word.now) words.now)).name }
+{
+    match words {
+        [] => None,
+        [first, ..] => name_before(first),
+    }
+}
+
 /// The parts of the words behind a name, or of all, which begin at `at`.
 fn unnamed_parts<'w, 'a>(name: Option<&'a [u8]>, words: &'w [&'a [u8]], at: usize) -> Parts<'w, 'a>
     requires { at ≤ 1 }

@@ -15,7 +15,7 @@ use crate::names::{Names, begins_name, name_and_nth, number_at};
 use crate::numbers::{list_in, page_in, with_itag};
 use crate::places::Field;
 use crate::splitting::first_part;
-use crate::texts::{put, put_number, put_vector};
+use crate::texts::{put, put_number, put_space, put_vector};
 use sva_grammar::{access_in, flags_in, group_in, last_in, number_in, vector_in, verdict_in};
 
 /// Appends the words behind a step's name, each at its place, a space before each. `at` is where they begin in the line. What
@@ -74,7 +74,7 @@ fn put_spaced(
 ) -> Result<(), Stop>
     ensures { PutsRead (spaced (plain_word at names.now place word.now)) plain.old.items plain.new.items result }
 {
-    match put(plain, b" ") {
+    match put_space(plain) {
         Ok(()) => put_word(names, place, word, at, plain),
         Err(stop) => Err(stop),
     }

@@ -1,6 +1,6 @@
 //! The pieces of a text, appended one after another.
 
-ghost use Rattle.std.specs.Prelude.{◌≡◌, ◌%◌, decimal};
+ghost use Rattle.std.specs.Prelude.{◌≡◌, ◌%◌, ◌∷◌, [], decimal};
 ghost use Rattle.std.specs.Char.{digit_char};
 ghost use Rattle.sva_grammar.specs.Laws.{hexadecimal};
 ghost use Rattle.sva_script.specs.Pieces.{Puts};
@@ -13,6 +13,16 @@ pub fn put(out: &mut Vec<u8>, bytes: &[u8]) -> Result<(), Stop>
     ensures { Puts bytes.now out.old.items out.new.items result }
 {
     match out.extend_from_slice(bytes) {
+        Ok(()) => Ok(()),
+        Err(_) => Err(Stop::Memory),
+    }
+}
+
+/// Appends a space.
+pub(crate) fn put_space(out: &mut Vec<u8>) -> Result<(), Stop>
+    ensures { Puts (32 ∷ []) out.old.items out.new.items result }
+{
+    match out.push(b' ') {
         Ok(()) => Ok(()),
         Err(_) => Err(Stop::Memory),
     }

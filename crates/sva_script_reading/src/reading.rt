@@ -14,19 +14,21 @@ use crate::lines::{Lines, is_too_large};
 use std::alloc::{AllocError, Global};
 use sva_grammar::{config, number_in};
 use sva_script::{Field, Given, Names, Stop, Wanted, Wrong, at_word, parts_of, split};
-use sva_script_runs::{judge_name, read_line};
+use sva_script_runs::{Taken, judge_name, read_line};
 use sva_step::Config;
 use sva_words::is;
 
 /// Said of a script that is too large.
 const TOO_LARGE: &[u8] = b"line 0: the script has more than 1048576 bytes or 65536 lines\n";
 
-/// What a line is read with: its words, its line of a scenario, and what it expects. They are those of the line before.
+/// What a line is read with: its words, its line of a scenario, what it expects, and what came of its step. They are
+/// those of the line before.
 #[derive(Drop)]
 pub struct Desk<'a> {
     pub words: Vec<&'a [u8]>,
     pub plain: Vec<u8>,
     pub expected: Vec<u8>,
+    pub taken: Taken,
 }
 
 impl<'a> Desk<'a> {
@@ -36,6 +38,7 @@ impl<'a> Desk<'a> {
             words: Vec::new(alloc),
             plain: Vec::new(alloc),
             expected: Vec::new(alloc),
+            taken: Taken::new(),
         }
     }
 }

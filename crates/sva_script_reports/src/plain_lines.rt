@@ -14,7 +14,7 @@ use sva_script::{Stop, split};
 use sva_script_reading::{
     Desk, Lines, is_too_large, put_bad_config, put_words, put_wrong, read_script,
 };
-use sva_script_runs::Run;
+use sva_script_runs::{Came, Run};
 use sva_step::{Config, Refusal};
 
 /// Said where the scenario of a script is too large for a replay.
@@ -136,12 +136,19 @@ fn plain_line(
     ensures { StepsPlain run.old number (map (λ word. word.now) desk.old.words.items) out.old.items out.new.items run.new result }
 {
     let words = desk.words.as_slice();
-    match run.take(alloc, number, words, &mut desk.plain, &mut desk.expected) {
-        Ok(Some(_)) => {
+    match run.take(
+        alloc,
+        number,
+        words,
+        &mut desk.plain,
+        &mut desk.expected,
+        &mut desk.taken,
+    ) {
+        Ok(Came::Step) => {
             put_line(out, desk.plain.as_slice())?;
             Ok(true)
         }
-        Ok(None) => Ok(true),
+        Ok(Came::End) => Ok(true),
         Err(Stop::Wrong(wrong)) => {
             out.clear();
             put_wrong(out, &wrong, number, words, run.names())?;

@@ -115,7 +115,14 @@ fn show_step(
     ensures { StepsShow run.old number (map (λ word. word.now) desk.old.words.items) out.old.items out.new.items run.new result }
 {
     let words = desk.words.as_slice();
-    match run.take(alloc, number, words, &mut desk.plain, &mut desk.expected) {
+    match run.take(
+        alloc,
+        number,
+        words,
+        &mut desk.plain,
+        &mut desk.expected,
+        &mut desk.taken,
+    ) {
         Ok(_) => Ok(true),
         Err(Stop::Wrong(wrong)) => {
             put_wrong(out, &wrong, number, words, run.names())?;

@@ -1,7 +1,8 @@
 -- A script that is run: what each of its lines comes to.
 use Rattle.std.specs.Prelude.{◌≡◌, ℕ, ◌-◌, ◌==◌, List, [], ◌∷◌, ◌++◌, length, slice_get, find, Option, Some, None, option_map, Result, Ok, Err}
 use Rattle.sva_step.specs.declared.steps.Step.{Step}
-use Rattle.sva_step.specs.declared.steps.Step.TheVariants.{Deliver}
+use Rattle.sva_step.specs.declared.steps.Step.TheVariants.{Deliver, Space}
+use Rattle.sva_step.specs.declared.refusals.Refusal.TheVariants.{OutOfMemory}
 use Rattle.sva_model.specs.Message.{Message}
 use Rattle.sva_model.specs.Steps.{Reply}
 use Rattle.sva_model.specs.Wire.{Wire}
@@ -14,6 +15,8 @@ use Rattle.sva_script.specs.declared.given.Given.{Given}
 use Rattle.sva_script.specs.declared.given.Told.{Told}
 use Rattle.sva_script.specs.Lines.{Parts}
 use Rattle.sva_script.specs.Names.{Known}
+use Rattle.sva_script_runs.specs.declared.running.Came.{Came}
+use Rattle.sva_script_runs.specs.declared.running.Came.TheVariants as came
 use Rattle.sva_script_runs.specs.declared.running.Taken.{Taken}
 use Rattle.sva_script_runs.specs.Lines.{IsStopped, LineRead, Plain, expected_text, line_read, plain_text}
 use Rattle.sva_script_runs.specs.Messages.{Link, link_of}
@@ -50,11 +53,20 @@ pub record IsTaken (wire : Wire) (step : Step) (taken : Taken) : Type 0 where
   pub delivered : option_map kind_seen taken.delivered ≡ delivered_by (link_of (Some wire)) (reply_of wire step) step
   pub first_sent : option_map kind_seen taken.first_sent ≡ sent_of (link_of (Some (next_of wire step))) ((next_of wire step).next_message - wire.next_message)
 
--- a step was taken; the names are those of before
-abbrev pub Applies : Running → Step → Running → Result Taken Stop → Type 0
-Applies old step new (Ok taken) = IsTaken old.seen step taken × (new ≡ record { seen = next_of old.seen step; known = old.known })
-Applies old step new (Err stop.Memory) = Unit {0}
-Applies old step new (Err (stop.Wrong fault)) = ⊥
+-- a step was taken, and what is told of it is in its place; the names are those of before
+abbrev pub Applies : Running → Step → Running → Taken → Result (Unit {0}) Stop → Type 0
+Applies old step new taken (Ok done) = IsTaken old.seen step taken × (new ≡ record { seen = next_of old.seen step; known = old.known })
+Applies old step new taken (Err stop.Memory) = Unit {0}
+Applies old step new taken (Err (stop.Wrong fault)) = ⊥
+
+-- of no step: a place for what is told
+abbrev pub none_taken : Taken
+none_taken = record {
+  step = Space;
+  told = record { reply = Err OutOfMemory; first = 0; next = 0 };
+  delivered = None;
+  first_sent = None;
+}
 
 -- ---- A line
 
@@ -77,6 +89,16 @@ IsNamed old line name told new (Ok done) =
     new ≡ record { seen = old.seen; known = with_name old.known name (record { line = line; told = Some told }) }
 IsNamed old line name told new (Err stop.Memory) = Unit {0}
 IsNamed old line name told new (Err (stop.Wrong fault)) = ⊥
+
+-- what is told of a line: of a step what is in its place, and nothing of the last line
+abbrev pub told_in : Taken → Came → Option Taken
+told_in taken came.Step = Some taken
+told_in taken came.End = None
+
+-- what came of a line
+abbrev pub came_of : Taken → Result Came Stop → Result (Option Taken) Stop
+came_of taken (Ok which) = Ok (told_in taken which)
+came_of taken (Err why) = Err why
 
 -- what is told of a line's step
 abbrev pub TellsStep : Wire → Option Plain → Option Taken → Type 0

@@ -8,4 +8,4 @@ mod running;
 
 pub use kinds::kind_name;
 pub use reading::{judge_name, read_line};
-pub use running::{Run, Taken};
+pub use running::{Came, Run, Taken};

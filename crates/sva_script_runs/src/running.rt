@@ -11,7 +11,8 @@ ghost use Rattle.sva_parts_by_labels.specs.Flights.{kind_seen};
 ghost use Rattle.sva_script.specs.Lines.{parts_of};
 ghost use Rattle.sva_script.specs.Names.{given_of};
 ghost use Rattle.sva_script_runs.specs.Messages.{link_of};
-ghost use Rattle.sva_script_runs.specs.Runs.{Applies, IsNamed, Takes, delivered_by, message_of, sent_of};
+ghost use Rattle.sva_script_runs.specs.Runs.{Applies, IsNamed, Takes, came_of, delivered_by, message_of};
+ghost use Rattle.sva_script_runs.specs.Runs.{none_taken, sent_of};
 
 use crate::reading::read_line;
 use std::alloc::Global;
@@ -19,7 +20,7 @@ use std::marker::Model;
 use sva_core::World;
 use sva_frames::Counts;
 use sva_msg::Kind;
-use sva_script::{Given, Names, Stop, Told, parts_of};
+use sva_script::{Given, Names, Stop, Told, name_in};
 use sva_step::{Answer, Config, Refusal, Step};
 
 /// What came of a step.
@@ -33,6 +34,33 @@ pub struct Taken {
     pub delivered: Option<Kind>,
     /// The first message that it sent, if it sent one.
     pub first_sent: Option<Kind>,
+}
+
+impl Taken {
+    /// A place for what comes of steps, of which none was taken yet.
+    pub fn new() -> Self
+        ensures { result ≡ none_taken }
+    {
+        Taken {
+            step: Step::Space,
+            told: Told {
+                reply: Err(Refusal::OutOfMemory),
+                first: 0,
+                next: 0,
+            },
+            delivered: None,
+            first_sent: None,
+        }
+    }
+}
+
+/// What came of a line.
+#[derive(Clone, Copy)]
+pub enum Came {
+    /// Its step was taken.
+    Step,
+    /// It is the last line, `end => ..`, which has no step.
+    End,
 }
 
 /// A world with the names of the lines that led to it.
@@ -88,9 +116,10 @@ impl Run {
         self.world.counts()
     }
 
-    /// Resolves a line, and takes its step; `None` for `end => ..`. `plain` is then the line of a scenario that it stands
-    /// for, `expected` the answer that it expects, a space before each word, or nothing. A line that is wrong changes
-    /// nothing. After `Memory` neither the world nor the names are of use.
+    /// Resolves a line, and takes its step, unless it is the last. `plain` is then the line of a scenario that it
+    /// stands for, `expected` the answer that it expects, a space before each word, or nothing, and behind a step
+    /// `taken` what came of that. A line that is wrong changes nothing. After `Memory` neither the world nor the names
+    /// are of use.
     pub fn take(
         &mut self,
         alloc: Global,
@@ -98,14 +127,16 @@ impl Run {
         words: &[&[u8]],
         plain: &mut Vec<u8>,
         expected: &mut Vec<u8>,
-    ) -> Result<Option<Taken>, Stop>
-        ensures { Takes self.old line (parts_of (map (λ word. word.now) words.now)) self.new plain.new.items expected.new.items result }
+        taken: &mut Taken,
+    ) -> Result<Came, Stop>
+        ensures { Takes self.old line (parts_of (map (λ word. word.now) words.now)) self.new
+            plain.new.items expected.new.items (came_of taken.new result) }
     {
         match read_line(&self.names, Some(&self.world), words, plain, expected) {
-            Ok(None) => Ok(None),
-            Ok(Some(step)) => match self.apply(&step) {
-                Ok(taken) => match self.name(alloc, line, parts_of(words).name, &taken.told) {
-                    Ok(()) => Ok(Some(taken)),
+            Ok(None) => Ok(Came::End),
+            Ok(Some(step)) => match self.apply(&step, taken) {
+                Ok(()) => match self.name(alloc, line, name_in(words), &taken.told) {
+                    Ok(()) => Ok(Came::Step),
                     Err(stop) => Err(stop),
                 },
                 Err(stop) => Err(stop),
@@ -138,9 +169,9 @@ impl Run {
         }
     }
 
-    /// Takes a step.
-    fn apply(&mut self, step: &Step) -> Result<Taken, Stop>
-        ensures { Applies self.old step.now self.new result }
+    /// Takes a step. What came of it is then in `taken`.
+    fn apply(&mut self, step: &Step, taken: &mut Taken) -> Result<(), Stop>
+        ensures { Applies self.old step.now self.new taken.new result }
     {
         let delivered = self.delivered_by(step);
         let first = self.world.next_message();
@@ -151,12 +182,13 @@ impl Run {
         let next = self.world.next_message();
         let delivered = if reply.is_ok() { delivered } else { None };
         let first_sent = self.sent(next.saturating_sub(first));
-        Ok(Taken {
-            step: *step,
-            told: Told { reply, first, next },
-            delivered,
-            first_sent,
-        })
+        taken.step = *step;
+        taken.told.reply = reply;
+        taken.told.first = first;
+        taken.told.next = next;
+        taken.delivered = delivered;
+        taken.first_sent = first_sent;
+        Ok(())
     }
 
     /// The message that a step delivers where it is accepted.

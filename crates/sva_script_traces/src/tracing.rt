@@ -1,6 +1,7 @@
 //! The trace of a script: a row for each step, as it comes.
 
-ghost use Rattle.std.specs.Prelude.{◌≡◌, ◌+◌, ◌++◌, ◌<◌, ◌⊎◌, ◌≤◌, ◌^◌, IfSome, None, OnOk, false, length, map};
+ghost use Rattle.std.specs.Prelude.{◌≡◌, ◌+◌, ◌++◌, ◌<◌, ◌⊎◌, ◌≤◌, ◌^◌, [], false, is_some, length, map, true};
+ghost use Rattle.std.specs.Prelude.{IfSome, None, OnOk};
 ghost use Rattle.std.specs.Io.KnownBytes.{IsAtEnd};
 ghost use Rattle.sva_scenario.specs.declared.reading.TheConstants.{MOST_TURNS};
 ghost use Rattle.sva_grammar.specs.Grammar.{config_read};
@@ -17,7 +18,7 @@ use std::marker::Model;
 use sva_scenario::{DriveFault, MOST_TURNS, Outcome, Told, write_all};
 use sva_script::{Names, Stop, Wanted, at_word, split};
 use sva_script_reading::{config_of, end_in, put_bad_config, put_wrong};
-use sva_script_runs::Run;
+use sva_script_runs::{Came, Run, Taken};
 use sva_step::Refusal;
 
 /// A trace that goes on: the run, once there is a config, and what a line is read with.
@@ -26,6 +27,7 @@ struct Tracer {
     run: Option<Run>,
     plain: Vec<u8>,
     expected: Vec<u8>,
+    taken: Taken,
     columns: Columns,
     /// How many lines were taken.
     lines: u64,
@@ -91,6 +93,7 @@ impl Tracer {
             run: None,
             plain: Vec::new(alloc),
             expected: Vec::new(alloc),
+            taken: Taken::new(),
             columns,
             lines: 0,
             has_ended: false,
@@ -169,14 +172,77 @@ impl Tracer {
         ensures few { OnOk result (self.new.lines ≤ self.old.lines + length piece.now) }
         ensures traced { OnOk result (TracesPiece self.old held.old.items piece.now self.new held.new.items out.old.items out.new.items) }
     {
+        let mut words = Vec::new(alloc);
         let mut rest = piece;
         while let Some(end) = end_in(rest) {
-            held.extend_from_slice(&rest[..end])?;
-            self.take_line(alloc, held.as_slice(), out)?;
-            held.clear();
+            self.take_held(alloc, held, &rest[..end], &mut words, out)?;
             rest = &rest[end + 1..];
         }
         held.extend_from_slice(rest)
+    }
+
+    /// Takes the line that begins with what is held, and ends with a text behind it. Nothing is held then.
+    fn take_held<'p>(
+        &mut self,
+        alloc: Global,
+        held: &mut Vec<u8>,
+        text: &'p [u8],
+        words: &mut Vec<&'p [u8]>,
+        out: &mut Vec<u8>,
+    ) -> Result<(), AllocError>
+        requires { self.old.lines + 1 < 2 ^ 64 }
+        ensures traced { OnOk result
+            (TracesLine self.old (held.old.items ++ text.now) self.new out.old.items out.new.items) }
+        ensures held { OnOk result (held.new.items ≡ []) }
+    {
+        if self.run.is_none() {
+            return self.take_joined(alloc, held, text, out);
+        }
+        if held.is_empty() {
+            return self.take_within(alloc, text, words, out);
+        }
+        self.take_joined(alloc, held, text, out)
+    }
+
+    /// Takes the line that what is held and a text behind it write together. Nothing is held then.
+    fn take_joined(
+        &mut self,
+        alloc: Global,
+        held: &mut Vec<u8>,
+        text: &[u8],
+        out: &mut Vec<u8>,
+    ) -> Result<(), AllocError>
+        requires { self.old.lines + 1 < 2 ^ 64 }
+        ensures traced { OnOk result
+            (TracesLine self.old (held.old.items ++ text.now) self.new out.old.items out.new.items) }
+        ensures held { OnOk result (held.new.items ≡ []) }
+    {
+        held.extend_from_slice(text)?;
+        self.take_line(alloc, held.as_slice(), out)?;
+        held.clear();
+        Ok(())
+    }
+
+    /// Takes a line behind the config that stands within a piece. Its words take the place of those in `words`.
+    /// `take_line` isn't called for it, since what opens a run takes much of the stack.
+    fn take_within<'p>(
+        &mut self,
+        alloc: Global,
+        line: &'p [u8],
+        words: &mut Vec<&'p [u8]>,
+        out: &mut Vec<u8>,
+    ) -> Result<(), AllocError>
+        requires few { self.old.lines + 1 < 2 ^ 64 }
+        requires run { is_some self.old.tracing.run ≡ true }
+        ensures { OnOk result (TracesLine self.old line.now self.new out.old.items out.new.items) }
+    {
+        self.lines += 1;
+        split(line, words)?;
+        if words.is_empty() {
+            Ok(())
+        } else {
+            self.take_step(alloc, words.as_slice(), out)
+        }
     }
 
     /// Takes the last line, where it hasn't ended, and appends what stands at the end.
@@ -218,19 +284,47 @@ impl Tracer {
         ensures { OnOk result (Traces self.old (trace_words self.old.columns self.old.tracing self.old.lines (map (λ word. word.now) words.now)
             self.old.tracing.run) self.new out.old.items out.new.items) }
     {
-        let line = self.lines;
-        match &mut self.run {
+        match &self.run {
             None if self.has_ended => Ok(()),
             None => self.take_config(alloc, words, out),
+            Some(_) => self.take_step(alloc, words, out),
+        }
+    }
+
+    /// Takes the words of a line behind the config.
+    fn take_step(
+        &mut self,
+        alloc: Global,
+        words: &[&[u8]],
+        out: &mut Vec<u8>,
+    ) -> Result<(), AllocError>
+        requires { is_some self.old.tracing.run ≡ true }
+        ensures { OnOk result (Traces self.old (trace_words self.old.columns self.old.tracing self.old.lines (map (λ word. word.now) words.now)
+            self.old.tracing.run) self.new out.old.items out.new.items) }
+    {
+        let line = self.lines;
+        match &mut self.run {
+            None => unreachable!(),
             Some(run) if self.has_ended => {
                 self.has_faulted = true;
                 put_wrong(out, &at_word(0, Wanted::NoLine), line, words, run.names())
             }
-            Some(run) => match run.take(alloc, line, words, &mut self.plain, &mut self.expected) {
-                Ok(Some(taken)) => {
-                    put_row(out, self.columns, line, self.plain.as_slice(), &taken)
-                }
-                Ok(None) => {
+            Some(run) => match run.take(
+                alloc,
+                line,
+                words,
+                &mut self.plain,
+                &mut self.expected,
+                &mut self.taken,
+            ) {
+                Ok(Came::Step) => put_row(
+                    out,
+                    self.columns,
+                    line,
+                    self.plain.as_slice(),
+                    &self.taken,
+                ),
+                Ok(Came::End) => {
                     self.has_ended = true;
                     Ok(())
                 }

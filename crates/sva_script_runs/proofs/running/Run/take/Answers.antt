@@ -17,6 +17,6 @@ returns-in-Ok-name c =
     (subst (λ (found : Option Step). Reads (line_read c.self.inside.names (link_of (Some c.self.inside.world)) parts) c.read_line.new.plain.items
     c.read_line.new.expected.items (Ok found)) c.in-Ok-Some.field-0-is c.in-Ok-Some.ensures) in
     line_taken c.args.self.now c.apply.new.self c.name.new.self c.args.line parts
-    (option_map (λ (name : Bor (List ℕ)). name.now) c.parts_of.result.name)
-    c.read_line.new.plain.items c.read_line.new.expected.items (read_at c.args.self.now parts) c.in-Ok-Some.step c.in-Ok.taken reads
-    c.in-Ok.ensures c.parts_of.ensures.name c.in-Ok-name.ensures
+    (option_map (λ (name : Bor (List ℕ)). name.now) c.name_in.result)
+    c.read_line.new.plain.items c.read_line.new.expected.items (read_at c.args.self.now parts) c.in-Ok-Some.step c.apply.new.taken reads
+    c.in-Ok.ensures c.name_in.ensures c.in-Ok-name.ensures

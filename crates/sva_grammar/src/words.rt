@@ -55,15 +55,25 @@ impl<'a> Words<'a> {
         }
     }
 
+    /// Takes the first line of a text in the place of the line before, and returns how long it is.
+    pub(crate) fn take_first(&mut self, text: &'a [u8]) -> usize
+        ensures line { self.new ≡ line_in text.now }
+        ensures len { result ≡ line_len text.now }
+        ensures within { result ≤ length text.now }
+    {
+        let (count, len) = find_words(text, &mut self.places);
+        self.count = count;
+        self.line = &text[..len];
+        len
+    }
+
     /// Takes the first line of a text in the place of the line before, and returns what follows it.
     pub(crate) fn take_line(&mut self, text: &'a [u8]) -> &'a [u8]
         requires { 0 < length text.now }
         ensures lines { lines_of text.now ≡ self.new ∷ lines_of result.now }
         ensures shorter { length result.now < length text.now }
     {
-        let (count, len) = find_words(text, &mut self.places);
-        self.count = count;
-        self.line = &text[..len];
+        let len = self.take_first(text);
         if len == text.len() {
             return &[];
         }
@@ -103,7 +113,9 @@ impl<'a> Words<'a> {
     pub(crate) fn begins_with(&self, name: &[u8]) -> bool
         ensures { result ≡ bytes_eq (word 0 (words_of self.now)) name.now }
     {
-        self.word(0) == name
+        let word = self.word(0);
+        // Most names have another length.
+        word.len() == name.len() && word == name
     }
 
     /// `WordCount` unless the line has so many words.

@@ -9,17 +9,19 @@ use Rattle.sva_grammar.proofs.words.Words.take_line.Goals as goal
 pub returns-then-len-text-clause-lines : goal.returns-then-len-text-clause-lines
 returns-then-len-text-clause-lines c =
     let text = c.args.text.now in
-    let whole = c.if-len-text.true in
-    lines_of-last text c.requires (sym (c.find_words-count.ensures.len) ∙ whole)
-    ∙ ap (λ line. line ∷ []) (sym (ap (λ n. take n text) whole ∙ take-length text))
+    let whole = sym c.take_first-len.ensures.len ∙ c.if-len-text.true in
+    lines_of-last text c.requires whole
+    ∙ ap (λ line. line ∷ []) (sym (c.take_first-len.ensures.line ∙ ap (λ n. take n text) whole ∙ take-length text))
 
 pub returns-clause-lines : goal.returns-clause-lines
 returns-clause-lines c =
     let text = c.args.text.now in
-    let len = c.find_words-count.result.1 in
-    let is : line_len text ≡ len = sym (c.find_words-count.ensures.len) in
+    let len = c.take_first-len.result in
+    let line = c.take_first-len.new.self in
+    let is : line_len text ≡ len = sym c.take_first-len.ensures.len in
     let next : suc len ≡ len + 1 = omega arith in
-    lines_of-first text (omega (arith, is, c.if-len-text.false, c.find_words-count.ensures.within))
-    ∙ ap (λ n. take n text ∷ lines_of (drop (suc n) text)) is
-    ∙ ap (λ n. take len text ∷ lines_of (drop n text)) next
-    ∙ ap (λ rest. take len text ∷ lines_of rest) (sym (take_rest text (len + 1)))
+    lines_of-first text (omega (arith, is, c.if-len-text.false, c.take_first-len.ensures.within))
+    ∙ ap (λ first. first ∷ lines_of (drop (suc (line_len text)) text)) (sym c.take_first-len.ensures.line)
+    ∙ ap (λ n. line ∷ lines_of (drop (suc n) text)) is
+    ∙ ap (λ n. line ∷ lines_of (drop n text)) next
+    ∙ ap (λ rest. line ∷ lines_of rest) (sym (take_rest text (len + 1)))

@@ -29,8 +29,9 @@ by_plain old mid new line parts name (Some plain) step taken is applies same nam
       }),
     )
 
-pub line_taken : (old mid new : Running) (line : ℕ) (parts : Parts) (name : Option (List ℕ)) (text expected : List ℕ) (read : Result LineRead Wrong) (step : Step)
-    (taken : Taken) → Reads read text expected (Ok (Some step)) → Applies old step mid taken (Ok tt) → name ≡ parts.name
+pub line_taken : (old mid new : Running) (line : ℕ) (parts : Parts) (name : Option (List ℕ)) (text expected : List ℕ)
+    (read : Result LineRead Wrong) (step : Step) (taken : Taken)
+    → Reads read text expected (Ok (Some step)) → Applies old step mid taken (Ok tt) → name ≡ parts.name
     → IsNamed mid line name taken.told new (Ok tt) → TakesRead old line parts new text expected read (Ok (Some taken))
 line_taken old mid new line parts name text expected (Ok read) step taken reads applies same named =
     let both = by_plain old mid new line parts name read.step step taken reads.0 applies same named in (both.0, both.1, reads.1, reads.2)

@@ -119,6 +119,11 @@ row_told now seen running after words text expected old new taken same is open_y
     ∙ row_by now running after words text expected taken (read_at running (parts_of words)) takes in (
       ap (λ (t : Tracer). t.columns) same,
       ap (λ (t : Tracer). t.lines) same,
-      (λ i. record { run = Some after; has_ended = ap (λ (t : Tracer). t.tracing.has_ended) same i; has_faulted = ap (λ (t : Tracer). t.tracing.has_faulted) same i }) ∙ sym (ap (λ (t : Traced). t.0) traced),
+      (λ i. record {
+        run = Some after;
+        has_ended = ap (λ (t : Tracer). t.tracing.has_ended) same i;
+        has_faulted = ap (λ (t : Tracer). t.tracing.has_faulted) same i;
+      })
+          ∙ sym (ap (λ (t : Traced). t.0) traced),
       told ∙ ap (λ l. old ++ l) (sym (ap (λ (t : Traced). t.1) traced)),
     )

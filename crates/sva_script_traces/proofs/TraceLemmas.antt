@@ -1,6 +1,6 @@
 -- A trace, line by line and piece by piece.
-use Rattle.std.proofs.Common.{◌≡◌, ◌∙◌, ap, refl, subst, sym, arith, ℕ, suc, ◌+◌, ◌<◌, ◌==◌, Bool, true, false, ◌||◌, cond, List, [], ◌∷◌, ◌++◌, append-nil, append_assoc}
-use Rattle.std.proofs.Common.{length, ltb, not, take, drop, Some, None, ◌≤◌}
+use Rattle.std.proofs.Common.{◌≡◌, ◌∙◌, ap, refl, subst, sym, arith, ℕ, suc, ◌+◌, ◌<◌, ◌==◌, Bool, true, false, ◌||◌, cond, List, [], ◌∷◌, ◌++◌}
+use Rattle.std.proofs.Common.{append-nil, append_assoc, length, ltb, not, take, drop, Some, None, ◌≤◌}
 use Rattle.std.specs.List.{enumerate_from, list_any, position, prefix_len}
 use Rattle.std.proofs.lemmas.List.{length-append}
 use Rattle.std.proofs.lemmas.List.Folds.{list_any-append}
@@ -124,7 +124,8 @@ piece_line start now next held piece left rest front more before out new so_far 
       appended = taken.3 ∙ ap (λ l. l ++ said) so_far.appended ∙ append_assoc before so_far.text said;
       whole = λ after.
           let line : left ++ (rest ++ after) ≡ (left ++ front) ++ 10 ∷ (more ++ after) =
-          ap (λ l. left ++ (l ++ after)) is ∙ ap (λ l. left ++ l) (append_assoc front (10 ∷ more) after) ∙ sym (append_assoc left front (10 ∷ (more ++ after))) in
+          ap (λ l. left ++ (l ++ after)) is ∙ ap (λ l. left ++ l) (append_assoc front (10 ∷ more) after)
+          ∙ sym (append_assoc left front (10 ∷ (more ++ after))) in
           so_far.whole after ∙ ap (λ l. then_said so_far.text (trace_rest now l)) line
           ∙ ap (then_said so_far.text) (line_taken now next (left ++ front) (more ++ after) out new (no_end-both left front so_far.no_end none) taken)
           ∙ then_both so_far.text said (trace_rest next (more ++ after));
@@ -145,7 +146,8 @@ pub line_told : (old mid new : Tracer) (line : List ℕ) (words : List (List ℕ
     → TracesLine old line new before after
 line_told old mid new line words before after is same some traces =
     let told = subst (λ (m : Tracer). Traces m (trace_words m.columns m.tracing m.lines words m.tracing.run) new before after) is traces in
-    let all : trace_words old.columns old.tracing (old.lines + 1) words old.tracing.run ≡ trace_line old.columns old.tracing (old.lines + 1) (script_words line) =
+    let all : trace_words old.columns old.tracing (old.lines + 1) words old.tracing.run
+    ≡ trace_line old.columns old.tracing (old.lines + 1) (script_words line) =
     sym (says old.columns old.tracing (old.lines + 1) words some) ∙ ap (trace_line old.columns old.tracing (old.lines + 1)) same in
     (told.0, told.1, told.2 ∙ ap (λ (t : Traced). t.0) all, told.3 ∙ ap (λ (t : Traced). before ++ t.1) all)
 

@@ -2,7 +2,8 @@ use Rattle.std.proofs.Common.{◌≡◌, ◌∙◌, ◌+◌, ◌++◌, ◌≤◌
 use Rattle.std.proofs.lemmas.List.{length-take}
 use Rattle.sva_scenario.specs.declared.streams.DriveFault.TheVariants.{Memory, Read}
 use Rattle.sva_script_traces.specs.Traces.{NoEnd, Tracer, trace_rest}
-use Rattle.sva_script_traces.proofs.InputLemmas.{TracesInput, failed_print, good, input_begins, input_breaks, input_cut, input_end_breaks, input_ends, input_goes_on, piece_said}
+use Rattle.sva_script_traces.proofs.InputLemmas.{TracesInput, failed_print, good, input_begins, input_breaks, input_cut, input_end_breaks, input_ends}
+use Rattle.sva_script_traces.proofs.InputLemmas.{input_goes_on, piece_said}
 use Rattle.sva_script_traces.proofs.tracing.Tracer.run.Goals as goal
 
 pub loop-turn-init : goal.loop-turn-init

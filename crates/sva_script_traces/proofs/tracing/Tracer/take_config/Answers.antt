@@ -14,8 +14,8 @@ returns-in-Ok c =
     config_opened c.args.self.now _ read c.in-Some.config c.in-Ok.run' c.args.out.now.items c.config_of.new.faults.items c.self.view_is c.requires.open
     (subst (λ n. ReadsConfig (config_by n words (config_read (joined_words words))) (Some c.in-Some.config) c.args.out.now.items c.config_of.new.faults.items)
     (ap (λ t. t.lines) c.self.view_is)
-    (subst (λ found. ReadsConfig (config_by c.self.inside.lines words (config_read (joined_words words))) found c.args.out.now.items c.config_of.new.faults.items)
-    c.in-Some.is c.in_ok-config.ensures))
+    (subst (λ found. ReadsConfig (config_by c.self.inside.lines words (config_read (joined_words words))) found c.args.out.now.items
+    c.config_of.new.faults.items) c.in-Some.is c.in_ok-config.ensures))
     c.in-Ok.ensures.ok.0 c.in-Ok.ensures.ok.1
 
 pub returns-in-Err-BadConfig : goal.returns-in-Err-BadConfig
@@ -27,7 +27,7 @@ returns-in-Err-BadConfig c =
     c.requires.none
     (subst (λ n. ReadsConfig (config_by n words (config_read (joined_words words))) (Some c.in-Some.config) c.args.out.now.items c.config_of.new.faults.items)
     (ap (λ t. t.lines) c.self.view_is)
-    (subst (λ found. ReadsConfig (config_by c.self.inside.lines words (config_read (joined_words words))) found c.args.out.now.items c.config_of.new.faults.items)
-    c.in-Some.is c.in_ok-config.ensures))
+    (subst (λ found. ReadsConfig (config_by c.self.inside.lines words (config_read (joined_words words))) found c.args.out.now.items
+    c.config_of.new.faults.items) c.in-Some.is c.in_ok-config.ensures))
     (c.open.ensures.bad.0 (c.in-Err-BadConfig.is ∙ ap Err c.in-Err-BadConfig.field-0-is)))
     c.put_bad_config.ensures

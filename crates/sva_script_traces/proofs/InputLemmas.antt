@@ -1,6 +1,6 @@
 -- A trace of what is read piece by piece, and written as it comes.
-use Rattle.std.proofs.Common.{◌≡◌, ◌∙◌, ap, refl, subst, sym, ℕ, false, true, List, [], ◌++◌, append-nil, Option, Some, None, IfSome}
-use Rattle.std.specs.Prelude.{OnOk, Result, Ok, Err, is_err}
+use Rattle.std.proofs.Common.{◌≡◌, ◌∙◌, ap, refl, subst, sym, ℕ, true, List, [], ◌++◌, append-nil, Option, Some, None, IfSome}
+use Rattle.std.specs.Prelude.{Result, Ok, Err, is_err}
 use Rattle.std.specs.Io.KnownBytes.{Appends, Consumes, IsAtEnd}
 use Rattle.std.proofs.KnownBytes.{Appends-nil, Appends-trans}
 use Rattle.sva_scenario.specs.declared.streams.DriveFault.{DriveFault}
@@ -12,11 +12,6 @@ use Rattle.sva_script_reading.specs.Said.{Prints}
 use Rattle.sva_script_reading.specs.Said.{Said}
 use Rattle.sva_script_traces.specs.Traces.{Tracer, TracesPiece, fresh, then_said, trace_of, trace_rest}
 use Rattle.sva_script_traces.proofs.TraceLemmas.{then_both}
-
--- what holds of a call that didn't fail
-pub good : {A E P : Type 0} (result : Result A E) → is_err result ≡ false → OnOk result P → P
-good (Ok value) is holds = holds
-good (Err fault) is holds = absurd (cc is)
 
 -- of known input: what was written so far, and what is said of what is held and of what isn't read yet, are the trace of all
 abbrev pub TracesInput : Columns → (input left written now : Option (List ℕ)) → Tracer → (held : List ℕ) → Type 0

@@ -1,8 +1,9 @@
 use Rattle.std.proofs.Common.{◌≡◌, ◌∙◌, ◌+◌, ◌++◌, ◌≤◌, [], List, Some, ap, arith, length, refl, rules, subst, sym, take, ℕ}
 use Rattle.std.proofs.lemmas.List.{length-take}
 use Rattle.sva_scenario.specs.declared.streams.DriveFault.TheVariants.{Memory, Read}
+use Rattle.sva_script.proofs.NameLemmas.{on_ok}
 use Rattle.sva_script_traces.specs.Traces.{NoEnd, Tracer, trace_rest}
-use Rattle.sva_script_traces.proofs.InputLemmas.{TracesInput, failed_print, good, input_begins, input_breaks, input_cut, input_end_breaks, input_ends}
+use Rattle.sva_script_traces.proofs.InputLemmas.{TracesInput, failed_print, input_begins, input_breaks, input_cut, input_end_breaks, input_ends}
 use Rattle.sva_script_traces.proofs.InputLemmas.{input_goes_on, piece_said}
 use Rattle.sva_script_traces.proofs.tracing.Tracer.run.Goals as goal
 
@@ -33,7 +34,7 @@ returns-then-is_err-clause-printed g c =
 pub returns-in_err-write_piece-clause-printed : goal.returns-in_err-write_piece-clause-printed
 returns-in_err-write_piece-clause-printed g c =
     let none : c.in-Some.count ≡ 0 = omega arith in
-    let said = good c.take_end.result (sym c.is_err.ensures.value ∙ c.if-is_err.false) c.take_end.ensures.said in
+    let said = on_ok c.take_end.result (sym c.is_err.ensures.value ∙ c.if-is_err.false) c.take_end.ensures.said in
     let out : c.as_slice.result.now ≡ (trace_rest c.loop-turn.self c.loop-turn.held.items).text =
     c.as_slice.ensures.value ∙ said ∙ ap (λ l. l ++ (trace_rest c.loop-turn.self c.deref.result.now).text) c.clear.ensures.items
     ∙ ap (λ held. (trace_rest c.loop-turn.self held).text) c.deref.ensures.value in
@@ -46,11 +47,11 @@ pub returns-then-count-eq0-clause-printed : goal.returns-then-count-eq0-clause-p
 returns-then-count-eq0-clause-printed g c =
     let none : c.in-Some.count ≡ 0 = omega arith in
     let fine = sym c.is_err.ensures.value ∙ c.if-is_err.false in
-    let said = good c.take_end.result fine c.take_end.ensures.said in
+    let said = on_ok c.take_end.result fine c.take_end.ensures.said in
     let out : c.as_slice.result.now ≡ (trace_rest c.loop-turn.self c.loop-turn.held.items).text =
     c.as_slice.ensures.value ∙ said ∙ ap (λ l. l ++ (trace_rest c.loop-turn.self c.deref.result.now).text) c.clear.ensures.items
     ∙ ap (λ held. (trace_rest c.loop-turn.self held).text) c.deref.ensures.value in
-    let ends = c.outcome.ensures ∙ good c.take_end.result fine c.take_end.ensures.outcome
+    let ends = c.outcome.ensures ∙ on_ok c.take_end.result fine c.take_end.ensures.outcome
     ∙ ap (λ held. (trace_rest c.loop-turn.self held).outcome) c.deref.ensures.value in
     input_ends c.args.self.now.columns _ _ _ _ _ _ c.loop-turn.self c.loop-turn.held.items (take c.in-Some.count c.read_once.new.piece)
     c.as_slice.result.now c.outcome.result c.loop-turn.invariant.traced c.in-Some.ensures.read.2 (ap (λ n. take n c.read_once.new.piece) none)
@@ -66,7 +67,7 @@ returns-in_err-write_piece-2-clause-printed g c =
     let fine = sym c.is_err-in-loop-turn.ensures.value ∙ c.if-is_err-2.false in
     let said = piece_said c.loop-turn.self c.take_piece.new.self c.loop-turn.held.items piece c.take_piece.new.held.items c.clear.new.self.items
     c.take_piece.new.out.items c.as_slice-in-loop-turn.result.now c.clear.ensures.items c.as_slice-in-loop-turn.ensures.value
-    (good c.take_piece.result fine c.take_piece.ensures.traced) in
+    (on_ok c.take_piece.result fine c.take_piece.ensures.traced) in
     failed_print c.args.self.now.columns _ _ _ c.from_residual-in_err-write_piece-2.result c.from_residual-in_err-write_piece-2.ensures.0
     (λ fault. input_breaks c.args.self.now.columns _ _ _ _ _ _ c.loop-turn.self c.take_piece.new.self c.loop-turn.held.items c.take_piece.new.held.items piece
     c.as_slice-in-loop-turn.result.now fault c.loop-turn.invariant.traced c.in-Some.ensures.read.2 said c.in_err-write_piece-2.ensures.written)
@@ -77,14 +78,14 @@ loop-turn-preserved g c =
     let fine = sym c.is_err-in-loop-turn.ensures.value ∙ c.if-is_err-2.false in
     let said = piece_said c.loop-turn.self c.take_piece.new.self c.loop-turn.held.items piece c.take_piece.new.held.items c.clear.new.self.items
     c.take_piece.new.out.items c.as_slice-in-loop-turn.result.now c.clear.ensures.items c.as_slice-in-loop-turn.ensures.value
-    (good c.take_piece.result fine c.take_piece.ensures.traced) in
-    let few = good c.take_piece.result fine c.take_piece.ensures.few in
+    (on_ok c.take_piece.result fine c.take_piece.ensures.traced) in
+    let few = on_ok c.take_piece.result fine c.take_piece.ensures.few in
     let bound : c.in-Some.count ≤ 4096 = search rules in
     let short : length piece ≤ c.in-Some.count = omega (arith, length-take c.in-Some.count c.read_once.new.piece) in
     record {
       traced = input_goes_on c.args.self.now.columns _ _ _ _ _ _ c.loop-turn.self c.take_piece.new.self c.loop-turn.held.items c.take_piece.new.held.items piece
           c.as_slice-in-loop-turn.result.now c.loop-turn.invariant.traced c.in-Some.ensures.read.2 said c.in_ok-write_piece-2.ensures.written;
-      no_end = good c.take_piece.result fine c.take_piece.ensures.held;
+      no_end = on_ok c.take_piece.result fine c.take_piece.ensures.held;
       lines = omega (arith, few, short, bound, c.loop-turn.invariant.lines);
       calls = c.read_once.ensures.calls ∙ ap (λ n. n + 1) c.loop-turn.invariant.calls;
       read = c.in-Some.ensures.read.1 ∙ c.loop-turn.invariant.read;

@@ -1,4 +1,4 @@
-use Rattle.std.proofs.Common.{◌≡◌, ◌<◌, ◌≤◌, ◌∙◌, sym, length, rules}
+use Rattle.std.proofs.Common.{◌<◌, ◌≤◌, ◌∙◌, sym, length, rules}
 use Rattle.sva_words.proofs.NearLemmas.{lent_here, lent_next, lent_none}
 use Rattle.sva_words.proofs.reserved.near.Goals as goal
 

@@ -3,7 +3,7 @@
 ghost use Rattle.std.specs.Prelude.{◌≡◌, ◌++◌, OnOk, false, flat_map, map, not, option_map};
 ghost use Rattle.std.specs.List.{list_any};
 ghost use Rattle.sva_listing.specs.Devices.{cached_line, device_lines, disabled_lines, endpoint_lines};
-ghost use Rattle.sva_listing.specs.Devices.{group_line, group_lines, noted_text, pasid_line};
+ghost use Rattle.sva_listing.specs.Devices.{group_line, group_lines, noted_text};
 ghost use Rattle.sva_listing.specs.Devices.{pasid_lines, slot_texts, tag_lines, taken_lines};
 ghost use Rattle.sva_listing.specs.Devices.{translation_text, use_lines};
 ghost use Rattle.sva_listing.specs.Pieces.{listed, rows};

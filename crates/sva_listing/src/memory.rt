@@ -1,11 +1,11 @@
 //! Spaces, frames and bindings.
 
-ghost use Rattle.std.specs.Prelude.{◌≡◌, ◌++◌, ◌≤◌, OnOk, count_by, false, flat_map, length, map};
+ghost use Rattle.std.specs.Prelude.{◌≡◌, ◌++◌, OnOk, count_by, false, flat_map, map};
 ghost use Rattle.sva_address_spaces.specs.Seen.{page_seen, pages_seen, place_seen, places_seen, target_seen};
 ghost use Rattle.sva_address_spaces.specs.Seen.{targets_seen};
 ghost use Rattle.sva_frames.specs.Reading.{holding_of};
 ghost use Rattle.sva_listing.specs.Memory.{binding_line, frame_lines, frames_line, is_free, is_mapped};
-ghost use Rattle.sva_listing.specs.Memory.{is_withheld, page_line, pages_lines, space_lines, stage_text};
+ghost use Rattle.sva_listing.specs.Memory.{is_withheld, page_line, space_lines, stage_text};
 ghost use Rattle.sva_listing.specs.Memory.{target_text, target_texts};
 ghost use Rattle.sva_listing.specs.Pieces.{listed, rows};
 ghost use Rattle.sva_snapshot.specs.Shown.{binding_shown, space_shown, stage_shown};

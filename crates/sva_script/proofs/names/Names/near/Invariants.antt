@@ -1,5 +1,4 @@
-use Rattle.std.proofs.Common.{◌≡◌, drop, map, ℕ, List}
-use Rattle.sva_script.specs.declared.given.Given.{Given}
+use Rattle.std.proofs.Common.{◌≡◌, drop}
 use Rattle.sva_script.specs.Names.{names_of}
 use Rattle.sva_words.specs.Near.{near_among}
 use Rattle.sva_script.proofs.names.Names.near.Given as goal

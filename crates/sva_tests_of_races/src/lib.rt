@@ -1,0 +1,9 @@
+//! The tests of races, by public functions alone: small races of which is known what every order leads to.
+#![tactic(auto)]
+
+#[cfg(test)]
+mod asserted;
+#[cfg(test)]
+mod races;
+#[cfg(test)]
+mod searches;

@@ -1,6 +1,6 @@
 -- What is said of lines that are wrong, one after another.
-use Rattle.std.proofs.Common.{◌≡◌, ◌∙◌, ◌<◌, ◌≤◌, ◌+◌, ap, refl, sym, ℕ, List, [], ◌∷◌, ◌++◌, append-nil, append_assoc, codes, cond, drop, get_or, length, map, take}
-use Rattle.std.proofs.Common.{Option, Some, option_map, slice_get, suc, zero}
+use Rattle.std.proofs.Common.{◌≡◌, ◌∙◌, ◌<◌, ◌≤◌, ◌+◌, ap, refl, sym, ℕ, List, [], ◌∷◌, ◌++◌, append-nil, append_assoc, codes, cond}
+use Rattle.std.proofs.Common.{drop, get_or, length, map, take, Option, Some, option_map, slice_get, suc, zero}
 use Rattle.std.specs.Prelude.{OnOk, Result, Ok, Err, decimal, flat_map, is_ok}
 use denote.Ref.{Bor}
 use Rattle.sva_script.specs.declared.faults.Wanted.{Wanted}

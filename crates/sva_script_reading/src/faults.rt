@@ -1,7 +1,8 @@
 //! What is said of a line that is wrong.
 
 ghost use Rattle.std.specs.Prelude.{◌≡◌, ◌++◌, ◌<◌, OnOk, Some, codes, flat_map, map, option_map, slice_get};
-ghost use Rattle.sva_script_reading.specs.Faults.{fault_text, given_text, hex_digit, hint_text, name_text, near_text, near_wanted, place_text, shown_byte, shown_word, takes_names};
+ghost use Rattle.sva_script_reading.specs.Faults.{fault_text, given_text, hex_digit, hint_text, name_text, near_text};
+ghost use Rattle.sva_script_reading.specs.Faults.{near_wanted, place_text, shown_byte, shown_word, takes_names};
 ghost use Rattle.sva_script_reading.specs.Faults.{told_text, wanted_text, word_text};
 ghost use Rattle.sva_script_reading.specs.Begins.{fault_of};
 ghost use Rattle.sva_script.specs.Names.{name_and_nth};

@@ -7,7 +7,8 @@ ghost use Rattle.sva_script.specs.Names.{given_of};
 ghost use Rattle.sva_script_runs.specs.Runs.{with_name};
 ghost use Rattle.sva_script_reading.specs.Said.{faults_text};
 ghost use Rattle.sva_script_reading.specs.Reading.{BeginsWith, HasConfig, ReadsConfig, ReadsLine, ReadsWords};
-ghost use Rattle.sva_script_reading.specs.Begins.{begin_of, config_by, config_in, config_wrong, faults_from, first_config, good_counts, joined_words, lines_from, noted};
+ghost use Rattle.sva_script_reading.specs.Begins.{begin_of, config_by, config_in, config_wrong, faults_from};
+ghost use Rattle.sva_script_reading.specs.Begins.{first_config, good_counts, joined_words, lines_from, noted};
 
 use crate::faults::put_wrong;
 use crate::lines::{Lines, is_too_large};

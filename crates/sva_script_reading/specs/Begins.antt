@@ -24,7 +24,7 @@ use Rattle.sva_script_reading.specs.Faults.{Fault}
 use Rattle.sva_script_reading.specs.Said.{Said, bad, faulty}
 use Rattle.sva_script_runs.specs.Lines.{LineRead, line_read, named}
 use Rattle.sva_script_runs.specs.Messages.{link_of}
-use Rattle.sva_script_runs.specs.Runs.{behind, with_name}
+use Rattle.sva_script_runs.specs.Runs.{with_name}
 
 -- a line: its number, and its text
 abbrev pub Line : Type 0

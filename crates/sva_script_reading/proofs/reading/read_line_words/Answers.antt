@@ -1,7 +1,6 @@
-use Rattle.std.proofs.Common.{◌≡◌, ◌∙◌, ◌++◌, ◌∷◌, [], List, Bool, ap, append-nil, map, rules, sym, ℕ, true}
+use Rattle.std.proofs.Common.{◌≡◌, ◌∙◌, ◌++◌, ◌∷◌, [], List, ap, append-nil, map, rules, sym, ℕ, true}
 use denote.Ref.{Bor}
 use Rattle.sva_script.specs.declared.faults.Wanted.TheVariants as wanted
-use Rattle.sva_script.specs.Names.{Known}
 use Rattle.sva_script_reading.specs.Faults.{Fault, fault_text}
 use Rattle.sva_script_reading.specs.Begins.{at_word, fault_of, faults_at}
 use Rattle.sva_script_reading.proofs.BeginLemmas.{past, some_words}

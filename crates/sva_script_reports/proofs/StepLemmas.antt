@@ -1,6 +1,6 @@
 -- What a line comes to that is taken.
-use Rattle.std.proofs.Common.{◌≡◌, ◌∙◌, ap, refl, subst, sym, ℕ, ◌+◌, false, not, List, [], ◌∷◌, ◌++◌, append-nil, if◌then◌else◌, Option, Some, None, Bool, true}
-use Rattle.std.specs.Prelude.{OnOk, Result, Ok, Err, codes, cond, drop, is_none}
+use Rattle.std.proofs.Common.{◌≡◌, ◌∙◌, ap, refl, subst, sym, ℕ, ◌+◌, false, not, List, [], ◌∷◌, ◌++◌, append-nil, if◌then◌else◌, Option, Some, None}
+use Rattle.std.specs.Prelude.{Bool, true, OnOk, Result, Ok, Err, codes, cond, drop, is_none}
 use Rattle.sva_model.specs.Wire.{Wire}
 use Rattle.sva_grammar.specs.Grammar.{◌>>=◌}
 use Rattle.sva_scenario.specs.Report.{counts_text, ended, reply_text}
@@ -73,7 +73,8 @@ test_wrong_by : (before after : Running) (line : ℕ) (words : List (List ℕ)) 
     (read : Result LineRead Wrong) (wrong : Wrong) → TakesRead before line (parts_of words) after text expected read (Err (stop.Wrong wrong))
     → test_read before line words count rest read ≡ faulty (fault_of before.known line words wrong ∷ [])
 test_wrong_by before after line words text expected count rest (Ok read) wrong takes = absurd takes
-test_wrong_by before after line words text expected count rest (Err found) wrong takes = ap (λ w. faulty (fault_of before.known line words w ∷ [])) (sym takes.0)
+test_wrong_by before after line words text expected count rest (Err found) wrong takes =
+    ap (λ w. faulty (fault_of before.known line words w ∷ [])) (sym takes.0)
 
 pub test_wrong : (before after : Running) (line : ℕ) (words : List (List ℕ)) (text expected : List ℕ) (count : ℕ) (rest : ℕ → Bool → At → Said) (wrong : Wrong)
     → Takes before line (parts_of words) after text expected (Err (stop.Wrong wrong))
@@ -114,7 +115,8 @@ abbrev pub step_told : Option Taken → (text : List ℕ) → List ℕ
 step_told None text = codes "end"
 step_told (Some taken) text = text
 
-answer_is : (before : Running) (step : Option Plain) (taken : Option Taken) → TellsStep before.seen step taken → answer_at before.seen step ≡ answered before.seen taken
+answer_is : (before : Running) (step : Option Plain) (taken : Option Taken) → TellsStep before.seen step taken
+    → answer_at before.seen step ≡ answered before.seen taken
 answer_is before None None tells = refl
 answer_is before (Some plain) (Some taken) tells = ap (λ (told : Told). reply_text told.reply) (sym tells.told)
 answer_is before None (Some taken) tells = absurd tells
@@ -152,11 +154,12 @@ made_by before after line words text expected count rest (Ok read) taken is take
     read.expected) (sym takes.1)
     ∙ by_expected line (told_step read.step) (answer_at before.seen read.step) expected count (λ more. rest more (is_none read.step) (behind_line after))
     read.expected takes.3
-    ∙ (λ i. test_made (not (sym kind i)) line (told_is before read.step taken text takes.0 takes.2 i) (answer_is before read.step taken takes.0 i) expected count
-    (λ more. rest more (last i) (behind_line after)))
+    ∙ (λ i. test_made (not (sym kind i)) line (told_is before read.step taken text takes.0 takes.2 i) (answer_is before read.step taken takes.0 i)
+    expected count (λ more. rest more (last i) (behind_line after)))
 made_by before after line words text expected count rest (Err wrong) taken is takes = absurd takes.0
 
-pub test_done : (before after : Running) (line : ℕ) (words : List (List ℕ)) (text expected : List ℕ) (count : ℕ) (rest : ℕ → Bool → At → Said) (taken : Option Taken)
+pub test_done : (before after : Running) (line : ℕ) (words : List (List ℕ)) (text expected : List ℕ) (count : ℕ) (rest : ℕ → Bool → At → Said)
+    (taken : Option Taken)
     → Takes before line (parts_of words) after text expected (Ok taken)
     → test_step before line words count rest
     ≡ test_made (not (is_none (parts_of words).expected)) line (step_told taken text) (answered before.seen taken) expected count
@@ -214,8 +217,8 @@ line_failed before after line words given told answer expected old new is_last k
 
 -- an answer that differs
 pub line_differs : (before after : Running) (line : ℕ) (words given : List (List ℕ)) (told answer expected shown old new : List ℕ) (is_last : Bool)
-    → given ≡ words → AnswersLine before line given after told answer expected (Ok is_last) → is_none (parts_of given).expected ≡ false → shown ≡ drop 1 expected
-    → is_expected shown answer ≡ false → new ≡ old ++ miss_text line told shown answer
+    → given ≡ words → AnswersLine before line given after told answer expected (Ok is_last) → is_none (parts_of given).expected ≡ false
+    → shown ≡ drop 1 expected → is_expected shown answer ≡ false → new ≡ old ++ miss_text line told shown answer
     → Compares before line words old new is_last after (Ok Differs)
 line_differs before after line words given told answer expected shown old new is_last same answers some is differs appended =
     subst (λ ws. Compares before line ws old new is_last after (Ok Differs)) same (

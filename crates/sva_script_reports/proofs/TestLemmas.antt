@@ -17,7 +17,8 @@ follows count past before all left line words is same =
     ap (test_from count past before) is ∙ ap (test_line before past line count (λ more past next. test_from more past next left)) (sym same)
 
 -- an answer that is as expected
-pub test_same : (whole : Said) (was_past is_past : Bool) (before after : At) (line : Line) (words : List (List ℕ)) (old new : List ℕ) (all left : List Line) (count more : ℕ)
+pub test_same : (whole : Said) (was_past is_past : Bool) (before after : At) (line : Line) (words : List (List ℕ)) (old new : List ℕ)
+    (all left : List Line) (count more : ℕ)
     → whole ≡ test_from count was_past before all → all ≡ line ∷ left → words ≡ script_words line.1 → more ≡ count + 1
     → ComparesWords before was_past line.0 words old new is_past after (Ok Same) → whole ≡ test_from more is_past after left
 test_same whole was_past is_past before after line words old new all left count more so_far is same one compares =
@@ -25,14 +26,16 @@ test_same whole was_past is_past before after line words old new all left count 
     ∙ ap (λ n. test_from n is_past after left) (sym one)
 
 -- a line of which nothing is expected
-pub test_passed : (whole : Said) (was_past is_past : Bool) (before after : At) (line : Line) (words : List (List ℕ)) (old new : List ℕ) (all left : List Line) (count : ℕ)
+pub test_passed : (whole : Said) (was_past is_past : Bool) (before after : At) (line : Line) (words : List (List ℕ)) (old new : List ℕ)
+    (all left : List Line) (count : ℕ)
     → whole ≡ test_from count was_past before all → all ≡ line ∷ left → words ≡ script_words line.1
     → ComparesWords before was_past line.0 words old new is_past after (Ok NotExpected) → whole ≡ test_from count is_past after left
 test_passed whole was_past is_past before after line words old new all left count so_far is same compares =
     so_far ∙ follows count was_past before all left line words is same ∙ compares.1 line.1 count (λ more past next. test_from more past next left)
 
 -- an answer that differs
-pub test_stopped : (whole : Said) (was_past is_past : Bool) (before after : At) (line : Line) (words : List (List ℕ)) (old new : List ℕ) (all left : List Line) (count : ℕ)
+pub test_stopped : (whole : Said) (was_past is_past : Bool) (before after : At) (line : Line) (words : List (List ℕ)) (old new : List ℕ)
+    (all left : List Line) (count : ℕ)
     → whole ≡ test_from count was_past before all → all ≡ line ∷ left → words ≡ script_words line.1 → old ≡ []
     → ComparesWords before was_past line.0 words old new is_past after (Ok Differs) → IsSaid whole new (Ok Faulted)
 test_stopped whole was_past is_past before after line words old new all left count so_far is same none compares =

@@ -15,12 +15,13 @@ loop-number-preserved-in-Same c =
     let before : At = record { is_config = c.loop-number.is_config; running = c.loop-number.run } in
     let after : At = record { is_config = c.test_words.new.is_config; running = c.test_words.new.run } in
     let words = map {A = Bor (List ℕ)} {B = List ℕ} (λ word. word.now) c.split.new.words.items in
-    let compares : ComparesWords before c.loop-number.is_past c.in-Some.number words c.loop-number.out.items c.test_words.new.out.items c.test_words.new.is_past after (Ok Same) =
-    subst (λ r. ComparesWords before c.loop-number.is_past c.in-Some.number words c.loop-number.out.items c.test_words.new.out.items c.test_words.new.is_past after (Ok r)) c.in-Same.is
-    c.in_ok-test_words.ensures in
+    let compares : ComparesWords before c.loop-number.is_past c.in-Some.number words c.loop-number.out.items c.test_words.new.out.items
+    c.test_words.new.is_past after (Ok Same) =
+    subst (λ r. ComparesWords before c.loop-number.is_past c.in-Some.number words c.loop-number.out.items c.test_words.new.out.items
+    c.test_words.new.is_past after (Ok r)) c.in-Same.is c.in_ok-test_words.ensures in
     record {
-      whole = test_same _ c.loop-number.is_past c.test_words.new.is_past before after (c.in-Some.number, c.in-Some.line.now) words c.loop-number.out.items c.test_words.new.out.items _
-          (lines_from (c.next.new.self.number + 1) c.next.new.self.rest.now) c.loop-number.count (c.loop-number.count + 1)
+      whole = test_same _ c.loop-number.is_past c.test_words.new.is_past before after (c.in-Some.number, c.in-Some.line.now) words c.loop-number.out.items
+          c.test_words.new.out.items _ (lines_from (c.next.new.self.number + 1) c.next.new.self.rest.now) c.loop-number.count (c.loop-number.count + 1)
           c.loop-number.invariant.whole c.in-Some.ensures.line c.in_ok-split.ensures refl compares;
       out = compares.0 ∙ c.loop-number.invariant.out;
       few = omega (arith, c.loop-number.invariant.few, c.in-Some.ensures.shorter);
@@ -31,12 +32,14 @@ loop-number-preserved c =
     let before : At = record { is_config = c.loop-number.is_config; running = c.loop-number.run } in
     let after : At = record { is_config = c.test_words.new.is_config; running = c.test_words.new.run } in
     let words = map {A = Bor (List ℕ)} {B = List ℕ} (λ word. word.now) c.split.new.words.items in
-    let compares : ComparesWords before c.loop-number.is_past c.in-Some.number words c.loop-number.out.items c.test_words.new.out.items c.test_words.new.is_past after (Ok NotExpected) =
-    subst (λ r. ComparesWords before c.loop-number.is_past c.in-Some.number words c.loop-number.out.items c.test_words.new.out.items c.test_words.new.is_past after (Ok r)) c.in-NotExpected.is
-    c.in_ok-test_words.ensures in
+    let compares : ComparesWords before c.loop-number.is_past c.in-Some.number words c.loop-number.out.items c.test_words.new.out.items
+    c.test_words.new.is_past after (Ok NotExpected) =
+    subst (λ r. ComparesWords before c.loop-number.is_past c.in-Some.number words c.loop-number.out.items c.test_words.new.out.items
+    c.test_words.new.is_past after (Ok r)) c.in-NotExpected.is c.in_ok-test_words.ensures in
     record {
-      whole = test_passed _ c.loop-number.is_past c.test_words.new.is_past before after (c.in-Some.number, c.in-Some.line.now) words c.loop-number.out.items c.test_words.new.out.items _
-          (lines_from (c.next.new.self.number + 1) c.next.new.self.rest.now) c.loop-number.count c.loop-number.invariant.whole c.in-Some.ensures.line
+      whole = test_passed _ c.loop-number.is_past c.test_words.new.is_past before after (c.in-Some.number, c.in-Some.line.now) words c.loop-number.out.items
+          c.test_words.new.out.items _ (lines_from (c.next.new.self.number + 1) c.next.new.self.rest.now) c.loop-number.count
+          c.loop-number.invariant.whole c.in-Some.ensures.line
           c.in_ok-split.ensures compares;
       out = compares.0 ∙ c.loop-number.invariant.out;
       few = omega (arith, c.loop-number.invariant.few, c.in-Some.ensures.shorter);
@@ -47,11 +50,13 @@ returns-in-Differs c =
     let before : At = record { is_config = c.loop-number.is_config; running = c.loop-number.run } in
     let after : At = record { is_config = c.test_words.new.is_config; running = c.test_words.new.run } in
     let words = map {A = Bor (List ℕ)} {B = List ℕ} (λ word. word.now) c.split.new.words.items in
-    let compares : ComparesWords before c.loop-number.is_past c.in-Some.number words c.loop-number.out.items c.test_words.new.out.items c.test_words.new.is_past after (Ok Differs) =
-    subst (λ r. ComparesWords before c.loop-number.is_past c.in-Some.number words c.loop-number.out.items c.test_words.new.out.items c.test_words.new.is_past after (Ok r)) c.in-Differs.is
-    c.in_ok-test_words.ensures in
-    test_stopped _ c.loop-number.is_past c.test_words.new.is_past before after (c.in-Some.number, c.in-Some.line.now) words c.loop-number.out.items c.test_words.new.out.items _
-    (lines_from (c.next.new.self.number + 1) c.next.new.self.rest.now) c.loop-number.count c.loop-number.invariant.whole c.in-Some.ensures.line
+    let compares : ComparesWords before c.loop-number.is_past c.in-Some.number words c.loop-number.out.items c.test_words.new.out.items
+    c.test_words.new.is_past after (Ok Differs) =
+    subst (λ r. ComparesWords before c.loop-number.is_past c.in-Some.number words c.loop-number.out.items c.test_words.new.out.items
+    c.test_words.new.is_past after (Ok r)) c.in-Differs.is c.in_ok-test_words.ensures in
+    test_stopped _ c.loop-number.is_past c.test_words.new.is_past before after (c.in-Some.number, c.in-Some.line.now) words c.loop-number.out.items
+    c.test_words.new.out.items _ (lines_from (c.next.new.self.number + 1) c.next.new.self.rest.now) c.loop-number.count
+    c.loop-number.invariant.whole c.in-Some.ensures.line
     c.in_ok-split.ensures c.loop-number.invariant.out compares
 
 pub returns : goal.returns

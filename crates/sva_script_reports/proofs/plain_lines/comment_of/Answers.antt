@@ -1,4 +1,4 @@
-use Rattle.std.proofs.Common.{◌∙◌, List, Option, ap, drop, sym, ℕ, []}
+use Rattle.std.proofs.Common.{◌∙◌, Option, ap, drop, sym, ℕ, []}
 use Rattle.std.specs.Option.{option_map_or}
 use Rattle.sva_script.proofs.ItemLemmas.{to_end}
 use Rattle.sva_script_reports.proofs.plain_lines.comment_of.Goals as goal

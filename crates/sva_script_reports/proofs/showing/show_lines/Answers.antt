@@ -1,4 +1,4 @@
-use Rattle.std.proofs.Common.{◌≡◌, ◌∙◌, ◌+◌, [], List, false, map, rules, subst, sym, true, ℕ}
+use Rattle.std.proofs.Common.{◌≡◌, ◌∙◌, ◌+◌, List, false, map, rules, subst, sym, true, ℕ}
 use denote.Ref.{Bor}
 use Rattle.sva_script_reading.specs.Said.{IsSaid}
 use Rattle.sva_script_reading.specs.Begins.{lines_from}

@@ -1,4 +1,4 @@
-use Rattle.std.proofs.Common.{◌∙◌, List, Err, Ok, ap, map, subst, ℕ}
+use Rattle.std.proofs.Common.{◌∙◌, List, Err, ap, map, subst, ℕ}
 use denote.Ref.{Bor}
 use Rattle.sva_script.specs.Lines.{parts_of}
 use Rattle.sva_script_runs.specs.Runs.{Takes, came_of, told_in}

@@ -1,4 +1,4 @@
-use Rattle.std.proofs.Common.{◌∙◌, List, Ok, Some, None, ap, false, map, subst, true, ℕ}
+use Rattle.std.proofs.Common.{◌∙◌, List, Ok, ap, false, map, subst, true, ℕ}
 use denote.Ref.{Bor}
 use Rattle.sva_script.specs.Lines.{parts_of}
 use Rattle.sva_script_runs.specs.Runs.{Takes, came_of}

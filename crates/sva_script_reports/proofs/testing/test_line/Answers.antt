@@ -1,4 +1,4 @@
-use Rattle.std.proofs.Common.{◌≡◌, ◌∙◌, ◌++◌, List, Err, Ok, ap, drop, false, map, rules, subst, ℕ}
+use Rattle.std.proofs.Common.{◌≡◌, ◌∙◌, ◌++◌, List, Err, ap, drop, false, map, rules, subst, ℕ}
 use Rattle.std.specs.Prelude.{is_none}
 use denote.Ref.{Bor}
 use Rattle.sva_script.specs.Lines.{parts_of}

@@ -1,4 +1,4 @@
-use Rattle.std.proofs.Common.{◌≡◌, ◌∙◌, ◌+◌, ◌++◌, [], arith, ap, length, List, map, Ok, refl, rules, subst, sym, ℕ}
+use Rattle.std.proofs.Common.{◌∙◌, ◌+◌, ◌++◌, arith, ap, List, map, Ok, refl, subst, sym, ℕ}
 use denote.Ref.{Bor}
 use Rattle.sva_scenario.specs.declared.streams.Outcome.TheVariants.{Done}
 use Rattle.sva_script_reports.specs.declared.testing.Compared.TheVariants.{Differs, NotExpected, Same}

@@ -1,4 +1,4 @@
-use Rattle.std.proofs.Common.{◌≡◌, ◌+◌, ◌≤◌, ◌<◌, ◌^◌, [], false, true, length}
+use Rattle.std.proofs.Common.{◌≡◌, ◌+◌, ◌<◌, ◌^◌, [], false, true, length}
 use Rattle.sva_script_reading.specs.Begins.{lines_from}
 use Rattle.sva_script_reports.specs.Scripts.{test_from}
 use Rattle.sva_script_reports.proofs.testing.test_lines.Given as goal

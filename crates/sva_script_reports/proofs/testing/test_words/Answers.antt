@@ -1,4 +1,4 @@
-use Rattle.std.proofs.Common.{◌≡◌, ◌∙◌, [], List, ap, map, rules, ℕ}
+use Rattle.std.proofs.Common.{◌≡◌, [], List, ap, map, rules, ℕ}
 use denote.Ref.{Bor}
 use Rattle.sva_script_reading.proofs.BeginLemmas.{some_words}
 use Rattle.sva_script_reports.proofs.EndLemmas.{told_behind_end}

@@ -11,7 +11,8 @@ use Rattle.sva_scenario.proofs.driving.report_steps.Goals as goal
 pub loop-step-init : goal.loop-step-init
 loop-step-init g c = record {
   reports = λ config taken fits seen.
-      reporting_start config taken c.args.steps.now c.args.world.now (g.W.Write.contents c.args.writer.now.inner) c.args.held.now.items c.requires.nothing fits seen;
+      reporting_start config taken c.args.steps.now c.args.world.now (g.W.Write.contents c.args.writer.now.inner)
+      c.args.held.now.items c.requires.nothing fits seen;
   calls = omega (arith, ap length c.requires.nothing);
   failures = c.requires.new.1;
 }
@@ -34,8 +35,8 @@ loop-step-preserved g c = record {
 pub returns-in_err-flush-clause-report : goal.returns-in_err-flush-clause-report
 returns-in_err-flush-clause-report g c = λ config taken fits seen.
     writes_front _ _ _ c.from_residual.result c.from_residual.ensures.0
-    (reporting_stop {A = Unit {0}} config c.loop-step.world _ _ _ _ _ c.loop-step.held.items (Err c.in_err-flush.field-0.0) (c.loop-step.invariant.reports config taken fits seen)
-    c.in_err-flush.ensures.written)
+    (reporting_stop {A = Unit {0}} config c.loop-step.world _ _ _ _ _ c.loop-step.held.items (Err c.in_err-flush.field-0.0)
+    (c.loop-step.invariant.reports config taken fits seen) c.in_err-flush.ensures.written)
 
 pub returns-in_err-hold_reply-clause-report : goal.returns-in_err-hold_reply-clause-report
 returns-in_err-hold_reply-clause-report g c = λ config taken fits seen.

@@ -32,7 +32,7 @@ pub(crate) fn race(
     alloc: Global,
     said: &[Said],
     before: usize,
-    literals: &[Literal],
+    condition: Vec<Vec<Literal>>,
 ) -> Result<Race, AllocError> {
     let mut lines = Vec::new(alloc);
     for (number, said) in said.iter().enumerate() {
@@ -41,7 +41,7 @@ pub(crate) fn race(
     let mut claims = Vec::new(alloc);
     claims.push(Claim {
         claiming: Claiming::Sometimes,
-        condition: Vec::from_slice(alloc, literals)?,
+        condition,
     })?;
     Ok(Race {
         config: Config {

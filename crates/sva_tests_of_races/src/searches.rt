@@ -64,10 +64,10 @@ fn either(
 }
 
 /// What is found of a race of two lines, the second of which stands behind the first, or in a thread of its own.
-fn found(
+fn found<'a>(
     alloc: Global,
-    first: &str,
-    second: &str,
+    first: &'a str,
+    second: &'a str,
     is_one_thread: bool,
     condition: Result<Vec<Vec<Literal>>, AllocError>,
 ) -> Result<Found<Choice, End>, AllocError> {

@@ -46,7 +46,7 @@ fn put_pasids(out: &mut Vec<u8>, endpoint: u64, states: &[PasidState]) -> Result
 }
 
 /// Appends what a translation, or a use of one, is of.
-fn put_translation(
+pub fn put_translation(
     out: &mut Vec<u8>,
     pasid: u64,
     page: u64,

@@ -70,7 +70,7 @@ fn put_binding(out: &mut Vec<u8>, binding: &Binding) -> Result<(), AllocError>
 }
 
 /// Appends a stage.
-fn put_stage(out: &mut Vec<u8>, stage: Stage) -> Result<(), AllocError>
+pub fn put_stage(out: &mut Vec<u8>, stage: Stage) -> Result<(), AllocError>
     ensures { OnOk result (out.new.items ≡ out.old.items ++ stage_text (stage_shown stage)) }
 {
     match stage {

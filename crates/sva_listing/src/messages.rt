@@ -150,7 +150,7 @@ fn put_invalidated(out: &mut Vec<u8>, vector: u32, count: u8) -> Result<(), Allo
 }
 
 /// Appends a message: the word for its kind, and its fields.
-fn put_kind(out: &mut Vec<u8>, kind: &Kind) -> Result<(), AllocError>
+pub fn put_kind(out: &mut Vec<u8>, kind: &Kind) -> Result<(), AllocError>
     ensures { OnOk result (out.new.items ≡ out.old.items ++ message_text (kind_seen kind.now)) }
 {
     match kind {
@@ -219,7 +219,7 @@ fn stays_behind(newer: &Kind, older: &Kind) -> bool
 }
 
 /// Does one message hold another back?
-fn holds_back(newer: &Flight, older: &Flight) -> bool
+pub fn holds_back(newer: &Flight, older: &Flight) -> bool
     ensures { result ≡ holds_back (flight_shown newer.now) (flight_shown older.now) }
 {
     older.number < newer.number
@@ -228,7 +228,7 @@ fn holds_back(newer: &Flight, older: &Flight) -> bool
 }
 
 /// The number of the oldest message that holds a message back.
-fn held_back_by(flight: &Flight, flights: &[Flight]) -> Option<u64>
+pub fn held_back_by(flight: &Flight, flights: &[Flight]) -> Option<u64>
     ensures oldest { result ≡ option_map (λ older. older.number)
         (find (holds_back (flight_shown flight.now)) (map flight_shown flights.now)) }
     ensures any { is_some result ≡ list_any (holds_back (flight_shown flight.now)) (map flight_shown flights.now) }

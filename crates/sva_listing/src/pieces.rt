@@ -15,7 +15,7 @@ use sva_snapshot::{Ask, PageRequest};
 const HEAD: usize = 11;
 
 /// Appends a word and a number.
-pub(crate) fn put_field(out: &mut Vec<u8>, word: &str, number: u64) -> Result<(), AllocError>
+pub fn put_field(out: &mut Vec<u8>, word: &str, number: u64) -> Result<(), AllocError>
     ensures { OnOk result (out.new.items ≡ out.old.items ++ field word.now number) }
 {
     out.extend_from_slice(word.as_bytes())?;
@@ -40,21 +40,21 @@ pub(crate) fn put_head(out: &mut Vec<u8>, word: &str, number: u64) -> Result<(),
 }
 
 /// Appends a word.
-pub(crate) fn put_word(out: &mut Vec<u8>, word: &str) -> Result<(), AllocError>
+pub fn put_word(out: &mut Vec<u8>, word: &str) -> Result<(), AllocError>
     ensures { OnOk result (out.new.items ≡ out.old.items ++ word.now) }
 {
     out.extend_from_slice(word.as_bytes())
 }
 
 /// Appends a word where something holds.
-pub(crate) fn put_if(out: &mut Vec<u8>, holds: bool, word: &str) -> Result<(), AllocError>
+pub fn put_if(out: &mut Vec<u8>, holds: bool, word: &str) -> Result<(), AllocError>
     ensures { OnOk result (out.new.items ≡ out.old.items ++ word_if holds word.now) }
 {
     if holds { put_word(out, word) } else { Ok(()) }
 }
 
 /// Ends a line.
-pub(crate) fn end_line(out: &mut Vec<u8>) -> Result<(), AllocError>
+pub fn end_line(out: &mut Vec<u8>) -> Result<(), AllocError>
     ensures { OnOk result (out.new.items ≡ out.old.items ++ line_end) }
 {
     match out.push(b'\n') {
@@ -98,7 +98,7 @@ pub(crate) fn put_range(out: &mut Vec<u8>, range: Range) -> Result<(), AllocErro
 }
 
 /// Appends the pages of an invalidation.
-pub(crate) fn put_extent(out: &mut Vec<u8>, extent: Extent) -> Result<(), AllocError>
+pub fn put_extent(out: &mut Vec<u8>, extent: Extent) -> Result<(), AllocError>
     ensures { OnOk result (out.new.items ≡ out.old.items ++ extent_text (extent_seen extent)) }
 {
     match extent {

@@ -65,7 +65,7 @@ fn put_queue(out: &mut Vec<u8>, unit: u64, queue: &[Descriptor]) -> Result<(), A
 }
 
 /// Appends how many completions came of how many, once one came.
-fn put_busy(out: &mut Vec<u8>, busy: &Busy) -> Result<(), AllocError>
+pub fn put_busy(out: &mut Vec<u8>, busy: &Busy) -> Result<(), AllocError>
     ensures { OnOk result (out.new.items ≡ out.old.items ++ busy_text (busy_seen busy.now)) }
 {
     match busy {

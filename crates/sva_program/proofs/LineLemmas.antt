@@ -17,7 +17,7 @@ use Rattle.clap.specs.Walk.{finished, settled, rows_after, Names, Walk, answers_
 use Rattle.clap.proofs.OnLiterals.{clap_on_literals}
 use Rattle.clap.proofs.ValueTestLemmas.{Accepts-accepts, accepts-Accepts}
 use Rattle.sva_program.specs.declared.command.Asked.{Asked}
-use Rattle.sva_program.specs.declared.command.Asked.TheVariants.{Replay, Check, Storm, Plain, Test, Show, Trace}
+use Rattle.sva_program.specs.declared.command.Asked.TheVariants.{Replay, Check, Storm, Plain, Test, Show, Why, Trace}
 use Rattle.sva_program.specs.Command.{Asks, AsksRun, faults_of, GivesTurns, IsCommand, IsReadable, WritesTurns, apart, asked_by, attached, is_live}
 use Rattle.sva_program.specs.Command.{svahost, trace_shape, turns_by, turns_text, usual}
 use Rattle.sva_program.proofs.FlagLemmas.{dashes, is_word, leaf_words, left, right, top, tops, tops_ask}
@@ -34,6 +34,7 @@ data Bare : Type 0 where
   printing : Bare
   testing : Bare
   showing : Bare
+  explaining : Bare
 
 abbrev word_of : Bare → Text
 word_of replaying = codes "replay"
@@ -41,6 +42,7 @@ word_of checking = codes "check"
 word_of printing = codes "plain"
 word_of testing = codes "test"
 word_of showing = codes "show"
+word_of explaining = codes "why"
 
 abbrev asked_of : Bare → Asked
 asked_of replaying = Replay
@@ -48,6 +50,7 @@ asked_of checking = Check
 asked_of printing = Plain
 asked_of testing = Test
 asked_of showing = Show
+asked_of explaining = Why
 
 abbrev storm : Text
 storm = codes "storm"
@@ -59,10 +62,11 @@ abbrev names : Names
 names = names_of (built svahost)
 
 -- the command that a word names, by which of their names it is
-abbrev met_by : Bool → Bool → Bool → Bool → Bool → Bool → Bool → Option Text
-met_by a b c d e f g =
+abbrev met_by : Bool → Bool → Bool → Bool → Bool → Bool → Bool → Bool → Option Text
+met_by a b c d e f g h =
     option_map {T = Text × List Text} (λ s. s.0) (cond a (Some (word_of replaying, [])) (cond b (Some (word_of checking, [])) (cond c (Some (storm, []))
-    (cond d (Some (word_of printing, [])) (cond e (Some (word_of testing, [])) (cond f (Some (word_of showing, [])) (cond g (Some (trace, [])) None)))))))
+    (cond d (Some (word_of printing, [])) (cond e (Some (word_of testing, [])) (cond f (Some (word_of showing, []))
+    (cond g (Some (word_of explaining, [])) (cond h (Some (trace, [])) None))))))))
 
 -- the first word is the name of a command, or `--`
 data IsFirst (word : Text) : Type 0 where
@@ -78,34 +82,37 @@ or_false false e = e
 named : (name word : Text) → answers_to word (name, []) ≡ true → word ≡ name
 named name word met = sym (is_word name word (or_false _ met))
 
-command_or_dashes : (a b c d f g h : Bool) (word : Text)
+command_or_dashes : (a b c d f g y h : Bool) (word : Text)
     → (a ≡ true → word ≡ word_of replaying)
     → (b ≡ true → word ≡ word_of checking)
     → (c ≡ true → word ≡ storm)
     → (d ≡ true → word ≡ word_of printing)
     → (f ≡ true → word ≡ word_of testing)
     → (g ≡ true → word ≡ word_of showing)
+    → (y ≡ true → word ≡ word_of explaining)
     → (h ≡ true → word ≡ trace)
-    → or_else (other_fault top (met_by a b c d f g h) word nothing_held)
-    (step_fault top 1 (subcommand_or_other top.rules (met_by a b c d f g h) idle 1 word nothing_held).0
-    (subcommand_or_other top.rules (met_by a b c d f g h) idle 1 word nothing_held).1) ≡ []
+    → or_else (other_fault top (met_by a b c d f g y h) word nothing_held)
+    (step_fault top 1 (subcommand_or_other top.rules (met_by a b c d f g y h) idle 1 word nothing_held).0
+    (subcommand_or_other top.rules (met_by a b c d f g y h) idle 1 word nothing_held).1) ≡ []
     → IsFirst word
-command_or_dashes true b c d f g h word r k s p t w u e = is_bare replaying (r refl)
-command_or_dashes false true c d f g h word r k s p t w u e = is_bare checking (k refl)
-command_or_dashes false false true d f g h word r k s p t w u e = is_storm (s refl)
-command_or_dashes false false false true f g h word r k s p t w u e = is_bare printing (p refl)
-command_or_dashes false false false false true g h word r k s p t w u e = is_bare testing (t refl)
-command_or_dashes false false false false false true h word r k s p t w u e = is_bare showing (w refl)
-command_or_dashes false false false false false false true word r k s p t w u e = is_trace (u refl)
-command_or_dashes false false false false false false false word r k s p t w u e =
+command_or_dashes true b c d f g y h word r k s p t w v u e = is_bare replaying (r refl)
+command_or_dashes false true c d f g y h word r k s p t w v u e = is_bare checking (k refl)
+command_or_dashes false false true d f g y h word r k s p t w v u e = is_storm (s refl)
+command_or_dashes false false false true f g y h word r k s p t w v u e = is_bare printing (p refl)
+command_or_dashes false false false false true g y h word r k s p t w v u e = is_bare testing (t refl)
+command_or_dashes false false false false false true y h word r k s p t w v u e = is_bare showing (w refl)
+command_or_dashes false false false false false false true h word r k s p t w v u e = is_bare explaining (v refl)
+command_or_dashes false false false false false false false true word r k s p t w v u e = is_trace (u refl)
+command_or_dashes false false false false false false false false word r k s p t w v u e =
     is_dashes (is_word _ _ (dashes tops tops_ask top (bytes_eq word (codes "--")) word e))
 
 top_first : (word : Text) → turn_fault top names (walk_from nothing_held) word ≡ [] → IsFirst word
 top_first word e =
     command_or_dashes (answers_to word (word_of replaying, [])) (answers_to word (word_of checking, [])) (answers_to word (storm, []))
     (answers_to word (word_of printing, [])) (answers_to word (word_of testing, [])) (answers_to word (word_of showing, []))
-    (answers_to word (trace, [])) word (named (word_of replaying) word) (named (word_of checking) word) (named storm word)
-    (named (word_of printing) word) (named (word_of testing) word) (named (word_of showing) word) (named trace word) e
+    (answers_to word (word_of explaining, [])) (answers_to word (trace, [])) word (named (word_of replaying) word) (named (word_of checking) word)
+    (named storm word) (named (word_of printing) word) (named (word_of testing) word) (named (word_of showing) word) (named (word_of explaining) word)
+    (named trace word) e
 
 none_behind_top : (rest : List Text) → walk_fault top names (walked top.rules names (walk_from nothing_held) (codes "--")) rest ≡ [] → rest ≡ []
 unfolding clap_on_literals
@@ -138,6 +145,7 @@ bare_level checking name rest e = left _ _ (right _ _ e)
 bare_level printing name rest e = left _ _ (right _ _ e)
 bare_level testing name rest e = left _ _ (right _ _ e)
 bare_level showing name rest e = left _ _ (right _ _ e)
+bare_level explaining name rest e = left _ _ (right _ _ e)
 
 bare_leaf : (bare : Bare) (rest : List Text) → entered_fault (built svahost) (Some (word_of bare, rest)) ≡ []
     → (rest ≡ []) ⊎ (rest ≡ codes "--" ∷ [])
@@ -147,6 +155,7 @@ bare_leaf checking rest e = leaf_words rest e
 bare_leaf printing rest e = leaf_words rest e
 bare_leaf testing rest e = leaf_words rest e
 bare_leaf showing rest e = leaf_words rest e
+bare_leaf explaining rest e = leaf_words rest e
 
 bare_words : (bare : Bare) (name : Text) (rest : List Text) → fault_of svahost (name ∷ word_of bare ∷ rest) ≡ []
     → (rest ≡ []) ⊎ (rest ≡ codes "--" ∷ [])
@@ -187,6 +196,7 @@ asks_bare checking words is = (Check, is)
 asks_bare printing words is = (Plain, is)
 asks_bare testing words is = (Test, is)
 asks_bare showing words is = (Show, is)
+asks_bare explaining words is = (Why, is)
 
 asks_command : (command name : Text) (rest : List Text) → (rest ≡ []) ⊎ (rest ≡ codes "--" ∷ []) → IsCommand command (name ∷ command ∷ rest)
 asks_command command name rest (inl none) = (name, inl (ap (λ r. name ∷ command ∷ r) none))
@@ -260,6 +270,7 @@ takes_bare checking name = refl
 takes_bare printing name = refl
 takes_bare testing name = refl
 takes_bare showing name = refl
+takes_bare explaining name = refl
 
 takes_bare_dashes : (bare : Bare) (name : Text) → fault_of svahost (name ∷ word_of bare ∷ codes "--" ∷ []) ≡ []
 unfolding clap_on_literals
@@ -268,6 +279,7 @@ takes_bare_dashes checking name = refl
 takes_bare_dashes printing name = refl
 takes_bare_dashes testing name = refl
 takes_bare_dashes showing name = refl
+takes_bare_dashes explaining name = refl
 
 taken_bare : (bare : Bare) (words : List Text) → IsCommand (word_of bare) words → fault_of svahost words ≡ []
 taken_bare bare words (name, inl e) = subst (λ w. fault_of svahost w ≡ []) (sym e) (takes_bare bare name)
@@ -301,6 +313,7 @@ taken_words Check words is = taken_bare checking words is
 taken_words Plain words is = taken_bare printing words is
 taken_words Test words is = taken_bare testing words is
 taken_words Show words is = taken_bare showing words is
+taken_words Why words is = taken_bare explaining words is
 taken_words (Trace live) words (name, rest, given, e) = subst (λ w. fault_of svahost w ≡ []) (sym e) (takes_trace name rest given.0)
 taken_words (Storm turns) words (name, rest, given, inl e) = subst (λ w. fault_of svahost w ≡ []) (sym e) (unfaulted name rest (given_taken turns rest given)).0
 taken_words (Storm turns) words (name, rest, given, inr e) = subst (λ w. fault_of svahost w ≡ []) (sym e) (unfaulted name rest (given_taken turns rest given)).1
@@ -326,6 +339,7 @@ tells_bare checking name = (refl, λ is_storm. absurd (is_other (word_of checkin
 tells_bare printing name = (refl, λ is_storm. absurd (is_other (word_of printing) refl is_storm))
 tells_bare testing name = (refl, λ is_storm. absurd (is_other (word_of testing) refl is_storm))
 tells_bare showing name = (refl, λ is_storm. absurd (is_other (word_of showing) refl is_storm))
+tells_bare explaining name = (refl, λ is_storm. absurd (is_other (word_of explaining) refl is_storm))
 
 tells_bare_dashes : (bare : Bare) (name : Text) → Tells (asked_of bare) (name ∷ word_of bare ∷ codes "--" ∷ [])
 unfolding clap_on_literals
@@ -334,6 +348,7 @@ tells_bare_dashes checking name = (refl, λ is_storm. absurd (is_other (word_of 
 tells_bare_dashes printing name = (refl, λ is_storm. absurd (is_other (word_of printing) refl is_storm))
 tells_bare_dashes testing name = (refl, λ is_storm. absurd (is_other (word_of testing) refl is_storm))
 tells_bare_dashes showing name = (refl, λ is_storm. absurd (is_other (word_of showing) refl is_storm))
+tells_bare_dashes explaining name = (refl, λ is_storm. absurd (is_other (word_of explaining) refl is_storm))
 
 bare_tells : (bare : Bare) (words : List Text) → IsCommand (word_of bare) words → Tells (asked_of bare) words
 bare_tells bare words (name, inl e) = subst (Tells (asked_of bare)) (sym e) (tells_bare bare name)
@@ -375,6 +390,7 @@ tells Check words is = bare_tells checking words is
 tells Plain words is = bare_tells printing words is
 tells Test words is = bare_tells testing words is
 tells Show words is = bare_tells showing words is
+tells Why words is = bare_tells explaining words is
 tells (Trace live) words (name, rest, given, e) = subst (Tells (Trace live)) (sym e) (tells_trace name rest live given.1)
 tells (Storm turns) words (name, rest, given, inl e) =
     let t = given_taken turns rest given in

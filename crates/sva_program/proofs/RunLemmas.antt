@@ -18,10 +18,11 @@ use Rattle.sva_script_reading.specs.Said.{Prints}
 use Rattle.sva_script_reading.specs.Said.{Said}
 use Rattle.sva_script_reports.specs.Scripts.{plain_of, test_of}
 use Rattle.sva_script_reports.specs.Shows.{show_of}
+use Rattle.sva_script_reports.specs.Whys.{whys_of}
 use Rattle.sva_script_traces.specs.Traces.{trace_of}
 use Rattle.sva_program.specs.Run.{HasCause, Makes, Reports, WhereKnown, columns_of}
 use Rattle.sva_program.specs.declared.command.Asked.{Asked}
-use Rattle.sva_program.specs.declared.command.Asked.TheVariants.{Check, Plain, Replay, Show, Storm, Test, Trace}
+use Rattle.sva_program.specs.declared.command.Asked.TheVariants.{Check, Plain, Replay, Show, Storm, Test, Trace, Why}
 
 keeps : (old new : Option (List ℕ)) → new ≡ old → Keeps old new
 keeps None new e = tt
@@ -92,6 +93,7 @@ unwritten_by (Storm turns) input old = unwritten_where _ input old (λ text. lac
 unwritten_by Plain input old = unwritten_where _ input old (λ text. unprinted (plain_of text) old)
 unwritten_by Test input old = unwritten_where _ input old (λ text. unprinted (test_of text) old)
 unwritten_by Show input old = unwritten_where _ input old (λ text. unprinted (show_of text) old)
+unwritten_by Why input old = unwritten_where _ input old (λ text. unprinted (whys_of text) old)
 unwritten_by (Trace live) None old = tt
 unwritten_by (Trace live) (Some text) old = unprinted (trace_of (columns_of live) text) old
 

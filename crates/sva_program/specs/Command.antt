@@ -12,7 +12,7 @@ use Rattle.clap.specs.declared.builder.value_parser.ValueParser.TheVariants.{Uns
 use Rattle.clap.specs.declared.error.kind.ErrorKind.{ErrorKind}
 use Rattle.clap.specs.declared.error.kind.ErrorKind.TheVariants.{DisplayHelp, DisplayVersion}
 use Rattle.sva_program.specs.declared.command.Asked.{Asked}
-use Rattle.sva_program.specs.declared.command.Asked.TheVariants.{Replay, Check, Storm, Plain, Test, Show, Trace}
+use Rattle.sva_program.specs.declared.command.Asked.TheVariants.{Replay, Check, Storm, Plain, Test, Show, Why, Trace}
 
 -- `--turns N`, a number that is read as u64, from 1 to 1000000, or 10000 where it isn't given
 abbrev pub turns_rule : Rule
@@ -43,7 +43,8 @@ svahost =
     let plain_too = with_subcommand storming (new_app (codes "plain")).top in
     let testing = with_subcommand plain_too (new_app (codes "test")).top in
     let showing = with_subcommand testing (new_app (codes "show")).top in
-    with_subcommand showing (with_rule (new_app (codes "trace")) live_rule).top
+    let explaining = with_subcommand showing (new_app (codes "why")).top in
+    with_subcommand explaining (with_rule (new_app (codes "trace")) live_rule).top
 
 -- the faults of words, by clap's definitions
 unfoldable pub faults_of : List Text → Kinds
@@ -101,6 +102,7 @@ Asks (Storm turns) words = IsStorm turns words
 Asks Plain words = IsCommand (codes "plain") words
 Asks Test words = IsCommand (codes "test") words
 Asks Show words = IsCommand (codes "show") words
+Asks Why words = IsCommand (codes "why") words
 Asks (Trace live) words = IsTrace live words
 
 -- the command that clap entered, by its name and by what was found of `--turns`
@@ -122,6 +124,7 @@ asked_by (Some (name, rows)) =
     if bytes_eq name (codes "plain") then Plain else
     if bytes_eq name (codes "test") then Test else
     if bytes_eq name (codes "show") then Show else
+    if bytes_eq name (codes "why") then Why else
     if bytes_eq name (codes "trace") then Trace (is_live rows) else
     Replay
 
@@ -148,6 +151,7 @@ pub data CallsHelp (words : List Text) : Type 0 where
   behind_plain : (name : Text) → words ≡ name ∷ codes "plain" ∷ codes "--help" ∷ [] → CallsHelp words
   behind_test : (name : Text) → words ≡ name ∷ codes "test" ∷ codes "--help" ∷ [] → CallsHelp words
   behind_show : (name : Text) → words ≡ name ∷ codes "show" ∷ codes "--help" ∷ [] → CallsHelp words
+  behind_why : (name : Text) → words ≡ name ∷ codes "why" ∷ codes "--help" ∷ [] → CallsHelp words
   behind_trace : (name : Text) → words ≡ name ∷ codes "trace" ∷ codes "--help" ∷ [] → CallsHelp words
 
 -- a call for the version: by a flag in the place of the command, whatever follows

@@ -14,9 +14,10 @@ use Rattle.sva_script_traces.specs.declared.rows.Columns.TheVariants.{Padded, Ta
 use Rattle.sva_script_reading.specs.Said.{Prints}
 use Rattle.sva_script_reports.specs.Scripts.{plain_of, test_of}
 use Rattle.sva_script_reports.specs.Shows.{show_of}
+use Rattle.sva_script_reports.specs.Whys.{whys_of}
 use Rattle.sva_script_traces.specs.Traces.{trace_of}
 use Rattle.sva_program.specs.declared.command.Asked.{Asked}
-use Rattle.sva_program.specs.declared.command.Asked.TheVariants.{Replay, Check, Storm, Plain, Test, Show, Trace}
+use Rattle.sva_program.specs.declared.command.Asked.TheVariants.{Replay, Check, Storm, Plain, Test, Show, Why, Trace}
 
 -- the status: 0 where the steps were run, 1 for a line fault, a refused config and every fault of a stream or of memory
 abbrev pub status_of : Result Outcome DriveFault → ℕ
@@ -70,6 +71,7 @@ Reports (Storm turns) input old new ended = WhereKnown (λ text. StormsOf text t
 Reports Plain input old new ended = WhereKnown (λ text. Prints (plain_of text) old new ended) input old new ended
 Reports Test input old new ended = WhereKnown (λ text. Prints (test_of text) old new ended) input old new ended
 Reports Show input old new ended = WhereKnown (λ text. Prints (show_of text) old new ended) input old new ended
+Reports Why input old new ended = WhereKnown (λ text. Prints (whys_of text) old new ended) input old new ended
 Reports (Trace live) input old new ended = IfSome input (λ text. Prints (trace_of (columns_of live) text) old new ended)
 
 -- a text for the user: something is said, and where the value's own text is known and isn't empty, it is that one

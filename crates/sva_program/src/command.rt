@@ -5,7 +5,7 @@ ghost use Rattle.clap.specs.Words.{FailsBy, app_of, found_of, new_app, rows_of, 
 ghost use Rattle.sva_program.specs.Command.{Asks, IsReadable, IsWritten, asked_by, faults_of, no_commands, is_live, live_rule, svahost, texts, turns_by, turns_rule, turns_text};
 
 use crate::help::{
-    ABOUT, CHECK, HELP, LIVE, PLAIN, REPLAY, SHOW, STORM, TEST, TRACE, TURNS, VERSION,
+    ABOUT, CHECK, HELP, LIVE, PLAIN, REPLAY, SHOW, STORM, TEST, TRACE, TURNS, VERSION, WHY,
 };
 use clap::builder::ValueParser;
 use clap::{Arg, ArgAction, ArgMatches, Command, Error};
@@ -35,6 +35,8 @@ pub enum Asked {
     Test,
     /// What the host keeps behind the last line of a script.
     Show,
+    /// What holds the steps of a script back that were refused, blocked or withheld.
+    Why,
     /// Each step of a script with its answer and its messages, as it comes.
     Trace {
         /// Is a column ended by a tab, and not padded?
@@ -135,7 +137,8 @@ fn command<'a>(alloc: Global) -> Result<Command<'a>, AllocError>
     let plain_too = with_bare(storming, alloc, "plain", PLAIN)?;
     let testing = with_bare(plain_too, alloc, "test", TEST)?;
     let showing = with_bare(testing, alloc, "show", SHOW)?;
-    with_trace(showing, alloc)
+    let explaining = with_bare(showing, alloc, "why", WHY)?;
+    with_trace(explaining, alloc)
 }
 
 /// The command that the words ask for. A call for help or for the version is an `Err` too, as clap has it.
@@ -161,6 +164,7 @@ fn entered(matches: &ArgMatches<'_>) -> Asked
         Some(("plain", _)) => Asked::Plain,
         Some(("test", _)) => Asked::Test,
         Some(("show", _)) => Asked::Show,
+        Some(("why", _)) => Asked::Why,
         Some(("trace", below)) => Asked::Trace { live: live(below) },
         _ => Asked::Replay,
     }

@@ -28,6 +28,10 @@ pub const TEST: &str =
 pub const SHOW: &str =
     "Runs the script on standard input, and prints what the host keeps behind its last line";
 
+/// What `-h` says of `why`.
+pub const WHY: &str =
+    "Runs the script on standard input, and prints what holds each refused step back";
+
 /// What `-h` says of `trace`.
 pub const TRACE: &str =
     "Runs the script on standard input, and prints each step with its answer and its messages";
@@ -110,7 +114,9 @@ stands. `deliver KIND E` is of the oldest message of a kind that is in flight at
 `svahost test` prints `7 answers as expected`, or the first that isn't: `line 6: unmap 0 16: expected
 'free 0', answered 'withheld 0'`. `svahost trace` prints each step with its answer and its messages,
 as it comes; `--live` leaves out the padding of columns. `svahost show` prints what the host keeps
-behind the last line, and `svahost plain` the scenario with all numbers. Each scenario is a script.
+behind the last line, and `svahost plain` the scenario with all numbers. `svahost why` prints for
+each step that was refused, blocked or withheld what holds it back, and in brackets a step that would
+be accepted. Each scenario is a script.
 `./svahost test FILE ..` tries several, and `./svahost show --after N` shows what is kept behind line N.
 
 The config, and the steps. E is an endpoint, S a space, B a binding, M a message, F a frame and W a

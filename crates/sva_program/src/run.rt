@@ -91,6 +91,7 @@ fn perform<X: AllocGlobal + Threads + Wait + Sync, R: Read, W: Write>(
         Asked::Plain => print(rt.alloc(), Saying::Plain, reader, writer),
         Asked::Test => print(rt.alloc(), Saying::Test, reader, writer),
         Asked::Show => print(rt.alloc(), Saying::Show, reader, writer),
+        Asked::Why => print(rt.alloc(), Saying::Why, reader, writer),
         Asked::Trace { live } => trace(rt.alloc(), columns_of(live), reader, writer),
     }
 }

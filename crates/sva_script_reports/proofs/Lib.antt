@@ -4,3 +4,4 @@ pub mod StepLemmas
 pub mod EndLemmas
 pub mod FrontLemmas
 pub mod ShowLemmas
+pub mod WhyLemmas

@@ -11,6 +11,7 @@ ghost use Rattle.sva_script_reading.specs.Said.{IsSaid};
 use crate::plain_lines::plain;
 use crate::showing::show;
 use crate::testing::test;
+use crate::whying::why;
 use std::alloc::{AllocError, Global};
 use std::io::{Read, Write};
 use sva_scenario::{DriveFault, Outcome, Told, read_all, write_all};
@@ -24,6 +25,8 @@ pub enum Saying {
     Test,
     /// What the host keeps behind its last line.
     Show,
+    /// What holds its steps back that were refused, blocked or withheld.
+    Why,
 }
 
 /// Reads a script to its end, and writes what is said of it. `Faulted` tells that a line is wrong, the config out of its
@@ -81,5 +84,6 @@ fn say(alloc: Global, saying: Saying, text: &[u8], out: &mut Vec<u8>) -> Result<
         Saying::Plain => plain(alloc, text, out),
         Saying::Test => test(alloc, text, out),
         Saying::Show => show(alloc, text, out),
+        Saying::Why => why(alloc, text, out),
     }
 }

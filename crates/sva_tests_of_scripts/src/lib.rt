@@ -13,3 +13,5 @@ mod shows;
 mod tests;
 #[cfg(test)]
 mod traces;
+#[cfg(test)]
+mod whys;

@@ -19,5 +19,6 @@ returns c =
     let plain_is = c.in_ok-plain_too.ensures ∙ ap (with_bare (codes "plain")) storming_is in
     let testing_is = c.in_ok-testing.ensures ∙ ap (with_bare (codes "test")) plain_is in
     let showing_is = c.in_ok-showing.ensures ∙ ap (with_bare (codes "show")) testing_is in
+    let explaining_is = c.in_ok-explaining.ensures ∙ ap (with_bare (codes "why")) showing_is in
     IfOk-weaker c.with_trace.result _ _ (λ r added. added
-    ∙ ap (λ (a : App). with_subcommand a (with_rule (new_app (codes "trace")) live_rule).top) showing_is) c.with_trace.ensures
+    ∙ ap (λ (a : App). with_subcommand a (with_rule (new_app (codes "trace")) live_rule).top) explaining_is) c.with_trace.ensures

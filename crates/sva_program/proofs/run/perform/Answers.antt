@@ -5,6 +5,7 @@ use Rattle.sva_scenario.specs.Storms.{StormsOf}
 use Rattle.sva_script_reading.specs.Said.{Prints}
 use Rattle.sva_script_reports.specs.Scripts.{plain_of, test_of}
 use Rattle.sva_script_reports.specs.Shows.{show_of}
+use Rattle.sva_script_reports.specs.Whys.{whys_of}
 use Rattle.sva_script_traces.specs.Traces.{trace_of}
 use Rattle.sva_program.specs.Run.{Reports}
 use Rattle.sva_program.proofs.RunLemmas.{caused, printed, reported, run_reported}
@@ -100,6 +101,21 @@ returns-in-Show-clause-report g c =
 pub returns-in-Show-clause-cause : goal.returns-in-Show-clause-cause
 returns-in-Show-clause-cause g c =
     let ran = c.print-in-Show in
+    let none = IfOk-weaker ran.result _ _ (λ _ e. (e.0, e.2)) ran.ensures.end in
+    caused ran.new.reader ran.new.writer ran.result none (λ read. (ran.ensures.read read).1) ran.ensures.write ran.ensures.memory
+
+pub returns-in-Why-clause-report : goal.returns-in-Why-clause-report
+returns-in-Why-clause-report g c =
+    let ran = c.print-in-Why in
+    let input = g.R.Read.remaining c.args.reader.now.inner in
+    let old = g.W.Write.contents c.args.writer.now.inner in
+    let new = g.W.Write.contents ran.new.writer.inner in
+    subst (λ a. Reports a input old new ran.result) (sym c.in-Why.is)
+    (printed whys_of input old new ran.result ran.ensures.printed (λ read. ap (λ told. g.W.Write.contents told.inner) (ran.ensures.read read).0))
+
+pub returns-in-Why-clause-cause : goal.returns-in-Why-clause-cause
+returns-in-Why-clause-cause g c =
+    let ran = c.print-in-Why in
     let none = IfOk-weaker ran.result _ _ (λ _ e. (e.0, e.2)) ran.ensures.end in
     caused ran.new.reader ran.new.writer ran.result none (λ read. (ran.ensures.read read).1) ran.ensures.write ran.ensures.memory
 

@@ -1,0 +1,3 @@
+pub mod AcceptedSteps
+pub mod Places
+pub mod VectorBits

@@ -1,0 +1,16 @@
+-- Steps that would be accepted now.
+use Rattle.std.specs.Prelude.{◌≡◌, ℕ, Bool, true, not, is_ok}
+use Rattle.std.specs.List.{list_any}
+use Rattle.sva_step.specs.declared.steps.Step.{Step}
+use Rattle.sva_model.specs.Refusals.{Cause}
+use Rattle.sva_model.specs.Wire.{Wire}
+use Rattle.sva_labels.specs.Causes.{causes_of}
+use Rattle.sva_labels.specs.Host.{reply_of}
+
+-- no cause refuses the step
+abbrev pub is_accepted : Wire → Step → Bool
+is_accepted wire step = not (list_any (λ (cause : Cause). cause.0) (causes_of wire step))
+
+-- such a step is answered, and not refused
+abbrev pub AcceptedAreAnswered : Type 0
+AcceptedAreAnswered = (wire : Wire) (step : Step) → is_accepted wire step ≡ true → is_ok (reply_of wire step) ≡ true

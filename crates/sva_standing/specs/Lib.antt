@@ -1,0 +1,4 @@
+pub mod Lines
+pub mod Link
+pub mod Units
+pub mod Tables

@@ -1,0 +1,5 @@
+pub mod Groups
+pub mod Bindings
+pub mod Plain
+pub mod Causes
+pub mod Why

@@ -1,0 +1,11 @@
+//! Why a step was refused, blocked or withheld: what holds it back where a world is kept, where that stands now, and a
+//! step that would be accepted.
+#![tactic(auto)]
+
+mod bindings;
+mod causes;
+mod groups;
+mod plain;
+mod whys;
+
+pub use whys::{is_held, put_why};

@@ -1,0 +1,94 @@
+//! What holds a step back.
+
+ghost use Rattle.std.specs.Prelude.{◌≡◌, ◌++◌, OnOk};
+ghost use Rattle.sva_why.specs.Why.{blocked, first_lines, is_held, looked, range_line, why_of};
+
+use crate::causes::put_refused;
+use std::alloc::AllocError;
+use sva_accepted::part_at;
+use sva_listing::{end_line, put_word};
+use sva_snapshot::Snapshot;
+use sva_standing::{Level, put_blocked, put_indent, put_place};
+use sva_step::{Answer, Refusal, Step};
+
+/// Is a step held back: is it refused or blocked, or are frames withheld?
+pub fn is_held(reply: &Result<Answer, Refusal>) -> bool
+    ensures { result ≡ is_held reply.now }
+{
+    match reply {
+        Err(_) => true,
+        Ok(answer) => matches!(
+            answer,
+            Answer::Blocked
+                | Answer::Withheld
+                | Answer::WithheldFrames { .. }
+                | Answer::RangeWithheld { .. }
+        ),
+    }
+}
+
+/// Appends what blocks the head of a queue.
+fn put_blocked_of(out: &mut Vec<u8>, snapshot: &Snapshot, step: &Step) -> Result<(), AllocError>
+    ensures { OnOk result (out.new.items ≡ out.old.items ++ blocked snapshot.now step.now) }
+{
+    match step {
+        Step::Pump { endpoint } => match part_at(snapshot, *endpoint) {
+            None => Ok(()),
+            Some(part) => put_blocked(out, Level::First, snapshot, *endpoint, part),
+        },
+        _ => Ok(()),
+    }
+}
+
+/// Appends what the frame waits for at which a step looked.
+fn put_looked(out: &mut Vec<u8>, snapshot: &Snapshot, step: &Step) -> Result<(), AllocError>
+    ensures { OnOk result (out.new.items ≡ out.old.items ++ looked snapshot.now step.now) }
+{
+    match step {
+        Step::Look { frame } => put_place(out, snapshot, *frame),
+        _ => Ok(()),
+    }
+}
+
+/// Appends what the first of some frames waits for.
+fn put_first(out: &mut Vec<u8>, snapshot: &Snapshot, frames: &[u32]) -> Result<(), AllocError>
+    ensures { OnOk result (out.new.items ≡ out.old.items ++ first_lines snapshot.now frames.now) }
+{
+    match frames.first() {
+        None => Ok(()),
+        Some(frame) => put_place(out, snapshot, u64::from(*frame)),
+    }
+}
+
+/// Appends where the frames of a range tell what they wait for.
+fn put_range(out: &mut Vec<u8>, level: Level) -> Result<(), AllocError>
+    ensures { OnOk result (out.new.items ≡ out.old.items ++ range_line level) }
+{
+    put_indent(out, level)?;
+    put_word(out, "a look at one of the frames tells what it waits for")?;
+    end_line(out)
+}
+
+/// Appends what holds a step back that was answered so: a line for each thing, indented by four spaces for each level.
+/// The snapshot is taken behind the step. Of a step that isn't held back nothing is said.
+///
+/// A line at the first level names what makes the cause of a refusal hold, or blocks the head of a queue, or is awaited
+/// by a frame; a line below says where that stands. A step in brackets would be accepted. An error says that there is no
+/// memory for it; then a part may be appended.
+pub fn put_why(
+    out: &mut Vec<u8>,
+    snapshot: &Snapshot,
+    step: &Step,
+    reply: &Result<Answer, Refusal>,
+) -> Result<(), AllocError>
+    ensures { OnOk result (out.new.items ≡ out.old.items ++ why_of snapshot.now step.now reply.now) }
+{
+    match reply {
+        Err(refusal) => put_refused(out, snapshot, step, *refusal),
+        Ok(Answer::Blocked) => put_blocked_of(out, snapshot, step),
+        Ok(Answer::Withheld) => put_looked(out, snapshot, step),
+        Ok(Answer::WithheldFrames { frames }) => put_first(out, snapshot, frames.as_slice()),
+        Ok(Answer::RangeWithheld { .. }) => put_range(out, Level::First),
+        Ok(_) => Ok(()),
+    }
+}

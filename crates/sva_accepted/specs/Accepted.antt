@@ -1,5 +1,5 @@
 -- Steps that would be accepted now.
-use Rattle.std.specs.Prelude.{◌≡◌, ℕ, Bool, true, not, is_ok}
+use Rattle.std.specs.Prelude.{◌≡◌, Bool, true, not, is_ok}
 use Rattle.std.specs.List.{list_any}
 use Rattle.sva_step.specs.declared.steps.Step.{Step}
 use Rattle.sva_model.specs.Refusals.{Cause}

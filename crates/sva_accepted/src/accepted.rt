@@ -4,12 +4,11 @@ ghost use Rattle.std.specs.Prelude.{◌≡◌, ◌<◌, None, Some, false, is_so
 ghost use Rattle.std.specs.List.{list_any};
 ghost use Rattle.sva_labels.specs.Causes.{is_busy_pasid, sends_invalidate};
 ghost use Rattle.sva_labels.specs.Finding.{has_unfinished_group, is_request_of, is_use_of};
-ghost use Rattle.sva_labels.specs.Finding.{outstanding, part_of, pasid_state, requests_in};
+ghost use Rattle.sva_labels.specs.Finding.{outstanding, pasid_state, requests_in};
 ghost use Rattle.sva_labels.specs.Replying.{responds};
 ghost use Rattle.sva_model.specs.State.PasidState.{Off};
 ghost use Rattle.sva_parts_by_labels.specs.Device.{group_seen, pasid_seen, slot_seen, tag_seen};
-ghost use Rattle.sva_parts_by_labels.specs.Flights.{kind_seen};
-ghost use Rattle.sva_snapshot.specs.Shown.{binding_shown, device_shown, endpoint_shown, job_shown, unit_shown};
+ghost use Rattle.sva_snapshot.specs.Shown.{device_shown, job_shown, unit_shown};
 ghost use Rattle.sva_step.specs.declared.steps.Step.TheVariants as step;
 ghost use Rattle.sva_step.specs.declared.steps.Verdict.TheVariants as verdict;
 ghost use Rattle.sva_accepted.specs.Accepted.{is_accepted};

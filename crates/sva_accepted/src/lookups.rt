@@ -5,9 +5,11 @@ ghost use Rattle.std.specs.Prelude.{slice_index_or, unwrap_or};
 ghost use Rattle.std.specs.List.{find};
 ghost use Rattle.sva_address_spaces.specs.Seen.{pages_seen};
 ghost use Rattle.sva_labels.specs.Causes.{lacks};
-ghost use Rattle.sva_labels.specs.Finding.{binding_of, bound_at, flight_of, has_open_group, has_room, held_by, is_mapped};
+ghost use Rattle.sva_labels.specs.Finding.{binding_of, bound_at, flight_of, has_open_group, has_room, held_by};
+ghost use Rattle.sva_labels.specs.Finding.{is_mapped};
 ghost use Rattle.sva_labels.specs.Finding.{idle, or_no_pages, pages_of};
-ghost use Rattle.sva_labels.specs.Finding.{is_some_busy, is_wait_done, lowest_label, page_at, pages_in, part_of, submits, unit_of};
+ghost use Rattle.sva_labels.specs.Finding.{is_some_busy, is_wait_done, lowest_label, page_at, pages_in, part_of};
+ghost use Rattle.sva_labels.specs.Finding.{submits, unit_of};
 ghost use Rattle.sva_labels.specs.Replying.{is_read_only_at, pages_of_job};
 ghost use Rattle.sva_snapshot.specs.Shown.{binding_shown, endpoint_shown, flight_shown, job_shown, space_shown};
 ghost use Rattle.sva_snapshot.specs.Shown.{unit_shown};
@@ -255,7 +257,8 @@ pub fn held_by(snapshot: &Snapshot, worker: u64) -> Option<&Job>
 
 /// The job in the hand of a worker, of these hands.
 fn held_among(hands: &[Option<Job>], worker: u64) -> Option<&Job>
-    ensures { option_map job_shown (option_copied result) ≡ slice_index_or (map (option_map job_shown) hands.now) worker None }
+    ensures { option_map job_shown (option_copied result)
+        ≡ slice_index_or (map (option_map job_shown) hands.now) worker None }
 {
     match hands.get(worker as usize) {
         None => None,

@@ -6,4 +6,5 @@ use Rattle.sva_accepted.proofs.lookups.is_full.Given as goal
 -- none so far is free
 abbrev pub invariant-loop-place : goal.invariant-loop-place
 invariant-loop-place l =
-    is_none (lowest_label (map (option_map busy_seen) (drop l.place-index l.unit.busy.items))) ≡ is_none (lowest_label (map (option_map busy_seen) l.unit.busy.items))
+    is_none (lowest_label (map (option_map busy_seen) (drop l.place-index l.unit.busy.items)))
+    ≡ is_none (lowest_label (map (option_map busy_seen) l.unit.busy.items))

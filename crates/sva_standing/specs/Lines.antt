@@ -1,6 +1,5 @@
 -- The lines of `why`: how deep each stands, and the step in brackets at its end.
 use Rattle.std.specs.Prelude.{ℕ, Bool, if◌then◌else◌, List, [], ◌++◌, codes, decimal}
-use Rattle.sva_listing.specs.Pieces.{field}
 use Rattle.sva_standing.specs.declared.levels.Level.{Level}
 use Rattle.sva_standing.specs.declared.levels.Level.TheVariants.{First, Second, Third, Fourth, Fifth, Sixth}
 

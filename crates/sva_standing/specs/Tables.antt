@@ -1,13 +1,13 @@
 -- What is said of the tables of an endpoint: unfinished groups, request tags that are out, uses that run, PASIDs that aren't on.
-use Rattle.std.specs.Prelude.{ℕ, zero, suc, ◌==◌, Bool, true, false, ◌&&◌, ◌||◌, nat_le, if◌then◌else◌, Option, Some, None, List, [], ◌∷◌, ◌++◌, codes}
-use Rattle.std.specs.Prelude.{decimal, flat_map}
+use Rattle.std.specs.Prelude.{ℕ, ◌==◌, Bool, true, false, ◌&&◌, nat_le, if◌then◌else◌, Option, Some, None, List, [], ◌++◌, codes}
+use Rattle.std.specs.Prelude.{flat_map}
 use Rattle.std.specs.List.{list_any}
 use Rattle.sva_step.specs.Limits
 use Rattle.sva_step.specs.declared.steps.Step.TheVariants as step
 use Rattle.sva_model.specs.State.{GroupState, PasidState}
 use Rattle.sva_model.specs.State.PasidState.{Off, On, Ending}
 use Rattle.sva_model.specs.Wire.{BindingWire, DeviceWire, EndpointWire, GroupWire, RequestWire, TakenWire, UseWire, Wire}
-use Rattle.sva_labels.specs.Finding.{busy_at, has_unfinished_group, is_request_of, is_use_of, outstanding, pasid_state, waits_for_use}
+use Rattle.sva_labels.specs.Finding.{has_unfinished_group, is_use_of, outstanding, pasid_state}
 use Rattle.sva_model.specs.Labels.{is_set, names_none}
 use Rattle.sva_listing.specs.Memory.{stage_text}
 use Rattle.sva_listing.specs.Pieces.{field, line_end, rows, word_if}
@@ -29,7 +29,8 @@ reset_text wire endpoint = bracket (is_accepted wire (step.Reset endpoint)) (cod
 abbrev pub disabled_if : Level → Wire → (endpoint : ℕ) → DeviceWire → List ℕ
 disabled_if level wire endpoint device =
     if device.is_disabled
-    then indent level ++ field (codes "page requests are disabled at endpoint ") endpoint ++ codes ": only a reset helps" ++ reset_text wire endpoint ++ line_end
+    then indent level ++ field (codes "page requests are disabled at endpoint ") endpoint ++ codes ": only a reset helps"
+    ++ reset_text wire endpoint ++ line_end
     else []
 
 -- is a response to the group still to come? It gives back what the group has of the 32.

@@ -5,7 +5,8 @@ ghost use Rattle.std.specs.List.{list_any};
 ghost use Rattle.sva_listing.specs.Pieces.{rows};
 ghost use Rattle.sva_parts_by_labels.specs.Device.{group_seen};
 ghost use Rattle.sva_snapshot.specs.Shown.{device_shown};
-ghost use Rattle.sva_standing.specs.Tables.{all_unfinished_text, credit_if, credit_text, disabled_if, due_if, is_due, reset_text};
+ghost use Rattle.sva_standing.specs.Tables.{all_unfinished_text, credit_if, credit_text, disabled_if, due_if, is_due};
+ghost use Rattle.sva_standing.specs.Tables.{reset_text};
 
 use crate::levels::{Level, below, put_bracket, put_indent};
 use crate::link::{Topic, put_about};

@@ -1,10 +1,13 @@
-//! Where things stand that hold a step back: messages in flight, ITags that are busy, waits that aren't done, unfinished
-//! groups, request tags that are out, uses that run. A line for each, with a step in brackets that would be accepted.
+//! Where things stand that hold a step back: messages in flight, ITags that are busy, waits that aren't done,
+//! unfinished groups, request tags that are out, uses that run. A line for each, with a step in brackets that would be
+//! accepted.
 #![tactic(auto)]
 
 mod credits;
+mod itags;
 mod levels;
 mod link;
+mod places;
 mod tables;
 mod units;
 mod vectors;
@@ -12,6 +15,7 @@ mod vectors;
 pub use credits::{put_credit, put_disabled};
 pub use levels::{Level, below, put_bracket, put_bracket_of_two, put_indent, put_start};
 pub use link::{Topic, put_about, put_older};
+pub use places::put_place;
 pub use tables::{put_busy_pasid, put_not_started, put_unfinished_if};
-pub use units::{put_blocked, put_in_reset, put_place, put_reset_if, put_room, put_wait_if};
+pub use units::{put_blocked, put_in_reset, put_reset_if, put_room, put_wait_if};
 pub use vectors::{put_in_use, put_not_pending};

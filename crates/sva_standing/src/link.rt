@@ -1,10 +1,11 @@
 //! The messages in flight that hold something back.
 
-ghost use Rattle.std.specs.Prelude.{◌≡◌, ◌++◌, OnOk, find, flat_map, map, option_map};
+ghost use Rattle.std.specs.Prelude.{◌≡◌, ◌++◌, OnOk, flat_map, map};
 ghost use Rattle.sva_labels.specs.Finding.{holds_back};
 ghost use Rattle.sva_parts_by_labels.specs.Flights.{kind_seen};
 ghost use Rattle.sva_snapshot.specs.Shown.{flight_shown};
-ghost use Rattle.sva_standing.specs.Link.{about_if, about_lines, is_about, link_text, message_line, older_if, older_lines};
+ghost use Rattle.sva_standing.specs.Link.{about_if, about_lines, is_about, link_text, message_line, older_if};
+ghost use Rattle.sva_standing.specs.Link.{older_lines};
 
 use crate::levels::{Level, put_bracket, put_indent};
 use std::alloc::AllocError;

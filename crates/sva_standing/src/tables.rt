@@ -9,9 +9,10 @@ ghost use Rattle.sva_standing.specs.Tables.{asked_text, bearer_line, ending_line
 ghost use Rattle.sva_standing.specs.Tables.{unfinished_line, use_lines};
 
 use crate::credits::{put_credit, put_disabled};
+use crate::itags::put_use;
 use crate::levels::{Level, below, put_bracket_of_two, put_indent, put_start};
 use crate::link::{Topic, put_about};
-use crate::units::{put_reset_if, put_use};
+use crate::units::put_reset_if;
 use std::alloc::AllocError;
 use sva_accepted::{can_end, can_finish_group, is_unfinished, is_use_of, pasid_state};
 use sva_listing::{end_line, put_field, put_if, put_stage, put_word};

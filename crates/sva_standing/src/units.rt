@@ -1,25 +1,18 @@
-//! Units: a reset, ITags that are busy, waits that aren't done, a queue without room.
+//! Units: a reset, a queue whose head is blocked, waits that aren't done, a queue without room.
 
-ghost use Rattle.std.specs.Prelude.{◌≡◌, ◌++◌, None, OnOk, Some, map, option_copied, option_map, slice_get};
-ghost use Rattle.std.specs.Prelude.{slice_index_or};
-ghost use Rattle.sva_address_spaces.specs.Seen.{place_seen, places_seen, target_seen};
-ghost use Rattle.sva_frames.specs.Reading.{holding_of};
-ghost use Rattle.sva_iommu.specs.Seen.{busy_seen, descriptor_seen};
-ghost use Rattle.sva_listing.specs.Pieces.{rows};
-ghost use Rattle.sva_parts_by_labels.specs.Device.{slot_seen, taken_seen};
-ghost use Rattle.sva_snapshot.specs.Shown.{endpoint_shown, unit_shown};
-ghost use Rattle.sva_standing.specs.Units.{blocked_lines, busy_if, busy_lines, in_reset_lines, is_stuck, no_itag_lines};
-ghost use Rattle.sva_standing.specs.Units.{place_lines, pump_lines, pump_text, requests_line, reset_if, room_lines};
-ghost use Rattle.sva_standing.specs.Units.{taken_lines, target_lines, use_text, wait_blocked_lines, wait_if, wait_lines};
-ghost use Rattle.sva_standing.specs.Units.{count_text, end_text, full_line, held_seen, no_room_lines, queued_text, wait_line, waits_for_lines, waits_if, waits_line};
-ghost use Rattle.sva_labels.specs.Finding.{taken_at, use_at};
+ghost use Rattle.std.specs.Prelude.{◌≡◌, ◌++◌, OnOk};
+ghost use Rattle.sva_snapshot.specs.Shown.{endpoint_shown};
+ghost use Rattle.sva_standing.specs.Units.{blocked_lines, in_reset_lines, is_stuck, no_itag_lines, pump_lines};
+ghost use Rattle.sva_standing.specs.Units.{pump_text, requests_line, reset_if, room_lines, wait_blocked_lines, wait_if};
+ghost use Rattle.sva_standing.specs.Units.{wait_lines, count_text, full_line, no_room_lines, queued_text, wait_line};
 
-use crate::levels::{Level, below, put_bracket, put_bracket_of_two, put_indent, put_start};
+use crate::itags::put_busy_itags;
+use crate::levels::{Level, below, put_bracket, put_indent, put_start};
 use crate::link::{Topic, put_about};
 use std::alloc::AllocError;
-use sva_accepted::{can_end, can_pump, can_serve, has_room, is_full, is_some_busy, part_at};
-use sva_listing::{end_line, put_busy, put_extent, put_field, put_translation, put_word};
-use sva_snapshot::{Busy, Descriptor, Endpoint, Held, Snapshot, Taken, Target, UseSlot};
+use sva_accepted::{can_pump, can_serve, has_room, is_full, is_some_busy};
+use sva_listing::{end_line, put_field, put_word};
+use sva_snapshot::{Descriptor, Endpoint, Snapshot};
 
 /// Appends the lines of a unit in reset.
 pub fn put_in_reset(
@@ -53,223 +46,6 @@ pub fn put_reset_if(
     } else {
         put_in_reset(out, level, snapshot, unit)
     }
-}
-
-/// Appends what a use is of.
-pub fn put_use(out: &mut Vec<u8>, place: &UseSlot) -> Result<(), AllocError>
-    ensures { OnOk result (out.new.items ≡ out.old.items ++ use_text (slot_seen place.now)) }
-{
-    match place {
-        UseSlot::Free | UseSlot::Dead => Ok(()),
-        UseSlot::Running(used) => {
-            put_word(out, ":")?;
-            put_translation(
-                out,
-                u64::from(used.pasid),
-                used.page,
-                used.frame,
-                used.write,
-            )
-        }
-    }
-}
-
-/// Appends what the use in a slot is of, of these slots.
-fn put_use_at(out: &mut Vec<u8>, slots: &[UseSlot], slot: u64) -> Result<(), AllocError>
-    ensures { OnOk result (out.new.items ≡ out.old.items
-        ++ use_text (slice_index_or (map slot_seen slots.now) slot None)) }
-{
-    match slots.get(slot as usize) {
-        None => Ok(()),
-        Some(place) => put_use(out, place),
-    }
-}
-
-/// Appends what the use in a slot of the endpoint is of.
-fn put_use_of(out: &mut Vec<u8>, part: &Endpoint, slot: u64) -> Result<(), AllocError>
-    ensures { OnOk result (out.new.items ≡ out.old.items
-        ++ use_text (use_at (endpoint_shown part.now).device slot)) }
-{
-    put_use_at(out, part.device.slots.as_slice(), slot)
-}
-
-/// Appends the end of a use in brackets.
-fn put_end(
-    out: &mut Vec<u8>,
-    snapshot: &Snapshot,
-    endpoint: u64,
-    slot: u64,
-) -> Result<(), AllocError>
-    ensures { OnOk result (out.new.items ≡ out.old.items ++ end_text snapshot.now endpoint slot) }
-{
-    let holds = can_end(snapshot, endpoint, slot);
-    put_bracket_of_two(out, holds, " [end ", endpoint, slot)
-}
-
-/// Appends the line of a use for which an invalidation waits.
-fn put_waits(
-    out: &mut Vec<u8>,
-    level: Level,
-    snapshot: &Snapshot,
-    endpoint: u64,
-    part: &Endpoint,
-    itag: u64,
-    slot: u64,
-) -> Result<(), AllocError>
-    ensures { OnOk result (out.new.items ≡ out.old.items
-        ++ waits_line level snapshot.now endpoint (endpoint_shown part.now) itag slot) }
-{
-    put_start(out, level, "itag ", itag)?;
-    put_field(out, " waits for use ", slot)?;
-    put_use_of(out, part, slot)?;
-    put_end(out, snapshot, endpoint, slot)?;
-    end_line(out)
-}
-
-/// Appends the line of a use, if the invalidation noted it.
-fn put_waits_if(
-    out: &mut Vec<u8>,
-    level: Level,
-    snapshot: &Snapshot,
-    endpoint: u64,
-    part: &Endpoint,
-    itag: u64,
-    slot: u64,
-    noted: bool,
-) -> Result<(), AllocError>
-    ensures { OnOk result (out.new.items ≡ out.old.items
-        ++ waits_if level snapshot.now endpoint (endpoint_shown part.now) itag slot noted) }
-{
-    if noted {
-        put_waits(out, level, snapshot, endpoint, part, itag, slot)
-    } else {
-        Ok(())
-    }
-}
-
-/// Appends the lines of the uses that are noted in these slots.
-fn put_each_wait(
-    out: &mut Vec<u8>,
-    level: Level,
-    snapshot: &Snapshot,
-    endpoint: u64,
-    part: &Endpoint,
-    itag: u64,
-    slots: &[bool],
-) -> Result<(), AllocError>
-    ensures { OnOk result (out.new.items ≡ out.old.items
-        ++ rows (waits_if level snapshot.now endpoint (endpoint_shown part.now) itag) 0 slots.now) }
-{
-    for (slot, noted) in slots.iter().enumerate() {
-        put_waits_if(
-            out,
-            level,
-            snapshot,
-            endpoint,
-            part,
-            itag,
-            slot as u64,
-            *noted,
-        )?;
-    }
-    Ok(())
-}
-
-/// Appends the lines of the uses that an invalidation noted.
-pub fn put_waits_for(
-    out: &mut Vec<u8>,
-    level: Level,
-    snapshot: &Snapshot,
-    endpoint: u64,
-    part: &Endpoint,
-    itag: u64,
-    taken: &Taken,
-) -> Result<(), AllocError>
-    ensures { OnOk result (out.new.items ≡ out.old.items
-        ++ waits_for_lines level snapshot.now endpoint (endpoint_shown part.now) itag (taken_seen taken.now)) }
-{
-    put_each_wait(out, level, snapshot, endpoint, part, itag, &taken.noted)
-}
-
-/// The invalidation of an ITag among these that were taken.
-fn taken_among(taken: &[Option<Taken>], itag: u64) -> Option<&Taken>
-    ensures { option_map taken_seen (option_copied result)
-        ≡ slice_index_or (map (option_map taken_seen) taken.now) itag None }
-{
-    match taken.get(itag as usize) {
-        None => None,
-        Some(place) => place.as_ref(),
-    }
-}
-
-/// Appends the lines of an invalidation that the endpoint has taken.
-fn put_taken(
-    out: &mut Vec<u8>,
-    level: Level,
-    snapshot: &Snapshot,
-    endpoint: u64,
-    part: &Endpoint,
-    itag: u64,
-) -> Result<(), AllocError>
-    ensures { OnOk result (out.new.items ≡ out.old.items
-        ++ taken_lines level snapshot.now endpoint (endpoint_shown part.now) itag
-        (taken_at (endpoint_shown part.now).device itag)) }
-{
-    let Some(taken) = taken_among(part.device.taken.as_slice(), itag) else {
-        return Ok(());
-    };
-    put_indent(out, level)?;
-    put_field(out, "endpoint ", endpoint)?;
-    put_field(
-        out,
-        " has taken it: pasid ",
-        u64::from(taken.invalidation.pasid),
-    )?;
-    put_extent(out, taken.invalidation.extent)?;
-    end_line(out)?;
-    put_waits_for(out, below(level), snapshot, endpoint, part, itag, taken)
-}
-
-/// Appends the lines of an ITag, if it is busy.
-fn put_busy_if(
-    out: &mut Vec<u8>,
-    level: Level,
-    snapshot: &Snapshot,
-    unit: u64,
-    part: &Endpoint,
-    itag: u64,
-    place: &Option<Busy>,
-) -> Result<(), AllocError>
-    ensures { OnOk result (out.new.items ≡ out.old.items
-        ++ busy_if level snapshot.now unit (endpoint_shown part.now) itag (option_map busy_seen place.now)) }
-{
-    let Some(busy) = place else {
-        return Ok(());
-    };
-    put_indent(out, level)?;
-    put_field(out, "itag ", itag)?;
-    put_word(out, " is busy")?;
-    put_busy(out, busy)?;
-    end_line(out)?;
-    put_about(out, below(level), snapshot, unit, Topic::Itag(itag))?;
-    put_taken(out, below(level), snapshot, unit, part, itag)
-}
-
-/// Appends the lines of the ITags that are busy.
-fn put_busy_itags(
-    out: &mut Vec<u8>,
-    level: Level,
-    snapshot: &Snapshot,
-    unit: u64,
-    part: &Endpoint,
-) -> Result<(), AllocError>
-    ensures { OnOk result (out.new.items ≡ out.old.items
-        ++ busy_lines level snapshot.now unit (endpoint_shown part.now)) }
-{
-    for (itag, place) in part.unit.busy.as_slice().iter().enumerate() {
-        put_busy_if(out, level, snapshot, unit, part, itag as u64, place)?;
-    }
-    Ok(())
 }
 
 /// Appends how many page requests wait, if some do.
@@ -420,7 +196,7 @@ fn put_wait_line(
 }
 
 /// Appends the lines of a wait.
-fn put_wait(
+pub(crate) fn put_wait(
     out: &mut Vec<u8>,
     level: Level,
     snapshot: &Snapshot,
@@ -520,76 +296,5 @@ pub fn put_room(
         Ok(())
     } else {
         put_no_room(out, level, snapshot, unit, part, needed)
-    }
-}
-
-/// Appends what a frame waits for at a unit.
-fn put_target(
-    out: &mut Vec<u8>,
-    snapshot: &Snapshot,
-    unit: u64,
-    target: &Option<Target>,
-) -> Result<(), AllocError>
-    ensures { OnOk result (out.new.items ≡ out.old.items
-        ++ target_lines snapshot.now unit (option_map target_seen target.now)) }
-{
-    match target {
-        None => Ok(()),
-        Some(Target::Cookie(cookie)) => match part_at(snapshot, unit) {
-            None => Ok(()),
-            Some(part) => put_wait(out, Level::First, snapshot, unit, part, *cookie),
-        },
-        Some(Target::ResetEnd) => put_in_reset(out, Level::First, snapshot, unit),
-    }
-}
-
-/// Appends what a frame waits for at each unit.
-fn put_targets(
-    out: &mut Vec<u8>,
-    snapshot: &Snapshot,
-    targets: &[Option<Target>],
-) -> Result<(), AllocError>
-    ensures { OnOk result (out.new.items ≡ out.old.items
-        ++ rows (target_lines snapshot.now) 0 (map (option_map target_seen) targets.now)) }
-{
-    for (unit, target) in targets.iter().enumerate() {
-        put_target(out, snapshot, unit as u64, target)?;
-    }
-    Ok(())
-}
-
-/// Appends what a frame waits for, if it is withheld.
-fn put_held(out: &mut Vec<u8>, snapshot: &Snapshot, held: &Held) -> Result<(), AllocError>
-    ensures { OnOk result (out.new.items ≡ out.old.items
-        ++ place_lines snapshot.now (Some (held_seen held.now))) }
-{
-    match held {
-        Held::Free | Held::Mapped => Ok(()),
-        Held::Withheld { targets } => put_targets(out, snapshot, targets),
-    }
-}
-
-/// Where the frame of a number is, of these frames.
-fn frame_at(frames: &[Held], frame: u64) -> Option<&Held>
-    ensures { option_map held_seen (option_copied result) ≡ slice_get (map held_seen frames.now) frame }
-{
-    frames.get(frame as usize)
-}
-
-/// The same, as the definitions have the frames.
-fn frame_among(frames: &[Held], frame: u64) -> Option<&Held>
-    ensures { option_map held_seen (option_copied result) ≡ slice_get (places_seen (map holding_of frames.now)) frame }
-{
-    frame_at(frames, frame)
-}
-
-/// Appends what the frame of a number waits for, if it is withheld.
-pub fn put_place(out: &mut Vec<u8>, snapshot: &Snapshot, frame: u64) -> Result<(), AllocError>
-    ensures { OnOk result (out.new.items ≡ out.old.items
-        ++ place_lines snapshot.now (slice_get snapshot.now.places frame)) }
-{
-    match frame_among(snapshot.frames.as_slice(), frame) {
-        None => Ok(()),
-        Some(held) => put_held(out, snapshot, held),
     }
 }

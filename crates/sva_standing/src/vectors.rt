@@ -7,9 +7,10 @@ ghost use Rattle.sva_snapshot.specs.Shown.{endpoint_shown};
 ghost use Rattle.sva_standing.specs.Tables.{free_or_out_lines, none_named_line, not_pending_line};
 ghost use Rattle.sva_standing.specs.Tables.{in_use_if, in_use_lines, not_pending_if, not_pending_lines};
 
+use crate::itags::put_waits_for;
 use crate::levels::{Level, below, put_indent, put_start};
 use crate::link::{Topic, put_about};
-use crate::units::{put_reset_if, put_waits_for};
+use crate::units::put_reset_if;
 use std::alloc::AllocError;
 use sva_accepted::{is_set, names_none};
 use sva_listing::{end_line, put_word};
@@ -52,7 +53,8 @@ fn put_not_pending_if(
     place: &Option<Taken>,
 ) -> Result<(), AllocError>
     ensures { OnOk result (out.new.items ≡ out.old.items
-        ++ not_pending_if snapshot.now endpoint (endpoint_shown part.now) vector itag (option_map taken_seen place.now)) }
+        ++ not_pending_if snapshot.now endpoint (endpoint_shown part.now) vector itag
+        (option_map taken_seen place.now)) }
 {
     if place.is_some() {
         return Ok(());

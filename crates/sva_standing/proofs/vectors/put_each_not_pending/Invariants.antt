@@ -8,5 +8,7 @@ use Rattle.sva_standing.proofs.vectors.put_each_not_pending.Given as goal
 -- what was said and what is left make the whole
 abbrev pub invariant-loop-itag : goal.invariant-loop-itag
 invariant-loop-itag l =
-    l.out.items ++ rows (not_pending_if l.snapshot l.endpoint (endpoint_shown l.part) l.vector) l.itag (map (option_map taken_seen) (drop l.itag l.part.device.taken.items))
-    ≡ l.initial.out.items ++ rows (not_pending_if l.snapshot l.endpoint (endpoint_shown l.part) l.vector) 0 (map (option_map taken_seen) l.part.device.taken.items)
+    l.out.items ++ rows (not_pending_if l.snapshot l.endpoint (endpoint_shown l.part) l.vector) l.itag
+    (map (option_map taken_seen) (drop l.itag l.part.device.taken.items))
+    ≡ l.initial.out.items ++ rows (not_pending_if l.snapshot l.endpoint (endpoint_shown l.part) l.vector) 0
+    (map (option_map taken_seen) l.part.device.taken.items)

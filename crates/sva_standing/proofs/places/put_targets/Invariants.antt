@@ -2,7 +2,7 @@ use Rattle.std.proofs.Common.{◌≡◌, ◌++◌, drop, map, option_map}
 use Rattle.sva_listing.specs.Pieces.{rows}
 use Rattle.sva_address_spaces.specs.Seen.{target_seen}
 use Rattle.sva_standing.specs.Units.{target_lines}
-use Rattle.sva_standing.proofs.units.put_targets.Given as goal
+use Rattle.sva_standing.proofs.places.put_targets.Given as goal
 
 -- what was said and what is left make the whole
 abbrev pub invariant-loop-unit : goal.invariant-loop-unit

@@ -3,7 +3,7 @@ use Rattle.sva_listing.specs.Pieces.{rows}
 use Rattle.sva_snapshot.specs.Shown.{endpoint_shown}
 use Rattle.sva_standing.specs.Units.{busy_if}
 use Rattle.sva_iommu.specs.Seen.{busy_seen}
-use Rattle.sva_standing.proofs.units.put_busy_itags.Given as goal
+use Rattle.sva_standing.proofs.itags.put_busy_itags.Given as goal
 
 -- what was said and what is left make the whole
 abbrev pub invariant-loop-itag : goal.invariant-loop-itag

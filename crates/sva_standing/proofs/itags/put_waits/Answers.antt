@@ -1,6 +1,6 @@
 use Rattle.sva_listing.proofs.Lines.{both}
 use Rattle.sva_standing.proofs.Chains.{joined}
-use Rattle.sva_standing.proofs.units.put_waits.Goals as goal
+use Rattle.sva_standing.proofs.itags.put_waits.Goals as goal
 
 pub returns : goal.returns
 returns c =

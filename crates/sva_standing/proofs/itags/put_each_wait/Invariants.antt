@@ -2,7 +2,7 @@ use Rattle.std.proofs.Common.{◌≡◌, ◌++◌, drop}
 use Rattle.sva_listing.specs.Pieces.{rows}
 use Rattle.sva_snapshot.specs.Shown.{endpoint_shown}
 use Rattle.sva_standing.specs.Units.{waits_if}
-use Rattle.sva_standing.proofs.units.put_each_wait.Given as goal
+use Rattle.sva_standing.proofs.itags.put_each_wait.Given as goal
 
 -- what was said and what is left make the whole
 abbrev pub invariant-loop-slot : goal.invariant-loop-slot

@@ -1,9 +1,9 @@
 -- What is said of groups of page requests that the host has open, and of the job in a worker's hand.
-use Rattle.std.specs.Prelude.{ℕ, ◌==◌, Bool, false, ◌&&◌, if◌then◌else◌, Option, Some, None, List, [], ◌++◌, codes, flat_map, is_none}
+use Rattle.std.specs.Prelude.{ℕ, ◌==◌, ◌&&◌, if◌then◌else◌, Option, Some, None, List, [], ◌++◌, codes, flat_map, is_none}
 use Rattle.sva_step.specs.declared.steps.Step.TheVariants as step
 use Rattle.sva_step.specs.declared.steps.Verdict.TheVariants as verdict
 use Rattle.sva_model.specs.Wire.{AskWire, EndpointWire, GroupWire, HostGroupWire, JobWire, PageRequestWire, PageWire, Wire}
-use Rattle.sva_labels.specs.Finding.{group_at, is_live, page_at}
+use Rattle.sva_labels.specs.Finding.{group_at, page_at}
 use Rattle.sva_labels.specs.Moves.{is_of_job}
 use Rattle.sva_labels.specs.Replying.{is_read_only_at, pages_of_job}
 use Rattle.sva_listing.specs.Pieces.{field, line_end, rows}

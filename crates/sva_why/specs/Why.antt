@@ -1,10 +1,10 @@
 -- What holds a step back that was refused, blocked or withheld.
-use Rattle.std.specs.Prelude.{ℕ, Bool, true, false, Option, Some, None, Result, Ok, Err, List, [], ◌∷◌, ◌++◌, codes, slice_get}
+use Rattle.std.specs.Prelude.{ℕ, Bool, true, false, Ok, Err, List, [], ◌∷◌, ◌++◌, codes, slice_get}
 use Rattle.sva_step.specs.declared.answers.Answer.TheVariants as answer
 use Rattle.sva_step.specs.declared.steps.Step.{Step}
 use Rattle.sva_step.specs.declared.steps.Step.TheVariants as step
 use Rattle.sva_model.specs.Steps.{Reply}
-use Rattle.sva_model.specs.Wire.{EndpointWire, Wire}
+use Rattle.sva_model.specs.Wire.{Wire}
 use Rattle.sva_listing.specs.Pieces.{line_end}
 use Rattle.sva_standing.specs.declared.levels.Level.{Level}
 use Rattle.sva_standing.specs.declared.levels.Level.TheVariants.{First}

@@ -5,8 +5,9 @@ ghost use Rattle.sva_address_spaces.specs.Seen.{pages_seen};
 ghost use Rattle.sva_listing.specs.Pieces.{rows};
 ghost use Rattle.sva_snapshot.specs.Shown.{endpoint_shown};
 ghost use Rattle.sva_step.specs.declared.steps.Step.TheVariants as steps;
-ghost use Rattle.sva_why.specs.Causes.{bad_verdict, busy, disabled, endpoint_of, full_if, in_use, no_credit, not_mapped};
-ghost use Rattle.sva_why.specs.Causes.{not_mapped_lines, not_pending, not_started, not_started_at, not_yet, overtakes};
+ghost use Rattle.sva_why.specs.Causes.{bad_verdict, busy, disabled, endpoint_of, full_if, in_use, no_credit};
+ghost use Rattle.sva_why.specs.Causes.{not_mapped};
+ghost use Rattle.sva_why.specs.Causes.{not_pending, not_started, not_started_at, not_yet, overtakes};
 ghost use Rattle.sva_why.specs.Causes.{queue_full, refused_lines, resetting, still_bound, unmap_full_lines};
 ghost use Rattle.sva_why.specs.Causes.{unmapped_if, unmapped_lines};
 

@@ -7,7 +7,7 @@ ghost use Rattle.sva_listing.specs.Pieces.{rows};
 ghost use Rattle.sva_msg.specs.Seen.{page_request_seen};
 ghost use Rattle.sva_parts_by_labels.specs.Device.{group_seen};
 ghost use Rattle.sva_prq.specs.Job.{ask_seen};
-ghost use Rattle.sva_snapshot.specs.Shown.{endpoint_shown, host_group_shown, job_shown, space_shown};
+ghost use Rattle.sva_snapshot.specs.Shown.{endpoint_shown, host_group_shown, job_shown};
 ghost use Rattle.sva_why.specs.Groups.{hand_if, invalid_text, job_if, open_if, open_lines, read_only_if};
 ghost use Rattle.sva_why.specs.Groups.{read_only_lines, request_if, take_if, unfinished_at, where_lines};
 

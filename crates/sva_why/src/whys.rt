@@ -73,8 +73,8 @@ fn put_range(out: &mut Vec<u8>, level: Level) -> Result<(), AllocError>
 /// The snapshot is taken behind the step. Of a step that isn't held back nothing is said.
 ///
 /// A line at the first level names what makes the cause of a refusal hold, or blocks the head of a queue, or is awaited
-/// by a frame; a line below says where that stands. A step in brackets would be accepted. An error says that there is no
-/// memory for it; then a part may be appended.
+/// by a frame; a line below says where that stands. A step in brackets would be accepted. An error says that there is
+/// no memory for it; then a part may be appended.
 pub fn put_why(
     out: &mut Vec<u8>,
     snapshot: &Snapshot,

@@ -1,7 +1,6 @@
-use Rattle.std.proofs.Common.{◌≡◌, ◌+◌, ◌-◌, ◌≤◌, ◌++◌, arith}
+use Rattle.std.proofs.Common.{◌≤◌, arith}
 use Rattle.std.proofs.lemmas.Bool.Decides.{nat_tests}
 use Rattle.sva_address_spaces.specs.Seen.{pages_seen}
-use Rattle.sva_why.specs.Causes.{unmapped_lines}
 use Rattle.sva_why.proofs.Pages.{page_last, page_more}
 use Rattle.sva_why.proofs.causes.put_unmapped.Goals as goal
 

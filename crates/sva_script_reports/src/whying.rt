@@ -14,7 +14,7 @@ use sva_script::{Stop, split};
 use sva_script_reading::{
     Desk, Lines, put_bad_config, put_number, put_reply, put_wrong, read_script,
 };
-use sva_script_runs::{Run, Taken};
+use sva_script_runs::{Came, Run, Taken};
 use sva_snapshot::snapshot;
 use sva_step::{Answer, Config, Refusal};
 use sva_why::{is_held, put_why};
@@ -121,12 +121,19 @@ fn why_step(
     ensures { StepsWhy run.old number (map (λ word. word.now) desk.old.words.items) out.old.items out.new.items run.new result }
 {
     let words = desk.words.as_slice();
-    match run.take(alloc, number, words, &mut desk.plain, &mut desk.expected) {
-        Ok(Some(taken)) => {
-            put_case(alloc, run, number, desk.plain.as_slice(), &taken, out)?;
+    match run.take(
+        alloc,
+        number,
+        words,
+        &mut desk.plain,
+        &mut desk.expected,
+        &mut desk.taken,
+    ) {
+        Ok(Came::Step) => {
+            put_case(alloc, run, number, desk.plain.as_slice(), &desk.taken, out)?;
             Ok(true)
         }
-        Ok(None) => Ok(true),
+        Ok(Came::End) => Ok(true),
         Err(Stop::Wrong(wrong)) => {
             out.clear();
             put_wrong(out, &wrong, number, words, run.names())?;

@@ -9,11 +9,12 @@ use Rattle.sva_scenario.specs.declared.streams.DriveFault.{DriveFault}
 use Rattle.sva_scenario.specs.declared.streams.Outcome.{Outcome}
 use Rattle.sva_scenario.specs.Report.{ended}
 use Rattle.sva_script_reports.specs.declared.printing.Saying.{Saying}
-use Rattle.sva_script_reports.specs.declared.printing.Saying.TheVariants.{Plain, Show, Test}
+use Rattle.sva_script_reports.specs.declared.printing.Saying.TheVariants.{Plain, Show, Test, Why}
 use Rattle.sva_script_reading.specs.Said.{Prints}
 use Rattle.sva_script_reports.specs.Prints.{said_of}
 use Rattle.sva_script_reading.specs.Said.{Said, bad}
 use Rattle.sva_script_reports.specs.Shows.{show_from}
+use Rattle.sva_script_reports.specs.Whys.{why_from}
 use Rattle.sva_script_reading.specs.Begins.{begin_of, begun, config_alone, config_in, first_config, lines_from, said_by}
 use Rattle.sva_script_reports.specs.Scripts.{plain_from, start, test_of, tested}
 
@@ -52,6 +53,7 @@ front_said : (saying : Saying) (text : List ℕ) → said_of saying (take 104857
 front_said Plain text = by_size (λ kept config. plain_from [] (start config) (lines_from 1 kept)) text (ltb 1048576 (length text)) refl
 front_said Test text = test_front text (ltb 1048576 (length text)) refl
 front_said Show text = by_size (λ kept config. show_from (start config) (lines_from 1 kept)) text (ltb 1048576 (length text)) refl
+front_said Why text = by_size (λ kept config. why_from [] (start config) (lines_from 1 kept)) text (ltb 1048576 (length text)) refl
 
 pub kept_print : (saying : Saying) (known old new : Option (List ℕ)) (kept text : List ℕ) (result : Result Outcome DriveFault)
     → text ≡ kept → IfSome known (λ input. kept ≡ take 1048577 input) → Prints (said_of saying text) old new result

@@ -9,7 +9,7 @@ _svahost() {
     return
   fi
   if [ "$COMP_CWORD" -eq 1 ]; then
-    words='replay check storm plain test show trace --help --version'
+    words='replay check storm plain test show why trace --help --version'
   elif [ "$command" = trace ]; then
     words='--live --help'
   elif [ "$command" = storm ]; then

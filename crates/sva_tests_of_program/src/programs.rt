@@ -161,7 +161,7 @@ static MISTAKES: [(&[&str], &str); 9] = [
     (
         &[],
         "error: 'svahost' requires a subcommand but one was not provided
-  [subcommands: replay, check, storm, plain, test, show, trace]
+  [subcommands: replay, check, storm, plain, test, show, why, trace]
 
 Usage: svahost <COMMAND>
 
@@ -338,6 +338,7 @@ Commands:
   plain   Prints the scenario that the script on standard input stands for
   test    Runs the script on standard input, and compares each answer with what it expects
   show    Runs the script on standard input, and prints what the host keeps behind its last line
+  why     Runs the script on standard input, and prints what holds each refused step back
   trace   Runs the script on standard input, and prints each step with its answer and its messages
 
 Options:

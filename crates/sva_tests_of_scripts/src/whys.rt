@@ -32,6 +32,15 @@ fn nothing_is_explained_of_what_is_wrong(rt: HostRuntime) -> Result<(), Fail> {
     Ok(())
 }
 
+/// A config out of its limits is told alone.
+#[test]
+fn nothing_is_explained_of_a_bad_config(rt: HostRuntime) -> Result<(), Fail> {
+    let alloc = rt.alloc();
+    let told = "refused 1 BadConfig\n";
+    assert!(rt; is_explained(alloc, "config 9 4 1\nmap 9 1 r\n", told, Outcome::Faulted)?);
+    Ok(())
+}
+
 #[test]
 fn a_refusal_with_one_cause(rt: HostRuntime) -> Result<(), Fail> {
     let alloc = rt.alloc();
@@ -41,13 +50,37 @@ fn a_refusal_with_one_cause(rt: HostRuntime) -> Result<(), Fail> {
     Ok(())
 }
 
-/// A marker stays behind a page request, and a stop behind the start.
+/// A stop stays behind the start of its PASID.
 #[test]
 fn older_messages(rt: HostRuntime) -> Result<(), Fail> {
     let alloc = rt.alloc();
     let script = "config 1 1 1\ns: space\nb: bind 0 s\nunbind b\ndeliver 1\n";
     let want = "line 5: deliver 1: refused 33 Overtakes
     message 0 is older: start pasid 1 [deliver 0]
+";
+    assert!(rt; is_explained(alloc, script, want, Outcome::Done)?);
+    Ok(())
+}
+
+/// A frame waits for a wait. While its ITag is busy that is blocked, so a pump doesn't help, and a delivery does.
+#[test]
+fn withheld_frames(rt: HostRuntime) -> Result<(), Fail> {
+    let alloc = rt.alloc();
+    let script = "config 1 4 1
+s: space
+b: bind 0 s
+deliver b
+m: map s 16 w
+unmap s 16
+pump 0
+look m
+";
+    let want = "line 6: unmap 0 16: withheld 0
+    wait 0 of unit 0 isn't done [pump 0]
+line 8: look 0: withheld
+    wait 0 of unit 0 isn't done
+        itag 0 is busy
+            message 1 is in flight: invalidate itag 0 pasid 1 page 16 [deliver 1]
 ";
     assert!(rt; is_explained(alloc, script, want, Outcome::Done)?);
     Ok(())

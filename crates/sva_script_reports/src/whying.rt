@@ -22,8 +22,8 @@ use sva_why::{is_held, put_why};
 /// Said where no step was held back.
 const NOTHING: &[u8] = b"nothing was refused, blocked or withheld\n";
 
-/// Runs a script, and writes for each step that was refused, blocked or withheld what holds it back. Where a line is wrong,
-/// that is written instead, and the result is `Faulted`.
+/// Runs a script, and writes for each step that was refused, blocked or withheld what holds it back. Where a line is
+/// wrong, or the config out of its limits, that is written instead, and the result is `Faulted`.
 pub fn why(alloc: Global, text: &[u8], out: &mut Vec<u8>) -> Result<Outcome, AllocError>
     requires { out.old.items ≡ [] }
     ensures { IsSaid (whys_of text.now) out.new.items result }
@@ -43,7 +43,8 @@ fn why_script(
 ) -> Result<Outcome, AllocError>
     requires short { length text.now ≤ 1048576 }
     requires empty { out.old.items ≡ [] }
-    ensures { IsSaid (said_by (λ config. why_from [] (start config) (lines_from 1 text.now)) (Ok config)) out.new.items result }
+    ensures { IsSaid (said_by (λ config. why_from [] (start config) (lines_from 1 text.now)) (Ok config))
+        out.new.items result }
 {
     match Run::open(alloc, config) {
         Ok(mut run) => why_lines(alloc, &mut run, text, out),
@@ -64,7 +65,8 @@ fn why_lines(
 ) -> Result<Outcome, AllocError>
     requires short { length text.now ≤ 1048576 }
     requires empty { out.old.items ≡ [] }
-    ensures { IsSaid (why_from [] (record { is_config = true; running = run.old }) (lines_from 1 text.now)) out.new.items result }
+    ensures { IsSaid (why_from [] (record { is_config = true; running = run.old }) (lines_from 1 text.now))
+        out.new.items result }
 {
     let mut lines = Lines::new(text);
     let mut desk = Desk::new(alloc);
@@ -97,8 +99,9 @@ fn why_words(
     desk: &mut Desk<'_>,
     out: &mut Vec<u8>,
 ) -> Result<bool, AllocError>
-    ensures { WordsWhy (record { is_config = is_config.old; running = run.old }) number (map (λ word. word.now) desk.old.words.items)
-        out.old.items out.new.items (record { is_config = is_config.new; running = run.new }) result }
+    ensures { WordsWhy (record { is_config = is_config.old; running = run.old }) number
+        (map (λ word. word.now) desk.old.words.items) out.old.items out.new.items
+        (record { is_config = is_config.new; running = run.new }) result }
 {
     if desk.words.is_empty() {
         return Ok(true);
@@ -110,7 +113,8 @@ fn why_words(
     why_step(alloc, run, number, desk, out)
 }
 
-/// Takes the words of a step's line, and appends its case. Where they are wrong, that is said instead of all before: `false`.
+/// Takes the words of a step's line, and appends its case. Where they are wrong, that is said instead of all before:
+/// `false`.
 fn why_step(
     alloc: Global,
     run: &mut Run,
@@ -118,7 +122,8 @@ fn why_step(
     desk: &mut Desk<'_>,
     out: &mut Vec<u8>,
 ) -> Result<bool, AllocError>
-    ensures { StepsWhy run.old number (map (λ word. word.now) desk.old.words.items) out.old.items out.new.items run.new result }
+    ensures { StepsWhy run.old number (map (λ word. word.now) desk.old.words.items) out.old.items out.new.items
+        run.new result }
 {
     let words = desk.words.as_slice();
     match run.take(

@@ -5,8 +5,8 @@ use Rattle.clap.proofs.OnLiterals.{clap_on_literals}
 use Rattle.clap.specs.declared.error.kind.ErrorKind.{ErrorKind}
 use Rattle.clap.specs.declared.error.kind.ErrorKind.TheVariants.{DisplayHelp, DisplayVersion, MissingSubcommand}
 use Rattle.sva_program.specs.Command.{AsksText, faults_of, CallsHelp, CallsVersion, IsMistaken, svahost, texts}
-use Rattle.sva_program.specs.Command.{behind_check, behind_plain, behind_replay, behind_show, behind_storm, behind_test, behind_trace, by_long}
-use Rattle.sva_program.specs.Command.{by_long_version, by_short, by_short_version}
+use Rattle.sva_program.specs.Command.{behind_check, behind_plain, behind_replay, behind_show, behind_storm, behind_test, behind_trace, behind_why}
+use Rattle.sva_program.specs.Command.{by_long, by_long_version, by_short, by_short_version}
 use Rattle.sva_program.proofs.LineLemmas.{no_words}
 
 help_long : (name : Text) (rest : List Text) → fault_of svahost (name ∷ codes "--help" ∷ rest) ≡ DisplayHelp ∷ []
@@ -37,6 +37,10 @@ help_of_show : (name : Text) → fault_of svahost (name ∷ codes "show" ∷ cod
 unfolding clap_on_literals
 help_of_show name = refl
 
+help_of_why : (name : Text) → fault_of svahost (name ∷ codes "why" ∷ codes "--help" ∷ []) ≡ DisplayHelp ∷ []
+unfolding clap_on_literals
+help_of_why name = refl
+
 help_of_trace : (name : Text) → fault_of svahost (name ∷ codes "trace" ∷ codes "--help" ∷ []) ≡ DisplayHelp ∷ []
 unfolding clap_on_literals
 help_of_trace name = refl
@@ -63,6 +67,7 @@ calls_help words (behind_storm name e) = ap (fault_of svahost) e ∙ help_of_sto
 calls_help words (behind_plain name e) = ap (fault_of svahost) e ∙ help_of_plain name
 calls_help words (behind_test name e) = ap (fault_of svahost) e ∙ help_of_test name
 calls_help words (behind_show name e) = ap (fault_of svahost) e ∙ help_of_show name
+calls_help words (behind_why name e) = ap (fault_of svahost) e ∙ help_of_why name
 calls_help words (behind_trace name e) = ap (fault_of svahost) e ∙ help_of_trace name
 
 calls_version : (words : List Text) → CallsVersion words → faults_of words ≡ DisplayVersion ∷ []

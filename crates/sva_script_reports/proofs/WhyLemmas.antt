@@ -1,22 +1,20 @@
 -- What holds the steps of a script back, line by line.
-use Rattle.std.proofs.Common.{◌≡◌, ◌∙◌, ap, append-nil, refl, subst, sym, ℕ, Bool, true, false, List, [], ◌∷◌, ◌++◌, Option, Some, None}
+use Rattle.std.proofs.Common.{◌≡◌, ◌∙◌, ap, refl, subst, sym, ℕ, Bool, true, false, List, [], ◌∷◌, ◌++◌, Option, Some, None}
 use Rattle.std.specs.Prelude.{Result, Ok, Err}
-use Rattle.sva_model.specs.Wire.{Wire}
-use Rattle.sva_labels.specs.Host.{next_of, reply_of}
 use Rattle.sva_scenario.specs.declared.streams.Outcome.TheVariants.{Faulted}
 use Rattle.sva_script.specs.declared.faults.Stop.TheVariants as stop
 use Rattle.sva_script.specs.declared.faults.Wrong.{Wrong}
-use Rattle.sva_script.specs.Lines.{Parts, parts_of, script_words}
+use Rattle.sva_script.specs.Lines.{parts_of, script_words}
 use Rattle.sva_script.specs.Names.{Known}
 use Rattle.sva_script_runs.specs.declared.running.Taken.{Taken}
 use Rattle.sva_script_runs.specs.Lines.{LineRead, Plain, plain_text}
-use Rattle.sva_script_runs.specs.Runs.{Running, IsTaken, Takes, TakesRead, TellsStep, behind, read_at}
+use Rattle.sva_script_runs.specs.Runs.{Running, Takes, TakesRead, TellsStep, behind, read_at}
 use Rattle.sva_script_reading.specs.Faults.{fault_text}
 use Rattle.sva_script_reading.specs.Begins.{Line, fault_of}
 use Rattle.sva_script_reading.specs.Said.{IsSaid, Said, faults_text, faulty, well}
 use Rattle.sva_script_reports.specs.Lines.{behind_line}
 use Rattle.sva_script_reports.specs.Scripts.{At}
-use Rattle.sva_script_reports.specs.Whys.{StepsWhy, WordsWhy, case_of, case_text, cases_text, why_from, why_line, why_read, why_step}
+use Rattle.sva_script_reports.specs.Whys.{StepsWhy, WordsWhy, case_of, case_text, cases_text, why_from, why_line, why_read}
 use Rattle.sva_script_reports.proofs.StepLemmas.{told_wrong, unchanged}
 
 -- ---- A step's line

@@ -21,7 +21,8 @@ use Rattle.sva_script_traces.specs.Traces.{Tracing, fresh, trace_config, trace_f
 use Rattle.sva_script_laws.specs.Replays.{answer_line, answers_from}
 use Rattle.sva_script_laws.specs.Traces.{LineRow, is_written, rows_report, rows_text, said_texts, written_numbers}
 use Rattle.sva_script_laws.specs.Tests.{Expectation, expect_line, expectations_from, expecting, expects, judged_by}
-use Rattle.sva_script_laws.proofs.Following.{CleanLines, expecting_lines, follows, never, report_from, written_lines}
+use Rattle.sva_script_laws.proofs.Following.{CleanLines, expecting_lines, follows, report_from, written_lines}
+use Rattle.sva_script_laws.proofs.Judging.{never}
 use Rattle.sva_script_laws.proofs.ConfigWords.{config_expects}
 use Rattle.sva_script_laws.proofs.StepLines.{config_part, left_part}
 use Rattle.sva_script_laws.proofs.Written.{Clean, comment_clean, config_line_read, config_not_skipped, not_skipped, silent, skipped, written}

@@ -9,6 +9,7 @@ use Rattle.sva_grammar.specs.declared.faults.Cause.TheVariants.{NoConfig}
 use Rattle.sva_grammar.specs.Grammar.{config_counts, config_of, has_words, number, word, words_of}
 use Rattle.sva_script.specs.Lines.{Parts, begins_comment, name_before, parts_by, said, said_alone, script_words, split_at}
 use Rattle.sva_script_reading.specs.Begins.{joined_words}
+use Rattle.sva_script_traces.proofs.TraceLemmas.{none_of}
 use Rattle.sva_script_laws.specs.Tests.{expects}
 use Rattle.sva_script_laws.proofs.StepWords.{Sound, by_four, part}
 use Rattle.sva_script_laws.proofs.PlainWords.{AllSound, digit_sound, no_arrows, number_begins}
@@ -73,21 +74,17 @@ unfolding said
 said_unspaced [] all = tt
 said_unspaced (word ∷ words) all = said_by_test (begins_comment word) word (said words) all.0 (said_unspaced words all.1)
 
-parts_of_none : (a b : Bool) → (a || b) ≡ false → (a ≡ false) × (b ≡ false)
-parts_of_none true b is = absurd (cc is)
-parts_of_none false b is = (refl, is)
-
 word_first : (word rest : List ℕ) → Unspaced word → words_of (word ++ 32 ∷ rest) ≡ word ∷ words_of rest
 word_first [] rest clean = refl
 word_first (byte ∷ word) rest clean =
-    let parts = parts_of_none (byte == 32) (list_any (λ b. b == 32) word) clean in
+    let parts = none_of (byte == 32) (list_any (λ b. b == 32) word) clean in
     ap (λ t. cond t ([] ∷ words_of (word ++ 32 ∷ rest)) (onto_first byte (words_of (word ++ 32 ∷ rest)))) parts.0
     ∙ ap (onto_first byte) (word_first word rest parts.1)
 
 word_last : (word : List ℕ) → Unspaced word → words_of word ≡ word ∷ []
 word_last [] clean = refl
 word_last (byte ∷ word) clean =
-    let parts = parts_of_none (byte == 32) (list_any (λ b. b == 32) word) clean in
+    let parts = none_of (byte == 32) (list_any (λ b. b == 32) word) clean in
     ap (λ t. cond t ([] ∷ words_of word) (onto_first byte (words_of word))) parts.0 ∙ ap (onto_first byte) (word_last word parts.1)
 
 joined_again : (word : List ℕ) (words : List (List ℕ)) → AllUnspaced (word ∷ words) → words_of (word ++ flat_map (λ next. 32 ∷ next) words) ≡ word ∷ words

@@ -7,7 +7,6 @@ use Rattle.sva_step.specs.declared.steps.Step.{Step}
 use Rattle.sva_model.specs.Wire.{Wire}
 use Rattle.sva_labels.specs.Host.{next_of, replies_of, reply_of, run_of}
 use Rattle.sva_grammar.specs.Grammar.{◌>>=◌, at_line, is_skipped, is_too_large, lines_of, said_lines, steps_of}
-use Rattle.sva_scenario.specs.declared.streams.Outcome.TheVariants.{Done, Faulted}
 use Rattle.sva_scenario.specs.Report.{ended, reply_text}
 use Rattle.sva_script.specs.declared.faults.Wrong.{Wrong}
 use Rattle.sva_script.specs.Lines.{parts_of, script_words}
@@ -27,7 +26,7 @@ use Rattle.sva_script_laws.specs.Replays.{answer_line, answer_read, answers_from
 use Rattle.sva_script_laws.specs.Traces.{LineRow, is_written, last_text, line_text, rows_report, rows_text, said_texts, written_numbers}
 use Rattle.sva_script_laws.specs.Tests.{Expectation, expect_line, expect_read, expectations_from, expectation, expecting, expects, judged_by, place_behind}
 use Rattle.sva_script_laws.proofs.AnswerTexts.{counts_clean, reply_clean}
-use Rattle.sva_script_laws.proofs.Judging.{at_place, expecting_so, judged_so, line_at_place, place_next}
+use Rattle.sva_script_laws.proofs.Judging.{at_place, expecting_so, judged_so, line_at_place, never, place_next}
 use Rattle.sva_script_laws.proofs.RowTexts.{row_is, row_made}
 use Rattle.sva_script_laws.proofs.StepLines.{ends_is, expects_is, right_behind, step_is}
 use Rattle.sva_script_laws.proofs.Written.{Clean, comment_clean, not_skipped, silent, skipped, step_line_read, step_not_skipped, written}
@@ -76,10 +75,6 @@ expecting_lines lines = filter (λ line. expects (script_words line.1)) lines
 -- and those that say something of the scenario
 abbrev pub written_lines : List Line → List Line
 written_lines lines = filter (λ line. is_written (script_words line.1)) lines
-
--- what is bad isn't well
-pub never : (wrong right : List ℕ) → bad wrong ≡ well right → ⊥
-never wrong right is = let same : Faulted ≡ Done = ap (λ (said : Said). said.outcome) is in cc same
 
 pub small_by : (out text : List ℕ) (test : Bool) → is_too_large out ≡ test
     → cond test (bad (ended (codes "line 0: the scenario has more than 1048576 bytes or 65536 lines"))) (well out) ≡ well text

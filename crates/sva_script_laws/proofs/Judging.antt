@@ -53,9 +53,9 @@ expecting_so line place text step (Some expected) words others left says rest =
 
 -- ---- All are met
 
--- what is missed isn't well
-missed : (wrong right : List ℕ) → bad wrong ≡ well right → ⊥
-missed wrong right is = cc (ap (λ (said : Said). said.outcome) is)
+-- what is bad isn't well
+pub never : (wrong right : List ℕ) → bad wrong ≡ well right → ⊥
+never wrong right is = cc (ap (λ (said : Said). said.outcome) is)
 
 pub all_met : (report : List (List ℕ)) (count : ℕ) (expectations : List Expectation) → list_all (is_met report) expectations ≡ true
     → judged_by report count expectations ≡ well (verdict_text (count + length expectations))
@@ -78,4 +78,4 @@ met_all report count (it ∷ others) verdict is = by_test (is_met report it) ref
         → (judged_by report (count + 1) others ≡ well verdict → list_all (is_met report) others ≡ true)
         → list_all (is_met report) (it ∷ others) ≡ true
     by_test true met is behind = ap (λ t. t && list_all (is_met report) others) met ∙ behind is
-    by_test false met is behind = absurd (missed miss verdict is)
+    by_test false met is behind = absurd (never miss verdict is)

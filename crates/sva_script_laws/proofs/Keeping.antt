@@ -29,7 +29,8 @@ use Rattle.sva_script_reports.specs.Scripts as scripts
 use Rattle.sva_script_reports.specs.Scripts.{At, comment_of, if_small, plain_from, plain_line, plain_of, start}
 use Rattle.sva_script_laws.specs.Plains.{PlainsAreSame, PlainsStay, ScenariosArePlain, UnfitIsTold, whole}
 use Rattle.sva_script_laws.proofs.Beginning.{runs}
-use Rattle.sva_script_laws.proofs.Following.{never, small_by}
+use Rattle.sva_script_laws.proofs.Following.{small_by}
+use Rattle.sva_script_laws.proofs.Judging.{never}
 use Rattle.sva_script_laws.proofs.KeptLines.{config_line_is, step_line_is}
 use Rattle.sva_script_laws.proofs.LineTexts.{lines_whole, skipped_silent}
 use Rattle.sva_script_laws.proofs.Replaying.{begins_all, lines_are, read_whole}

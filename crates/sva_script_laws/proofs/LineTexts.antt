@@ -7,7 +7,7 @@ use Rattle.sva_grammar.specs.Grammar.{is_skipped, lines_of, word, words_of}
 use Rattle.sva_grammar.specs.Laws.{is_ended}
 use Rattle.sva_script.specs.Lines.{said, script_words}
 use Rattle.sva_script_laws.specs.Plains.{whole}
-use Rattle.sva_script_laws.proofs.Written.{written}
+use Rattle.sva_script_laws.proofs.Written.{first_of, written}
 
 -- ---- Lines
 
@@ -46,10 +46,6 @@ lines_whole (byte ∷ next ∷ text) =
     first_byte (byte == 10) byte next text refl ∙ ap (λ l. byte ∷ l) (lines_whole (next ∷ text)) ∙ whole_cons (is_ended (next ∷ text)) byte (next ∷ text)
 
 -- ---- A line that is skipped
-
-first_of : (byte : ℕ) (words : List (List ℕ)) → (word : List ℕ) × (rest : List (List ℕ)) × (onto_first byte words ≡ (byte ∷ word) ∷ rest)
-first_of byte [] = ([], [], refl)
-first_of byte (word ∷ words) = (word, words, refl)
 
 pub skipped_silent : (line : List ℕ) → is_skipped line ≡ true → script_words line ≡ []
 unfolding said

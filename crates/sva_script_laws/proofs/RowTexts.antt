@@ -8,6 +8,7 @@ use Rattle.sva_model.specs.Message.{Message}
 use Rattle.sva_scenario.specs.Report.{reply_text}
 use Rattle.sva_script_traces.specs.declared.rows.Columns.{Columns}
 use Rattle.sva_script_traces.specs.Rows.{Row, column, delivered_text, messages_text, row_text, sends, sent_text}
+use Rattle.sva_script_traces.proofs.TraceLemmas.{none_of}
 use Rattle.sva_script_laws.specs.Traces.{LineRow, behind_step, line_text}
 
 -- what is told of its messages, where something is
@@ -23,10 +24,6 @@ row_made line plain row = record {
   messages = messages_by (is_some row.delivered || sends row.told) row;
 }
 
-neither : (a b : Bool) → (a || b) ≡ false → (a ≡ false) × (b ≡ false)
-neither true b is = absurd (cc is)
-neither false b is = (refl, is)
-
 is_none : (delivered : Option Message) → is_some delivered ≡ false → delivered ≡ None
 is_none None is = refl
 is_none (Some kind) is = absurd (cc is)
@@ -38,7 +35,7 @@ no_delivery step behind = refl
 -- where no message was delivered or sent, nothing is told
 no_messages : (row : Row) → (is_some row.delivered || sends row.told) ≡ false → messages_text row ≡ []
 no_messages row none =
-    let parts = neither (is_some row.delivered) (sends row.told) none in
+    let parts = none_of (is_some row.delivered) (sends row.told) none in
     (λ i. delivered_text row.step (is_none row.delivered parts.0 i) (cond (parts.1 i) (codes ", ") [])
     ++ cond (parts.1 i) (sent_text row.told row.first_sent) [])
     ∙ ap (λ l. l ++ []) (no_delivery row.step [])

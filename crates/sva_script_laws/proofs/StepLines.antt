@@ -13,6 +13,7 @@ use Rattle.sva_script_runs.specs.Lines.{LineRead, Plain, expected_in, is_end, li
 use Rattle.sva_script_runs.specs.Messages.{Link, link_of}
 use Rattle.sva_script_reading.specs.Faults.{Fault}
 use Rattle.sva_script_reading.specs.Begins.{Line, config_by, config_with, faults_from, faults_read, noted}
+use Rattle.sva_script_reports.proofs.StepLemmas.{expected_part}
 use Rattle.sva_script_laws.specs.Tests.{expects}
 
 -- ---- A line's step
@@ -90,18 +91,6 @@ right_behind known line words lines (Ok read) is right =
 right_behind known line words lines (Err wrong) is right = absurd (cc right)
 
 -- ---- What it expects
-
-expected_part : (named : Result (Unit {0}) Wrong) (step : Result (Option Plain) Wrong) (expected : Result (Option (List ℕ)) Wrong) (read : LineRead)
-    → (named >>= λ _. step >>= λ s. expected >>= λ e. Ok (record { step = s; expected = e })) ≡ Ok read
-    → expected ≡ Ok read.expected
-expected_part (Ok done) (Ok step) (Ok expected) read is = ap (λ (r : Result LineRead Wrong). expected_kept r) is
-  where
-    expected_kept : Result LineRead Wrong → Result (Option (List ℕ)) Wrong
-    expected_kept (Ok read) = Ok read.expected
-    expected_kept (Err wrong) = Err wrong
-expected_part (Ok done) (Ok step) (Err wrong) read is = absurd (cc is)
-expected_part (Ok done) (Err wrong) expected read is = absurd (cc is)
-expected_part (Err wrong) step expected read is = absurd (cc is)
 
 says_some : Result (Option (List ℕ)) Wrong → Bool
 says_some (Ok expected) = is_some expected

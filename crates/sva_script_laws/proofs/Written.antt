@@ -71,7 +71,7 @@ step_line_read text step is = by_test (list_any (λ byte. byte == 10) text) refl
     by_test true lf read = absurd (cc (sym (ap (λ t. cond t (Err BadWord) (step_of (words_of text))) lf) ∙ read))
     by_test false lf read = (lf, sym (ap (λ t. cond t (Err BadWord) (step_of (words_of text))) lf) ∙ read)
 
-first_of : (byte : ℕ) (words : List (List ℕ)) → (word : List ℕ) × (rest : List (List ℕ)) × (onto_first byte words ≡ (byte ∷ word) ∷ rest)
+pub first_of : (byte : ℕ) (words : List (List ℕ)) → (word : List ℕ) × (rest : List (List ℕ)) × (onto_first byte words ≡ (byte ∷ word) ∷ rest)
 first_of byte [] = ([], [], refl)
 first_of byte (word ∷ words) = (word, words, refl)
 

@@ -92,19 +92,19 @@ expected_kind known at (Some words) found is = by_text (expected_of at known wor
     by_text (Ok text) is = ap is_none (ok_inj is)
     by_text (Err wrong) is = absurd (cc is)
 
-last_read : (named : Result (Unit {0}) Wrong) (step : Result (Option Plain) Wrong) (expected : Result (Option (List ℕ)) Wrong) (read : LineRead)
+pub expected_part : (named : Result (Unit {0}) Wrong) (step : Result (Option Plain) Wrong) (expected : Result (Option (List ℕ)) Wrong) (read : LineRead)
     → (named >>= λ _. step >>= λ s. expected >>= λ e. Ok (record { step = s; expected = e })) ≡ Ok read
     → expected ≡ Ok read.expected
-last_read (Ok done) (Ok step) (Ok expected) read is = ap (λ (r : LineRead). Ok r.expected) (ok_inj is)
-last_read (Ok done) (Ok step) (Err wrong) read is = absurd (cc is)
-last_read (Ok done) (Err wrong) expected read is = absurd (cc is)
-last_read (Err wrong) step expected read is = absurd (cc is)
+expected_part (Ok done) (Ok step) (Ok expected) read is = ap (λ (r : LineRead). Ok r.expected) (ok_inj is)
+expected_part (Ok done) (Ok step) (Err wrong) read is = absurd (cc is)
+expected_part (Ok done) (Err wrong) expected read is = absurd (cc is)
+expected_part (Err wrong) step expected read is = absurd (cc is)
 
 read_kind : (known : Known) (link : Link) (parts : Parts) (read : LineRead) → line_read known link parts ≡ Ok read
     → is_none parts.expected ≡ is_none read.expected
 read_kind known link parts read is =
     expected_kind known (expected_begins parts) parts.expected read.expected
-    (last_read (named known parts.name) (step_in known link parts) (expected_in known (expected_begins parts) parts.expected) read is)
+    (expected_part (named known parts.name) (step_in known link parts) (expected_in known (expected_begins parts) parts.expected) read is)
 
 -- what the call was answered
 abbrev pub answered : Wire → Option Taken → List ℕ

@@ -22,7 +22,7 @@ use Rattle.sva_script_traces.specs.Traces.{trace_from, trace_line, trace_more, t
 abbrev ends : ℕ → Bool
 ends byte = byte == 10
 
-none_of : (a b : Bool) → (a || b) ≡ false → (a ≡ false) × (b ≡ false)
+pub none_of : (a b : Bool) → (a || b) ≡ false → (a ≡ false) × (b ≡ false)
 none_of true b is = absurd (cc is)
 none_of false b is = (refl, is)
 

@@ -1,6 +1,6 @@
 //! What a device and a pager are told, what becomes of what a pager says, and how many uses a loop has in hand.
 
-use crate::worlds::{Setting, Tried, last_answer, plays, plays_alone, scenario, set_up, sets};
+use crate::worlds::{Setting, Tried, each_ends, last_answer, plays, plays_alone, scenario, set_up, sets};
 use std::alloc::Global;
 use std::process::Abort;
 use std::sync::Wait;
@@ -141,9 +141,7 @@ pub(crate) fn fails<C: Ledgers, R: Wait + Abort>(
     assert!(rt; last_answer(link) == Some(Ok(Answer::Job)));
     let told = says(rt, alloc, fabric, workers, Verdict::Failure, 2);
     assert!(rt; told == Some((1, 2, 3)));
-    for worker in workers.iter() {
-        assert!(rt; last_answer(worker) == Some(Ok(Answer::Failure)));
-    }
+    assert!(rt; each_ends(workers.as_slice(), Answer::Failure, None));
     let _link = sets(rt, alloc, fabric, link, RESPONSE, tickets);
     assert!(rt; last_answer(link) == Some(Ok(Answer::Answered)));
     let faults = scenario(rt, alloc, FAULTS).steps;
@@ -189,6 +187,12 @@ const READ_ONLY: Setting = Setting {
     moved: "config 1 4 1\ndeliver 0\nfault 0 1 32 w new last\ndeliver 1\nserve 0\n",
 };
 
+/// Whether a port's second call was refused BadVerdict.
+fn is_refused_second<C: Ledgers>(port: &Port<C>) -> bool {
+    let second = port.receipts().get(1).map(|receipt| receipt.answer);
+    second == Some(Err(Refusal::BadVerdict))
+}
+
 /// A success that is refused is answered `Invalid`.
 pub(crate) fn refused_success<C: Ledgers, R: Wait + Abort>(
     rt: &R,
@@ -201,12 +205,8 @@ pub(crate) fn refused_success<C: Ledgers, R: Wait + Abort>(
     let Ports { workers, .. } = ports;
     let told = says(rt, alloc, fabric, workers, Verdict::Success, 3);
     assert!(rt; told == Some((0, 0, 1)));
-    for worker in workers.iter() {
-        assert!(rt; worker.calls() == 3);
-        let second = worker.receipts().get(1).map(|receipt| receipt.answer);
-        assert!(rt; second == Some(Err(Refusal::BadVerdict)));
-        assert!(rt; last_answer(worker) == Some(Ok(Answer::Invalid)));
-    }
+    assert!(rt; each_ends(workers.as_slice(), Answer::Invalid, Some(3)));
+    assert!(rt; workers.iter().all(is_refused_second));
 }
 
 #[test]
@@ -234,10 +234,7 @@ pub(crate) fn invalid<C: Ledgers, R: Wait + Abort>(
     let Ports { link, workers, .. } = ports;
     let told = says(rt, alloc, fabric, workers, Verdict::Invalid, 2);
     assert!(rt; told == Some((0, 0, 1)));
-    for worker in workers.iter() {
-        assert!(rt; worker.calls() == 2);
-        assert!(rt; last_answer(worker) == Some(Ok(Answer::Invalid)));
-    }
+    assert!(rt; each_ends(workers.as_slice(), Answer::Invalid, Some(2)));
     let _link = sets(rt, alloc, fabric, link, ASKS_AGAIN, tickets);
 }
 

@@ -1,7 +1,7 @@
 //! That one port's use or job doesn't hold up another's.
 
 use crate::meetings::Marks;
-use crate::worlds::{Setting, Tried, last_answer, left_of, plays_alone, scenario, set_up, sets};
+use crate::worlds::{Setting, Tried, each_ends, left_of, plays_alone, scenario, set_up, sets};
 use std::alloc::Global;
 use std::process::Abort;
 use std::sync::{Barrier, Wait};
@@ -151,9 +151,7 @@ pub(crate) fn two_jobs<C: Ledgers + Send + Sync, R: Threads + Wait + Abort + Syn
     let (one, two) = decide_at_once(rt, alloc, fabric, first, second);
     assert!(rt; left_of(rt, one, tickets) == (0, 0));
     assert!(rt; left_of(rt, two, tickets) == (0, 0));
-    for port in ports.workers.iter() {
-        assert!(rt; last_answer(port) == Some(Ok(Answer::Success { pages: 1 })));
-    }
+    assert!(rt; each_ends(ports.workers.as_slice(), Answer::Success { pages: 1 }, None));
 }
 
 #[test]

@@ -88,6 +88,13 @@ pub(crate) fn last_answer<C: Ledgers>(port: &Port<C>) -> Option<Result<Answer, R
     port.last().map(|receipt| receipt.answer)
 }
 
+/// Whether the last call of each of some ports was answered so, and each has made so many calls, if that is asked.
+pub(crate) fn each_ends<C: Ledgers>(ports: &[Port<C>], answer: Answer, calls: Option<u64>) -> bool {
+    ports.iter().all(|port| {
+        last_answer(port) == Some(Ok(answer)) && calls.is_none_or(|calls| port.calls() == calls)
+    })
+}
+
 /// The calls of all ports.
 fn calls_of<C: Ledgers>(ports: &Ports<C>) -> u64 {
     let mut calls = ports.host.calls().wrapping_add(ports.link.calls());

@@ -1,0 +1,11 @@
+pub mod Rising
+pub mod Splits
+pub mod Leaving
+pub mod Naming
+pub mod Flights
+pub mod Moving
+pub mod Quiet
+pub mod Deliveries
+pub mod Stepping
+pub mod Equal
+pub mod Placing

@@ -1,0 +1,3 @@
+pub mod InFlight
+pub mod Alike
+pub mod Laws

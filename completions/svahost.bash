@@ -9,9 +9,11 @@ _svahost() {
     return
   fi
   if [ "$COMP_CWORD" -eq 1 ]; then
-    words='replay check storm plain test show why trace --help --version'
+    words='replay check storm plain test show why chart trace --help --version'
   elif [ "$command" = trace ]; then
     words='--live --help'
+  elif [ "$command" = chart ]; then
+    words='--svg --help'
   elif [ "$command" = storm ]; then
     [ "$before" = --turns ] && return
     words='--turns --help'

@@ -1,5 +1,5 @@
--- clap takes a command that has no arguments alone, and with `--` behind, `storm` with what `TurnLemmas` says, and `trace` with what its own
--- definitions say: each other list of words has a fault.
+-- clap takes a command that has no arguments alone, and with `--` behind, `storm` with what `TurnLemmas` says, and `chart` and `trace` with what
+-- their own definitions say: each other list of words has a fault.
 use Rattle.std.proofs.Common.{◌≡◌, ◌⊎◌, inl, inr, refl, sym, subst, ap, ◌∙◌, ℕ, Bool, true, false, List, [], ◌∷◌, ◌++◌, Option, Some, None, codes}
 use Rattle.std.proofs.Common.{length, cond, option_map, unwrap_or, fold, ◌||◌, ◌<◌, append-nil, append_assoc, arith}
 use Rattle.std.specs.Prelude.{is_some}
@@ -17,8 +17,8 @@ use Rattle.clap.specs.Walk.{finished, settled, rows_after, Names, Walk, answers_
 use Rattle.clap.proofs.OnLiterals.{clap_on_literals}
 use Rattle.clap.proofs.ValueTestLemmas.{Accepts-accepts, accepts-Accepts}
 use Rattle.sva_program.specs.declared.command.Asked.{Asked}
-use Rattle.sva_program.specs.declared.command.Asked.TheVariants.{Replay, Check, Storm, Plain, Test, Show, Why, Trace}
-use Rattle.sva_program.specs.Command.{Asks, AsksRun, faults_of, GivesTurns, IsCommand, IsReadable, WritesTurns, apart, asked_by, attached, is_live}
+use Rattle.sva_program.specs.declared.command.Asked.TheVariants.{Replay, Check, Storm, Plain, Test, Show, Why, Chart, Trace}
+use Rattle.sva_program.specs.Command.{Asks, AsksRun, faults_of, GivesTurns, IsCommand, IsReadable, WritesTurns, apart, asked_by, attached, chart_shape, is_live, is_svg}
 use Rattle.sva_program.specs.Command.{svahost, trace_shape, turns_by, turns_text, usual}
 use Rattle.sva_program.proofs.FlagLemmas.{dashes, is_word, leaf_words, left, right, top, tops, tops_ask}
 use Rattle.sva_program.proofs.TurnLemmas.{IsTaken, taken_apart, taken_attached, taken_nothing}
@@ -55,6 +55,9 @@ asked_of explaining = Why
 abbrev storm : Text
 storm = codes "storm"
 
+abbrev chart : Text
+chart = codes "chart"
+
 abbrev trace : Text
 trace = codes "trace"
 
@@ -62,16 +65,17 @@ abbrev names : Names
 names = names_of (built svahost)
 
 -- the command that a word names, by which of their names it is
-abbrev met_by : Bool → Bool → Bool → Bool → Bool → Bool → Bool → Bool → Option Text
-met_by a b c d e f g h =
+abbrev met_by : Bool → Bool → Bool → Bool → Bool → Bool → Bool → Bool → Bool → Option Text
+met_by a b c d e f g h i =
     option_map {T = Text × List Text} (λ s. s.0) (cond a (Some (word_of replaying, [])) (cond b (Some (word_of checking, [])) (cond c (Some (storm, []))
     (cond d (Some (word_of printing, [])) (cond e (Some (word_of testing, [])) (cond f (Some (word_of showing, []))
-    (cond g (Some (word_of explaining, [])) (cond h (Some (trace, [])) None))))))))
+    (cond g (Some (word_of explaining, [])) (cond h (Some (chart, [])) (cond i (Some (trace, [])) None)))))))))
 
 -- the first word is the name of a command, or `--`
 data IsFirst (word : Text) : Type 0 where
   is_bare : (bare : Bare) → word ≡ word_of bare → IsFirst word
   is_storm : word ≡ storm → IsFirst word
+  is_chart : word ≡ chart → IsFirst word
   is_trace : word ≡ trace → IsFirst word
   is_dashes : word ≡ codes "--" → IsFirst word
 
@@ -82,7 +86,7 @@ or_false false e = e
 named : (name word : Text) → answers_to word (name, []) ≡ true → word ≡ name
 named name word met = sym (is_word name word (or_false _ met))
 
-command_or_dashes : (a b c d f g y h : Bool) (word : Text)
+command_or_dashes : (a b c d f g y z h : Bool) (word : Text)
     → (a ≡ true → word ≡ word_of replaying)
     → (b ≡ true → word ≡ word_of checking)
     → (c ≡ true → word ≡ storm)
@@ -90,29 +94,31 @@ command_or_dashes : (a b c d f g y h : Bool) (word : Text)
     → (f ≡ true → word ≡ word_of testing)
     → (g ≡ true → word ≡ word_of showing)
     → (y ≡ true → word ≡ word_of explaining)
+    → (z ≡ true → word ≡ chart)
     → (h ≡ true → word ≡ trace)
-    → or_else (other_fault top (met_by a b c d f g y h) word nothing_held)
-    (step_fault top 1 (subcommand_or_other top.rules (met_by a b c d f g y h) idle 1 word nothing_held).0
-    (subcommand_or_other top.rules (met_by a b c d f g y h) idle 1 word nothing_held).1) ≡ []
+    → or_else (other_fault top (met_by a b c d f g y z h) word nothing_held)
+    (step_fault top 1 (subcommand_or_other top.rules (met_by a b c d f g y z h) idle 1 word nothing_held).0
+    (subcommand_or_other top.rules (met_by a b c d f g y z h) idle 1 word nothing_held).1) ≡ []
     → IsFirst word
-command_or_dashes true b c d f g y h word r k s p t w v u e = is_bare replaying (r refl)
-command_or_dashes false true c d f g y h word r k s p t w v u e = is_bare checking (k refl)
-command_or_dashes false false true d f g y h word r k s p t w v u e = is_storm (s refl)
-command_or_dashes false false false true f g y h word r k s p t w v u e = is_bare printing (p refl)
-command_or_dashes false false false false true g y h word r k s p t w v u e = is_bare testing (t refl)
-command_or_dashes false false false false false true y h word r k s p t w v u e = is_bare showing (w refl)
-command_or_dashes false false false false false false true h word r k s p t w v u e = is_bare explaining (v refl)
-command_or_dashes false false false false false false false true word r k s p t w v u e = is_trace (u refl)
-command_or_dashes false false false false false false false false word r k s p t w v u e =
+command_or_dashes true b c d f g y z h word r k s p t w v x u e = is_bare replaying (r refl)
+command_or_dashes false true c d f g y z h word r k s p t w v x u e = is_bare checking (k refl)
+command_or_dashes false false true d f g y z h word r k s p t w v x u e = is_storm (s refl)
+command_or_dashes false false false true f g y z h word r k s p t w v x u e = is_bare printing (p refl)
+command_or_dashes false false false false true g y z h word r k s p t w v x u e = is_bare testing (t refl)
+command_or_dashes false false false false false true y z h word r k s p t w v x u e = is_bare showing (w refl)
+command_or_dashes false false false false false false true z h word r k s p t w v x u e = is_bare explaining (v refl)
+command_or_dashes false false false false false false false true h word r k s p t w v x u e = is_chart (x refl)
+command_or_dashes false false false false false false false false true word r k s p t w v x u e = is_trace (u refl)
+command_or_dashes false false false false false false false false false word r k s p t w v x u e =
     is_dashes (is_word _ _ (dashes tops tops_ask top (bytes_eq word (codes "--")) word e))
 
 top_first : (word : Text) → turn_fault top names (walk_from nothing_held) word ≡ [] → IsFirst word
 top_first word e =
     command_or_dashes (answers_to word (word_of replaying, [])) (answers_to word (word_of checking, [])) (answers_to word (storm, []))
     (answers_to word (word_of printing, [])) (answers_to word (word_of testing, [])) (answers_to word (word_of showing, []))
-    (answers_to word (word_of explaining, [])) (answers_to word (trace, [])) word (named (word_of replaying) word) (named (word_of checking) word)
-    (named storm word) (named (word_of printing) word) (named (word_of testing) word) (named (word_of showing) word) (named (word_of explaining) word)
-    (named trace word) e
+    (answers_to word (word_of explaining, [])) (answers_to word (chart, [])) (answers_to word (trace, [])) word (named (word_of replaying) word)
+    (named (word_of checking) word) (named storm word) (named (word_of printing) word) (named (word_of testing) word) (named (word_of showing) word)
+    (named (word_of explaining) word) (named chart word) (named trace word) e
 
 none_behind_top : (rest : List Text) → walk_fault top names (walked top.rules names (walk_from nothing_held) (codes "--")) rest ≡ [] → rest ≡ []
 unfolding clap_on_literals
@@ -162,6 +168,12 @@ bare_words : (bare : Bare) (name : Text) (rest : List Text) → fault_of svahost
 bare_words bare name rest e =
     let stop = gathers (word_of bare) [] rest (walk_from nothing_held) in
     bare_leaf bare rest (subst (λ stop. entered_fault (built svahost) stop ≡ []) stop (bare_level bare name rest e))
+
+chart_level : (name : Text) (rest : List Text) → fault_of svahost (name ∷ chart ∷ rest) ≡ [] → level_fault chart_shape [] nothing_held rest false [] ≡ []
+unfolding clap_on_literals
+chart_level name rest e =
+    let stop = gathers chart [] rest (walk_from nothing_held) in
+    subst (λ stop. entered_fault (built svahost) stop ≡ []) stop (left _ _ (right _ _ e))
 
 trace_level : (name : Text) (rest : List Text) → fault_of svahost (name ∷ trace ∷ rest) ≡ [] → level_fault trace_shape [] nothing_held rest false [] ≡ []
 unfolding clap_on_literals
@@ -213,6 +225,9 @@ unfolding clap_on_literals
 asks_first name word rest (is_bare bare is) e =
     let none = bare_words bare name rest (subst (λ w. fault_of svahost (name ∷ w ∷ rest) ≡ []) is e) in
     subst (λ w. AsksRun (name ∷ w ∷ rest)) (sym is) (asks_bare bare _ (asks_command (word_of bare) name rest none))
+asks_first name word rest (is_chart is) e =
+    let none = chart_level name rest (subst (λ w. fault_of svahost (name ∷ w ∷ rest) ≡ []) is e) in
+    subst (λ w. AsksRun (name ∷ w ∷ rest)) (sym is) (Chart (is_svg (rows_after chart_shape.rules [] rest)), (name, rest, (none, refl), refl))
 asks_first name word rest (is_trace is) e =
     let none = trace_level name rest (subst (λ w. fault_of svahost (name ∷ w ∷ rest) ≡ []) is e) in
     subst (λ w. AsksRun (name ∷ w ∷ rest)) (sym is) (Trace (is_live (rows_after trace_shape.rules [] rest)), (name, rest, (none, refl), refl))
@@ -307,6 +322,13 @@ takes_trace name rest e =
     ap (λ k. or_else k (behind_words (fold (walked top.rules names) first rest))) (gathered_unfaulted trace [] rest (walk_from nothing_held))
     ∙ ap behind_words (gathers_all trace [] rest (walk_from nothing_held)) ∙ ap (λ k. or_else k []) e
 
+takes_chart : (name : Text) (rest : List Text) → level_fault chart_shape [] nothing_held rest false [] ≡ [] → fault_of svahost (name ∷ chart ∷ rest) ≡ []
+unfolding clap_on_literals
+takes_chart name rest e =
+    let first = record (walk_from nothing_held) { stopped = Some (chart, []) } in
+    ap (λ k. or_else k (behind_words (fold (walked top.rules names) first rest))) (gathered_unfaulted chart [] rest (walk_from nothing_held))
+    ∙ ap behind_words (gathers_all chart [] rest (walk_from nothing_held)) ∙ ap (λ k. or_else k []) e
+
 taken_words : (asked : Asked) (words : List Text) → Asks asked words → fault_of svahost words ≡ []
 taken_words Replay words is = taken_bare replaying words is
 taken_words Check words is = taken_bare checking words is
@@ -314,6 +336,7 @@ taken_words Plain words is = taken_bare printing words is
 taken_words Test words is = taken_bare testing words is
 taken_words Show words is = taken_bare showing words is
 taken_words Why words is = taken_bare explaining words is
+taken_words (Chart svg) words (name, rest, given, e) = subst (λ w. fault_of svahost w ≡ []) (sym e) (takes_chart name rest given.0)
 taken_words (Trace live) words (name, rest, given, e) = subst (λ w. fault_of svahost w ≡ []) (sym e) (takes_trace name rest given.0)
 taken_words (Storm turns) words (name, rest, given, inl e) = subst (λ w. fault_of svahost w ≡ []) (sym e) (unfaulted name rest (given_taken turns rest given)).0
 taken_words (Storm turns) words (name, rest, given, inr e) = subst (λ w. fault_of svahost w ≡ []) (sym e) (unfaulted name rest (given_taken turns rest given)).1
@@ -358,6 +381,10 @@ enters_trace : (name : Text) (words : List Text) → subcommand_of svahost (name
 unfolding clap_on_literals
 enters_trace name words = ap (entered (built svahost)) (gathers trace [] words (walk_from nothing_held))
 
+enters_chart : (name : Text) (words : List Text) → subcommand_of svahost (name ∷ chart ∷ words) ≡ Some (chart, rows_after chart_shape.rules [] words)
+unfolding clap_on_literals
+enters_chart name words = ap (entered (built svahost)) (gathers chart [] words (walk_from nothing_held))
+
 enters_storm : (name : Text) (words : List Text) → subcommand_of svahost (name ∷ storm ∷ words) ≡ Some (storm, rows_after storm_rules [] words)
 unfolding clap_on_literals
 enters_storm name words = ap (entered (built svahost)) (gathers storm [] words (walk_from nothing_held))
@@ -384,6 +411,11 @@ tells_trace name rest live is =
     let enters = enters_trace name rest in
     (ap asked_by enters ∙ ap Trace (sym is), subst IsReadable (sym enters) (λ is_storm. absurd (is_other trace refl is_storm)))
 
+tells_chart : (name : Text) (rest : List Text) (svg : Bool) → svg ≡ is_svg (rows_after chart_shape.rules [] rest) → Tells (Chart svg) (name ∷ chart ∷ rest)
+tells_chart name rest svg is =
+    let enters = enters_chart name rest in
+    (ap asked_by enters ∙ ap Chart (sym is), subst IsReadable (sym enters) (λ is_storm. absurd (is_other chart refl is_storm)))
+
 tells : (asked : Asked) (words : List Text) → Asks asked words → Tells asked words
 tells Replay words is = bare_tells replaying words is
 tells Check words is = bare_tells checking words is
@@ -391,6 +423,7 @@ tells Plain words is = bare_tells printing words is
 tells Test words is = bare_tells testing words is
 tells Show words is = bare_tells showing words is
 tells Why words is = bare_tells explaining words is
+tells (Chart svg) words (name, rest, given, e) = subst (Tells (Chart svg)) (sym e) (tells_chart name rest svg given.1)
 tells (Trace live) words (name, rest, given, e) = subst (Tells (Trace live)) (sym e) (tells_trace name rest live given.1)
 tells (Storm turns) words (name, rest, given, inl e) =
     let t = given_taken turns rest given in

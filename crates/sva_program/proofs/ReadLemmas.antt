@@ -12,8 +12,8 @@ use Rattle.clap.specs.declared.parser.matches.ArgMatches.{ArgMatches}
 use Rattle.clap.specs.declared.parser.matches.ArgMatches.TheViews.{out-ArgMatches, out-SubCommand}
 use Rattle.clap.specs.declared.parser.matches.Found.{Found}
 use Rattle.clap.specs.declared.parser.matches.SubCommand.{SubCommand}
-use Rattle.sva_program.specs.declared.command.Asked.TheVariants.{Storm, Trace}
-use Rattle.sva_program.specs.Command.{IsReadable, IsWritten, asked_by, is_live, turns_by, turns_text}
+use Rattle.sva_program.specs.declared.command.Asked.TheVariants.{Chart, Storm, Trace}
+use Rattle.sva_program.specs.Command.{IsReadable, IsWritten, asked_by, is_live, is_svg, turns_by, turns_text}
 
 -- what `u64` makes of a text
 abbrev Reads : Text → Result ℕ ParseIntError → Type 0
@@ -76,3 +76,19 @@ entered_trace m name rows live trace named found made = go (out-ArgMatches m).su
         let own = rows_of (found_of (out-SubCommand (box_value b)).matches) in
         subst (λ n. Trace live ≡ asked_by (Some (n, own))) (sym trace ∙ ap (λ o. unwrap_or o name) named)
         (ap Trace (made ∙ ap is_live (ap (λ o. unwrap_or o rows) found)))
+
+-- where `chart` was entered, the words ask for a chart
+pub entered_chart : (m : ArgMatches) (name : Text) (rows : List Row) (svg : Bool) → name ≡ codes "chart" → Some name ≡ subcommand_name_of m
+    → Some rows ≡ option_map (λ p. p.1) (subcommand_rows (out-ArgMatches m).subcommand)
+    → svg ≡ is_svg rows
+    → Chart svg ≡ asked_by (subcommand_rows_of m)
+entered_chart m name rows svg chart named found made = go (out-ArgMatches m).subcommand named found
+  where
+    go : {Z : Type 0} (b : Option (Box SubCommand Z)) → Some name ≡ option_map (λ b. (out-SubCommand (box_value b)).name.now) b
+        → Some rows ≡ option_map (λ p. p.1) (subcommand_rows b)
+        → Chart svg ≡ asked_by (subcommand_rows b)
+    go None named found = absurd (cc named)
+    go (Some b) named found =
+        let own = rows_of (found_of (out-SubCommand (box_value b)).matches) in
+        subst (λ n. Chart svg ≡ asked_by (Some (n, own))) (sym chart ∙ ap (λ o. unwrap_or o name) named)
+        (ap Chart (made ∙ ap is_svg (ap (λ o. unwrap_or o rows) found)))

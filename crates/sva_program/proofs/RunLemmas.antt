@@ -22,7 +22,7 @@ use Rattle.sva_script_reports.specs.Whys.{whys_of}
 use Rattle.sva_script_traces.specs.Traces.{trace_of}
 use Rattle.sva_program.specs.Run.{HasCause, Makes, Reports, WhereKnown, columns_of}
 use Rattle.sva_program.specs.declared.command.Asked.{Asked}
-use Rattle.sva_program.specs.declared.command.Asked.TheVariants.{Check, Plain, Replay, Show, Storm, Test, Trace, Why}
+use Rattle.sva_program.specs.declared.command.Asked.TheVariants.{Chart, Check, Plain, Replay, Show, Storm, Test, Trace, Why}
 
 keeps : (old new : Option (List ℕ)) → new ≡ old → Keeps old new
 keeps None new e = tt
@@ -94,6 +94,7 @@ unwritten_by Plain input old = unwritten_where _ input old (λ text. unprinted (
 unwritten_by Test input old = unwritten_where _ input old (λ text. unprinted (test_of text) old)
 unwritten_by Show input old = unwritten_where _ input old (λ text. unprinted (show_of text) old)
 unwritten_by Why input old = unwritten_where _ input old (λ text. unprinted (whys_of text) old)
+unwritten_by (Chart svg) input old = unwritten_where _ input old (λ text. (show_of text, (refl, λ wrong. refl), unprinted (show_of text) old))
 unwritten_by (Trace live) None old = tt
 unwritten_by (Trace live) (Some text) old = unprinted (trace_of (columns_of live) text) old
 

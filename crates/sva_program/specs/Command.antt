@@ -12,7 +12,7 @@ use Rattle.clap.specs.declared.builder.value_parser.ValueParser.TheVariants.{Uns
 use Rattle.clap.specs.declared.error.kind.ErrorKind.{ErrorKind}
 use Rattle.clap.specs.declared.error.kind.ErrorKind.TheVariants.{DisplayHelp, DisplayVersion}
 use Rattle.sva_program.specs.declared.command.Asked.{Asked}
-use Rattle.sva_program.specs.declared.command.Asked.TheVariants.{Replay, Check, Storm, Plain, Test, Show, Why, Trace}
+use Rattle.sva_program.specs.declared.command.Asked.TheVariants.{Replay, Check, Storm, Plain, Test, Show, Why, Chart, Trace}
 
 -- `--turns N`, a number that is read as u64, from 1 to 1000000, or 10000 where it isn't given
 abbrev pub turns_rule : Rule
@@ -28,13 +28,17 @@ turns_rule = record (new_rule (codes "turns")) {
 abbrev pub live_rule : Rule
 live_rule = record (new_rule (codes "live")) { long = Some (codes "live"); action = Some SetTrue }
 
+-- `--svg`, a flag
+abbrev pub svg_rule : Rule
+svg_rule = record (new_rule (codes "svg")) { long = Some (codes "svg"); action = Some SetTrue }
+
 -- `svahost` with a version, before its commands, of which one is wanted
 abbrev pub no_commands : App
 no_commands = let plain = new_app (codes "svahost") in
     record plain { top = record plain.top { has_version = true; subcommand_required = true; disable_help_subcommand = true } }
 
--- `svahost` with a version and its commands: `storm`, which takes `--turns`, `trace`, which takes `--live`, and those that take no
--- arguments; each has clap's flags for help
+-- `svahost` with a version and its commands: `storm`, which takes `--turns`, `chart`, which takes `--svg`, `trace`, which takes `--live`,
+-- and those that take no arguments; each has clap's flags for help
 abbrev pub svahost : App
 svahost =
     let replaying = with_subcommand no_commands (new_app (codes "replay")).top in
@@ -44,7 +48,8 @@ svahost =
     let testing = with_subcommand plain_too (new_app (codes "test")).top in
     let showing = with_subcommand testing (new_app (codes "show")).top in
     let explaining = with_subcommand showing (new_app (codes "why")).top in
-    with_subcommand explaining (with_rule (new_app (codes "trace")) live_rule).top
+    let charting = with_subcommand explaining (with_rule (new_app (codes "chart")) svg_rule).top in
+    with_subcommand charting (with_rule (new_app (codes "trace")) live_rule).top
 
 -- the faults of words, by clap's definitions
 unfoldable pub faults_of : List Text → Kinds
@@ -82,6 +87,14 @@ last_shape shape (next ∷ shapes) = last_shape next shapes
 abbrev pub trace_shape : Shape
 trace_shape = last_shape (built svahost).top (built svahost).subs
 
+-- the command `chart` as clap builds it: the last but one
+abbrev pub shape_before_last : Shape → Shape → List Shape → Shape
+shape_before_last shape last [] = shape
+shape_before_last shape last (next ∷ shapes) = shape_before_last last next shapes
+
+abbrev pub chart_shape : Shape
+chart_shape = shape_before_last (built svahost).top (built svahost).top (built svahost).subs
+
 -- was `--live` found?
 abbrev pub is_live : List Row → Bool
 is_live rows = option_map_or (λ text. bytes_eq text (codes "true")) (first_of (codes "live") rows) false
@@ -94,6 +107,18 @@ GivesLive live words = (level_fault trace_shape [] nothing_held words false [] �
 abbrev pub IsTrace : Bool → List Text → Type 0
 IsTrace live words = (name : Text) × (rest : List Text) × GivesLive live rest × (words ≡ name ∷ codes "trace" ∷ rest)
 
+-- was `--svg` found?
+abbrev pub is_svg : List Row → Bool
+is_svg rows = option_map_or (λ text. bytes_eq text (codes "true")) (first_of (codes "svg") rows) false
+
+-- the words behind `chart`, by clap's definitions: they have no fault, and `--svg` is among them or not
+abbrev pub GivesSvg : Bool → List Text → Type 0
+GivesSvg svg words = (level_fault chart_shape [] nothing_held words false [] ≡ []) × (svg ≡ is_svg (rows_after chart_shape.rules [] words))
+
+-- the words are the program's name, `chart`, and words that say this of `--svg`
+abbrev pub IsChart : Bool → List Text → Type 0
+IsChart svg words = (name : Text) × (rest : List Text) × GivesSvg svg rest × (words ≡ name ∷ codes "chart" ∷ rest)
+
 -- the words ask for this command
 abbrev pub Asks : Asked → List Text → Type 0
 Asks Replay words = IsCommand (codes "replay") words
@@ -103,6 +128,7 @@ Asks Plain words = IsCommand (codes "plain") words
 Asks Test words = IsCommand (codes "test") words
 Asks Show words = IsCommand (codes "show") words
 Asks Why words = IsCommand (codes "why") words
+Asks (Chart svg) words = IsChart svg words
 Asks (Trace live) words = IsTrace live words
 
 -- the command that clap entered, by its name and by what was found of `--turns`
@@ -125,6 +151,7 @@ asked_by (Some (name, rows)) =
     if bytes_eq name (codes "test") then Test else
     if bytes_eq name (codes "show") then Show else
     if bytes_eq name (codes "why") then Why else
+    if bytes_eq name (codes "chart") then Chart (is_svg rows) else
     if bytes_eq name (codes "trace") then Trace (is_live rows) else
     Replay
 
@@ -152,6 +179,7 @@ pub data CallsHelp (words : List Text) : Type 0 where
   behind_test : (name : Text) → words ≡ name ∷ codes "test" ∷ codes "--help" ∷ [] → CallsHelp words
   behind_show : (name : Text) → words ≡ name ∷ codes "show" ∷ codes "--help" ∷ [] → CallsHelp words
   behind_why : (name : Text) → words ≡ name ∷ codes "why" ∷ codes "--help" ∷ [] → CallsHelp words
+  behind_chart : (name : Text) → words ≡ name ∷ codes "chart" ∷ codes "--help" ∷ [] → CallsHelp words
   behind_trace : (name : Text) → words ≡ name ∷ codes "trace" ∷ codes "--help" ∷ [] → CallsHelp words
 
 -- a call for the version: by a flag in the place of the command, whatever follows

@@ -9,6 +9,7 @@ use Rattle.sva_scenario.specs.declared.streams.DriveFault.{DriveFault}
 use Rattle.sva_scenario.specs.declared.streams.DriveFault.TheVariants.{Read, Write, Memory}
 use Rattle.sva_scenario.specs.declared.streams.Outcome.{Outcome}
 use Rattle.sva_scenario.specs.declared.streams.Outcome.TheVariants.{Done, Faulted}
+use Rattle.sva_charts.specs.Charts.{Charts}
 use Rattle.sva_script_traces.specs.declared.rows.Columns.{Columns}
 use Rattle.sva_script_traces.specs.declared.rows.Columns.TheVariants.{Padded, Tabbed}
 use Rattle.sva_script_reading.specs.Said.{Prints}
@@ -17,7 +18,7 @@ use Rattle.sva_script_reports.specs.Shows.{show_of}
 use Rattle.sva_script_reports.specs.Whys.{whys_of}
 use Rattle.sva_script_traces.specs.Traces.{trace_of}
 use Rattle.sva_program.specs.declared.command.Asked.{Asked}
-use Rattle.sva_program.specs.declared.command.Asked.TheVariants.{Replay, Check, Storm, Plain, Test, Show, Why, Trace}
+use Rattle.sva_program.specs.declared.command.Asked.TheVariants.{Replay, Check, Storm, Plain, Test, Show, Why, Chart, Trace}
 
 -- the status: 0 where the steps were run, 1 for a line fault, a refused config and every fault of a stream or of memory
 abbrev pub status_of : Result Outcome DriveFault → ℕ
@@ -63,7 +64,8 @@ columns_of live = if live then Tabbed else Padded
 
 -- What a command wrote. What a storm makes of its input depends on its threads: they have played the scenario in so many turns each, and
 -- what is written is what the audit of their receipts found, the sum of its own counts or a bad receipt; where memory lacked, nothing is. A
--- trace has written the rows of what came before a read fault.
+-- trace has written the rows of what came before a read fault. Of a chart it is known what it says where the script is wrong, and that
+-- it is one text, of which after a fault a prefix was written; not what is drawn.
 abbrev pub Reports : Asked → Option (List ℕ) → Option (List ℕ) → Option (List ℕ) → Result Outcome DriveFault → Type 0
 Reports Replay input old new ended = WhereKnown (λ text. Makes old new (report_of text) (outcome_of text) ended) input old new ended
 Reports Check input old new ended = WhereKnown (λ text. Makes old new (check_of text) (check_outcome_of text) ended) input old new ended
@@ -72,6 +74,7 @@ Reports Plain input old new ended = WhereKnown (λ text. Prints (plain_of text) 
 Reports Test input old new ended = WhereKnown (λ text. Prints (test_of text) old new ended) input old new ended
 Reports Show input old new ended = WhereKnown (λ text. Prints (show_of text) old new ended) input old new ended
 Reports Why input old new ended = WhereKnown (λ text. Prints (whys_of text) old new ended) input old new ended
+Reports (Chart svg) input old new ended = WhereKnown (λ text. Charts text old new ended) input old new ended
 Reports (Trace live) input old new ended = IfSome input (λ text. Prints (trace_of (columns_of live) text) old new ended)
 
 -- a text for the user: something is said, and where the value's own text is known and isn't empty, it is that one

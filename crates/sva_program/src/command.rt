@@ -2,10 +2,11 @@
 
 ghost use Rattle.std.specs.Prelude.{◌≡◌, IfOk, codes, false};
 ghost use Rattle.clap.specs.Words.{FailsBy, app_of, found_of, new_app, rows_of, rule_of, subcommand_rows_of, with_rule, with_subcommand};
-ghost use Rattle.sva_program.specs.Command.{Asks, IsReadable, IsWritten, asked_by, faults_of, no_commands, is_live, live_rule, svahost, texts, turns_by, turns_rule, turns_text};
+ghost use Rattle.sva_program.specs.Command.{Asks, IsReadable, IsWritten, asked_by, faults_of, no_commands, is_live, is_svg, live_rule, svahost, svg_rule, texts, turns_by, turns_rule, turns_text};
 
 use crate::help::{
-    ABOUT, CHECK, HELP, LIVE, PLAIN, REPLAY, SHOW, STORM, TEST, TRACE, TURNS, VERSION, WHY,
+    ABOUT, CHART, CHECK, HELP, LIVE, PLAIN, REPLAY, SHOW, STORM, SVG, TEST, TRACE, TURNS, VERSION,
+    WHY,
 };
 use clap::builder::ValueParser;
 use clap::{Arg, ArgAction, ArgMatches, Command, Error};
@@ -37,6 +38,11 @@ pub enum Asked {
     Show,
     /// What holds the steps of a script back that were refused, blocked or withheld.
     Why,
+    /// The run of a script as a sequence chart.
+    Chart {
+        /// Is it a picture, and not text?
+        svg: bool,
+    },
     /// Each step of a script with its answer and its messages, as it comes.
     Trace {
         /// Is a column ended by a tab, and not padded?
@@ -111,6 +117,28 @@ fn with_trace<'a>(svahost: Command<'a>, alloc: Global) -> Result<Command<'a>, Al
     svahost.subcommand(with_live)
 }
 
+/// The option `--svg`.
+fn svg_option<'a>(alloc: Global) -> Arg<'a>
+    ensures rule { rule_of result ≡ svg_rule }
+    ensures local { result.global ≡ false }
+{
+    Arg::new(alloc, "svg")
+        .long("svg")
+        .action(ArgAction::SetTrue)
+        .help(SVG)
+}
+
+/// The program with its command `chart`.
+fn with_chart<'a>(svahost: Command<'a>, alloc: Global) -> Result<Command<'a>, AllocError>
+    ensures { IfOk result (λ command. app_of command ≡ with_subcommand (app_of svahost.entry) (with_rule (new_app (codes "chart")) svg_rule).top) }
+{
+    let chart = Command::new(alloc, "chart")
+        .about(CHART)
+        .long_about(whole_help());
+    let with_svg = chart.arg(svg_option(alloc))?;
+    svahost.subcommand(with_svg)
+}
+
 /// The program before its commands.
 fn without_commands<'a>(alloc: Global) -> Result<Command<'a>, AllocError>
     ensures { IfOk result (λ command. app_of command ≡ no_commands) }
@@ -138,7 +166,8 @@ fn command<'a>(alloc: Global) -> Result<Command<'a>, AllocError>
     let testing = with_bare(plain_too, alloc, "test", TEST)?;
     let showing = with_bare(testing, alloc, "show", SHOW)?;
     let explaining = with_bare(showing, alloc, "why", WHY)?;
-    with_trace(explaining, alloc)
+    let charting = with_chart(explaining, alloc)?;
+    with_trace(charting, alloc)
 }
 
 /// The command that the words ask for. A call for help or for the version is an `Err` too, as clap has it.
@@ -165,6 +194,7 @@ fn entered(matches: &ArgMatches<'_>) -> Asked
         Some(("test", _)) => Asked::Test,
         Some(("show", _)) => Asked::Show,
         Some(("why", _)) => Asked::Why,
+        Some(("chart", below)) => Asked::Chart { svg: svg(below) },
         Some(("trace", below)) => Asked::Trace { live: live(below) },
         _ => Asked::Replay,
     }
@@ -182,6 +212,16 @@ fn live(trace: &ArgMatches<'_>) -> bool
     ensures { result ≡ is_live (rows_of (found_of trace.now)) }
 {
     match trace.get_str("live") {
+        Some(text) => text == "true",
+        None => false,
+    }
+}
+
+/// Was `--svg` asked for?
+fn svg(chart: &ArgMatches<'_>) -> bool
+    ensures { result ≡ is_svg (rows_of (found_of chart.now)) }
+{
+    match chart.get_str("svg") {
         Some(text) => text == "true",
         None => false,
     }

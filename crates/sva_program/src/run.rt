@@ -17,6 +17,7 @@ use std::io;
 use std::io::{ErrorKind as IoErrorKind, Read, Write};
 use std::sync::Wait;
 use std::thread::Threads;
+use sva_charts::{Drawing, chart};
 use sva_scenario::{DriveFault, Outcome, Told, check, drive, write_all};
 use sva_script_reports::{Saying, print};
 use sva_script_traces::{Columns, trace};
@@ -92,8 +93,14 @@ fn perform<X: AllocGlobal + Threads + Wait + Sync, R: Read, W: Write>(
         Asked::Test => print(rt.alloc(), Saying::Test, reader, writer),
         Asked::Show => print(rt.alloc(), Saying::Show, reader, writer),
         Asked::Why => print(rt.alloc(), Saying::Why, reader, writer),
+        Asked::Chart { svg } => chart(rt.alloc(), drawing_of(svg), reader, writer),
         Asked::Trace { live } => trace(rt.alloc(), columns_of(live), reader, writer),
     }
+}
+
+/// How a chart is drawn: as text, or with `--svg` as a picture.
+fn drawing_of(svg: bool) -> Drawing {
+    if svg { Drawing::Svg } else { Drawing::Text }
 }
 
 /// How a trace ends its columns: `--live` leaves out the padding.

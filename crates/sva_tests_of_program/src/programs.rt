@@ -161,7 +161,7 @@ static MISTAKES: [(&[&str], &str); 9] = [
     (
         &[],
         "error: 'svahost' requires a subcommand but one was not provided
-  [subcommands: replay, check, storm, plain, test, show, why, trace]
+  [subcommands: replay, check, storm, plain, test, show, why, chart, trace]
 
 Usage: svahost <COMMAND>
 
@@ -339,6 +339,7 @@ Commands:
   test    Runs the script on standard input, and compares each answer with what it expects
   show    Runs the script on standard input, and prints what the host keeps behind its last line
   why     Runs the script on standard input, and prints what holds each refused step back
+  chart   Runs the script on standard input, and draws it as a sequence chart
   trace   Runs the script on standard input, and prints each step with its answer and its messages
 
 Options:

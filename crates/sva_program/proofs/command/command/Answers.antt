@@ -1,7 +1,7 @@
 use Rattle.std.proofs.Common.{ap, codes, ◌∙◌}
 use Rattle.std.proofs.lemmas.Result.{IfOk-weaker}
 use Rattle.clap.specs.Words.{App, Text, new_app, with_rule, with_subcommand}
-use Rattle.sva_program.specs.Command.{live_rule, turns_rule}
+use Rattle.sva_program.specs.Command.{live_rule, svg_rule, turns_rule}
 use Rattle.sva_program.proofs.command.command.Goals as goal
 
 -- a program with a command more, that takes no arguments
@@ -10,6 +10,9 @@ with_bare name app = with_subcommand app (new_app name).top
 
 abbrev with_storm : App → App
 with_storm app = with_subcommand app (with_rule (new_app (codes "storm")) turns_rule).top
+
+abbrev with_chart : App → App
+with_chart app = with_subcommand app (with_rule (new_app (codes "chart")) svg_rule).top
 
 pub returns : goal.returns
 returns c =
@@ -20,5 +23,6 @@ returns c =
     let testing_is = c.in_ok-testing.ensures ∙ ap (with_bare (codes "test")) plain_is in
     let showing_is = c.in_ok-showing.ensures ∙ ap (with_bare (codes "show")) testing_is in
     let explaining_is = c.in_ok-explaining.ensures ∙ ap (with_bare (codes "why")) showing_is in
+    let charting_is = c.in_ok-charting.ensures ∙ ap with_chart explaining_is in
     IfOk-weaker c.with_trace.result _ _ (λ r added. added
-    ∙ ap (λ (a : App). with_subcommand a (with_rule (new_app (codes "trace")) live_rule).top) explaining_is) c.with_trace.ensures
+    ∙ ap (λ (a : App). with_subcommand a (with_rule (new_app (codes "trace")) live_rule).top) charting_is) c.with_trace.ensures

@@ -1,6 +1,6 @@
 use Rattle.std.proofs.Common.{rules}
 use Rattle.clap.specs.Words.{found_of, rows_of}
-use Rattle.sva_program.proofs.ReadLemmas.{entered_storm, entered_trace}
+use Rattle.sva_program.proofs.ReadLemmas.{entered_chart, entered_storm, entered_trace}
 use Rattle.sva_program.proofs.command.entered.Goals as goal
 
 pub returns-in-Some-storm-default : goal.returns-in-Some-storm-default
@@ -14,3 +14,9 @@ returns-in-Some-trace-default c readable =
     let stage = c.in-Some-trace-default in
     entered_trace c.args.matches.now stage.field-0-0.now (rows_of (found_of stage.below.now)) c.live.result stage.is-trace stage.ensures.name
     stage.ensures.rows c.live.ensures
+
+pub returns-in-Some-chart-default : goal.returns-in-Some-chart-default
+returns-in-Some-chart-default c readable =
+    let stage = c.in-Some-chart-default in
+    entered_chart c.args.matches.now stage.field-0-0.now (rows_of (found_of stage.below.now)) c.svg.result stage.is-chart stage.ensures.name
+    stage.ensures.rows c.svg.ensures

@@ -2,6 +2,7 @@ use Rattle.std.proofs.Common.{IfSome, ap, subst, sym}
 use Rattle.std.proofs.lemmas.Result.{IfOk-weaker}
 use Rattle.sva_scenario.specs.Report.{check_of, check_outcome_of, outcome_of, report_of}
 use Rattle.sva_scenario.specs.Storms.{StormsOf}
+use Rattle.sva_charts.specs.Charts.{Charts}
 use Rattle.sva_script_reading.specs.Said.{Prints}
 use Rattle.sva_script_reports.specs.Scripts.{plain_of, test_of}
 use Rattle.sva_script_reports.specs.Shows.{show_of}
@@ -116,6 +117,22 @@ returns-in-Why-clause-report g c =
 pub returns-in-Why-clause-cause : goal.returns-in-Why-clause-cause
 returns-in-Why-clause-cause g c =
     let ran = c.print-in-Why in
+    let none = IfOk-weaker ran.result _ _ (λ _ e. (e.0, e.2)) ran.ensures.end in
+    caused ran.new.reader ran.new.writer ran.result none (λ read. (ran.ensures.read read).1) ran.ensures.write ran.ensures.memory
+
+pub returns-in-Chart-clause-report : goal.returns-in-Chart-clause-report
+returns-in-Chart-clause-report g c =
+    let ran = c.chart in
+    let input = g.R.Read.remaining c.args.reader.now.inner in
+    let old = g.W.Write.contents c.args.writer.now.inner in
+    let new = g.W.Write.contents ran.new.writer.inner in
+    subst (λ a. Reports a input old new ran.result) (sym c.in-Chart.is)
+    (reported (λ text. Charts text old new ran.result) input old new ran.result ran.ensures.charted
+    (λ read. ap (λ told. g.W.Write.contents told.inner) (ran.ensures.read read).0))
+
+pub returns-in-Chart-clause-cause : goal.returns-in-Chart-clause-cause
+returns-in-Chart-clause-cause g c =
+    let ran = c.chart in
     let none = IfOk-weaker ran.result _ _ (λ _ e. (e.0, e.2)) ran.ensures.end in
     caused ran.new.reader ran.new.writer ran.result none (λ read. (ran.ensures.read read).1) ran.ensures.write ran.ensures.memory
 

@@ -11,7 +11,7 @@ _svahost() {
   if [ "$COMP_CWORD" -eq 1 ]; then
     words='replay check storm plain test show why chart trace --help --version'
   elif [ "$command" = trace ]; then
-    words='--live --help'
+    words='--live --why --help'
   elif [ "$command" = chart ]; then
     words='--svg --help'
   elif [ "$command" = storm ]; then

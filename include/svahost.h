@@ -164,7 +164,8 @@ static inline enum svahost_status svahost_check(const void *text, size_t length,
 /*
  * Runs a script, and compares each answer with what it expects. SVAHOST_DONE: the report is `N answers as expected`.
  * SVAHOST_FAULTED: it is the first answer that isn't, as `line 6: unmap 0 16: expected 'free 0', answered 'withheld
- * 0'`, or what is wrong with the script. For a test this is the function to take.
+ * 0'`, and in lines below, which begin with four spaces, what holds its step back; or what is wrong with the script. For
+ * a test this is the function to take.
  */
 static inline enum svahost_status svahost_test(const void *text, size_t length, void *report, size_t room,
                                                size_t *needed)

@@ -18,7 +18,7 @@ use Rattle.clap.proofs.OnLiterals.{clap_on_literals}
 use Rattle.clap.proofs.ValueTestLemmas.{Accepts-accepts, accepts-Accepts}
 use Rattle.sva_program.specs.declared.command.Asked.{Asked}
 use Rattle.sva_program.specs.declared.command.Asked.TheVariants.{Replay, Check, Storm, Plain, Test, Show, Why, Chart, Trace}
-use Rattle.sva_program.specs.Command.{Asks, AsksRun, faults_of, GivesTurns, IsCommand, IsReadable, WritesTurns, apart, asked_by, attached, chart_shape, is_live, is_svg}
+use Rattle.sva_program.specs.Command.{Asks, AsksRun, faults_of, GivesTurns, IsCommand, IsReadable, WritesTurns, apart, asked_by, attached, chart_shape, is_given}
 use Rattle.sva_program.specs.Command.{svahost, trace_shape, turns_by, turns_text, usual}
 use Rattle.sva_program.proofs.FlagLemmas.{dashes, is_word, leaf_words, left, right, top, tops, tops_ask}
 use Rattle.sva_program.proofs.TurnLemmas.{IsTaken, taken_apart, taken_attached, taken_nothing}
@@ -227,10 +227,13 @@ asks_first name word rest (is_bare bare is) e =
     subst (λ w. AsksRun (name ∷ w ∷ rest)) (sym is) (asks_bare bare _ (asks_command (word_of bare) name rest none))
 asks_first name word rest (is_chart is) e =
     let none = chart_level name rest (subst (λ w. fault_of svahost (name ∷ w ∷ rest) ≡ []) is e) in
-    subst (λ w. AsksRun (name ∷ w ∷ rest)) (sym is) (Chart (is_svg (rows_after chart_shape.rules [] rest)), (name, rest, (none, refl), refl))
+    subst (λ w. AsksRun (name ∷ w ∷ rest)) (sym is) (Chart (is_given (codes "svg") (rows_after chart_shape.rules [] rest)), (name, rest, (none, refl), refl))
 asks_first name word rest (is_trace is) e =
     let none = trace_level name rest (subst (λ w. fault_of svahost (name ∷ w ∷ rest) ≡ []) is e) in
-    subst (λ w. AsksRun (name ∷ w ∷ rest)) (sym is) (Trace (is_live (rows_after trace_shape.rules [] rest)), (name, rest, (none, refl), refl))
+    subst (λ w. AsksRun (name ∷ w ∷ rest)) (sym is) (
+      Trace (is_given (codes "live") (rows_after trace_shape.rules [] rest)) (is_given (codes "why") (rows_after trace_shape.rules [] rest)),
+      (name, rest, (none, refl, refl), refl),
+    )
 asks_first name word rest (is_storm is) e =
     let found = taken rest (storm_level name rest (subst (λ w. fault_of svahost (name ∷ w ∷ rest) ≡ []) is e)) in
     subst (λ w. AsksRun (name ∷ w ∷ rest)) (sym is) (asks_storm name rest found.0 (gives found.0 found.1.0) found.1.1)
@@ -337,7 +340,7 @@ taken_words Test words is = taken_bare testing words is
 taken_words Show words is = taken_bare showing words is
 taken_words Why words is = taken_bare explaining words is
 taken_words (Chart svg) words (name, rest, given, e) = subst (λ w. fault_of svahost w ≡ []) (sym e) (takes_chart name rest given.0)
-taken_words (Trace live) words (name, rest, given, e) = subst (λ w. fault_of svahost w ≡ []) (sym e) (takes_trace name rest given.0)
+taken_words (Trace live whys) words (name, rest, given, e) = subst (λ w. fault_of svahost w ≡ []) (sym e) (takes_trace name rest given.0)
 taken_words (Storm turns) words (name, rest, given, inl e) = subst (λ w. fault_of svahost w ≡ []) (sym e) (unfaulted name rest (given_taken turns rest given)).0
 taken_words (Storm turns) words (name, rest, given, inr e) = subst (λ w. fault_of svahost w ≡ []) (sym e) (unfaulted name rest (given_taken turns rest given)).1
 
@@ -406,12 +409,13 @@ tells_storm name text turns words is e number =
           (λ is_storm other same. subst (IsUnsignedIn 1 1000000) (ap (λ found. unwrap_or found text) (sym is ∙ same)) (accepts-Accepts false parser text e)),
     )
 
-tells_trace : (name : Text) (rest : List Text) (live : Bool) → live ≡ is_live (rows_after trace_shape.rules [] rest) → Tells (Trace live) (name ∷ trace ∷ rest)
-tells_trace name rest live is =
+tells_trace : (name : Text) (rest : List Text) (live whys : Bool) → live ≡ is_given (codes "live") (rows_after trace_shape.rules [] rest)
+    → whys ≡ is_given (codes "why") (rows_after trace_shape.rules [] rest) → Tells (Trace live whys) (name ∷ trace ∷ rest)
+tells_trace name rest live whys is are =
     let enters = enters_trace name rest in
-    (ap asked_by enters ∙ ap Trace (sym is), subst IsReadable (sym enters) (λ is_storm. absurd (is_other trace refl is_storm)))
+    (ap asked_by enters ∙ (λ i. Trace (sym is i) (sym are i)), subst IsReadable (sym enters) (λ is_storm. absurd (is_other trace refl is_storm)))
 
-tells_chart : (name : Text) (rest : List Text) (svg : Bool) → svg ≡ is_svg (rows_after chart_shape.rules [] rest) → Tells (Chart svg) (name ∷ chart ∷ rest)
+tells_chart : (name : Text) (rest : List Text) (svg : Bool) → svg ≡ is_given (codes "svg") (rows_after chart_shape.rules [] rest) → Tells (Chart svg) (name ∷ chart ∷ rest)
 tells_chart name rest svg is =
     let enters = enters_chart name rest in
     (ap asked_by enters ∙ ap Chart (sym is), subst IsReadable (sym enters) (λ is_storm. absurd (is_other chart refl is_storm)))
@@ -424,7 +428,7 @@ tells Test words is = bare_tells testing words is
 tells Show words is = bare_tells showing words is
 tells Why words is = bare_tells explaining words is
 tells (Chart svg) words (name, rest, given, e) = subst (Tells (Chart svg)) (sym e) (tells_chart name rest svg given.1)
-tells (Trace live) words (name, rest, given, e) = subst (Tells (Trace live)) (sym e) (tells_trace name rest live given.1)
+tells (Trace live whys) words (name, rest, given, e) = subst (Tells (Trace live whys)) (sym e) (tells_trace name rest live whys given.1 given.2)
 tells (Storm turns) words (name, rest, given, inl e) =
     let t = given_taken turns rest given in
     subst (Tells (Storm turns)) (sym e)

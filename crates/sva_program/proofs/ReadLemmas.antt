@@ -13,7 +13,7 @@ use Rattle.clap.specs.declared.parser.matches.ArgMatches.TheViews.{out-ArgMatche
 use Rattle.clap.specs.declared.parser.matches.Found.{Found}
 use Rattle.clap.specs.declared.parser.matches.SubCommand.{SubCommand}
 use Rattle.sva_program.specs.declared.command.Asked.TheVariants.{Chart, Storm, Trace}
-use Rattle.sva_program.specs.Command.{IsReadable, IsWritten, asked_by, is_live, is_svg, turns_by, turns_text}
+use Rattle.sva_program.specs.Command.{IsReadable, IsWritten, asked_by, is_given, turns_by, turns_text}
 
 -- what `u64` makes of a text
 abbrev Reads : Text → Result ℕ ParseIntError → Type 0
@@ -62,25 +62,26 @@ entered_storm m name rows turns storm named found made readable = go (out-ArgMat
         (readable (sym (ap (λ o. unwrap_or o name) named) ∙ storm))
 
 -- where `trace` was entered, the words ask for a trace
-pub entered_trace : (m : ArgMatches) (name : Text) (rows : List Row) (live : Bool) → name ≡ codes "trace" → Some name ≡ subcommand_name_of m
+pub entered_trace : (m : ArgMatches) (name : Text) (rows : List Row) (live whys : Bool) → name ≡ codes "trace" → Some name ≡ subcommand_name_of m
     → Some rows ≡ option_map (λ p. p.1) (subcommand_rows (out-ArgMatches m).subcommand)
-    → live ≡ is_live rows
-    → Trace live ≡ asked_by (subcommand_rows_of m)
-entered_trace m name rows live trace named found made = go (out-ArgMatches m).subcommand named found
+    → live ≡ is_given (codes "live") rows → whys ≡ is_given (codes "why") rows
+    → Trace live whys ≡ asked_by (subcommand_rows_of m)
+entered_trace m name rows live whys trace named found made told = go (out-ArgMatches m).subcommand named found
   where
     go : {Z : Type 0} (b : Option (Box SubCommand Z)) → Some name ≡ option_map (λ b. (out-SubCommand (box_value b)).name.now) b
         → Some rows ≡ option_map (λ p. p.1) (subcommand_rows b)
-        → Trace live ≡ asked_by (subcommand_rows b)
+        → Trace live whys ≡ asked_by (subcommand_rows b)
     go None named found = absurd (cc named)
     go (Some b) named found =
         let own = rows_of (found_of (out-SubCommand (box_value b)).matches) in
-        subst (λ n. Trace live ≡ asked_by (Some (n, own))) (sym trace ∙ ap (λ o. unwrap_or o name) named)
-        (ap Trace (made ∙ ap is_live (ap (λ o. unwrap_or o rows) found)))
+        let same : rows ≡ own = ap (λ o. unwrap_or o rows) found in
+        subst (λ n. Trace live whys ≡ asked_by (Some (n, own))) (sym trace ∙ ap (λ o. unwrap_or o name) named)
+        (λ i. Trace ((made ∙ ap (is_given (codes "live")) same) i) ((told ∙ ap (is_given (codes "why")) same) i))
 
 -- where `chart` was entered, the words ask for a chart
 pub entered_chart : (m : ArgMatches) (name : Text) (rows : List Row) (svg : Bool) → name ≡ codes "chart" → Some name ≡ subcommand_name_of m
     → Some rows ≡ option_map (λ p. p.1) (subcommand_rows (out-ArgMatches m).subcommand)
-    → svg ≡ is_svg rows
+    → svg ≡ is_given (codes "svg") rows
     → Chart svg ≡ asked_by (subcommand_rows_of m)
 entered_chart m name rows svg chart named found made = go (out-ArgMatches m).subcommand named found
   where
@@ -91,4 +92,4 @@ entered_chart m name rows svg chart named found made = go (out-ArgMatches m).sub
     go (Some b) named found =
         let own = rows_of (found_of (out-SubCommand (box_value b)).matches) in
         subst (λ n. Chart svg ≡ asked_by (Some (n, own))) (sym chart ∙ ap (λ o. unwrap_or o name) named)
-        (ap Chart (made ∙ ap is_svg (ap (λ o. unwrap_or o rows) found)))
+        (ap Chart (made ∙ ap (is_given (codes "svg")) (ap (λ o. unwrap_or o rows) found)))

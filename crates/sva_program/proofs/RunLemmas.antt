@@ -20,7 +20,7 @@ use Rattle.sva_script_reports.specs.Scripts.{plain_of, test_of}
 use Rattle.sva_script_reports.specs.Shows.{show_of}
 use Rattle.sva_script_reports.specs.Whys.{whys_of}
 use Rattle.sva_script_traces.specs.Traces.{trace_of}
-use Rattle.sva_program.specs.Run.{HasCause, Makes, Reports, WhereKnown, columns_of}
+use Rattle.sva_program.specs.Run.{HasCause, Makes, Reports, WhereKnown, style_of}
 use Rattle.sva_program.specs.declared.command.Asked.{Asked}
 use Rattle.sva_program.specs.declared.command.Asked.TheVariants.{Chart, Check, Plain, Replay, Show, Storm, Test, Trace, Why}
 
@@ -95,8 +95,8 @@ unwritten_by Test input old = unwritten_where _ input old (λ text. unprinted (t
 unwritten_by Show input old = unwritten_where _ input old (λ text. unprinted (show_of text) old)
 unwritten_by Why input old = unwritten_where _ input old (λ text. unprinted (whys_of text) old)
 unwritten_by (Chart svg) input old = unwritten_where _ input old (λ text. (show_of text, (refl, λ wrong. refl), unprinted (show_of text) old))
-unwritten_by (Trace live) None old = tt
-unwritten_by (Trace live) (Some text) old = unprinted (trace_of (columns_of live) text) old
+unwritten_by (Trace live whys) None old = tt
+unwritten_by (Trace live whys) (Some text) old = unprinted (trace_of (style_of live whys) text) old
 
 pub unwritten : (asked : Asked) (input old new : Option (List ℕ)) → new ≡ old → Reports asked input old new (Err Memory)
 unwritten asked input old new e = subst (λ n. Reports asked input old n (Err Memory)) (sym e) (unwritten_by asked input old)

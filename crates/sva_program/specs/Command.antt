@@ -24,21 +24,17 @@ turns_rule = record (new_rule (codes "turns")) {
   parser = Some (Unsigned 1 1000000);
 }
 
--- `--live`, a flag
-abbrev pub live_rule : Rule
-live_rule = record (new_rule (codes "live")) { long = Some (codes "live"); action = Some SetTrue }
-
--- `--svg`, a flag
-abbrev pub svg_rule : Rule
-svg_rule = record (new_rule (codes "svg")) { long = Some (codes "svg"); action = Some SetTrue }
+-- a flag, as `--live`
+abbrev pub flag_rule : Text → Rule
+flag_rule name = record (new_rule name) { long = Some name; action = Some SetTrue }
 
 -- `svahost` with a version, before its commands, of which one is wanted
 abbrev pub no_commands : App
 no_commands = let plain = new_app (codes "svahost") in
     record plain { top = record plain.top { has_version = true; subcommand_required = true; disable_help_subcommand = true } }
 
--- `svahost` with a version and its commands: `storm`, which takes `--turns`, `chart`, which takes `--svg`, `trace`, which takes `--live`,
--- and those that take no arguments; each has clap's flags for help
+-- `svahost` with a version and its commands: `storm`, which takes `--turns`, `chart`, which takes `--svg`, `trace`, which takes `--live`
+-- and `--why`, and those that take no arguments; each has clap's flags for help
 abbrev pub svahost : App
 svahost =
     let replaying = with_subcommand no_commands (new_app (codes "replay")).top in
@@ -48,8 +44,8 @@ svahost =
     let testing = with_subcommand plain_too (new_app (codes "test")).top in
     let showing = with_subcommand testing (new_app (codes "show")).top in
     let explaining = with_subcommand showing (new_app (codes "why")).top in
-    let charting = with_subcommand explaining (with_rule (new_app (codes "chart")) svg_rule).top in
-    with_subcommand charting (with_rule (new_app (codes "trace")) live_rule).top
+    let charting = with_subcommand explaining (with_rule (new_app (codes "chart")) (flag_rule (codes "svg"))).top in
+    with_subcommand charting (with_rule (with_rule (new_app (codes "trace")) (flag_rule (codes "live"))) (flag_rule (codes "why"))).top
 
 -- the faults of words, by clap's definitions
 unfoldable pub faults_of : List Text → Kinds
@@ -95,25 +91,25 @@ shape_before_last shape last (next ∷ shapes) = shape_before_last last next sha
 abbrev pub chart_shape : Shape
 chart_shape = shape_before_last (built svahost).top (built svahost).top (built svahost).subs
 
--- was `--live` found?
-abbrev pub is_live : List Row → Bool
-is_live rows = option_map_or (λ text. bytes_eq text (codes "true")) (first_of (codes "live") rows) false
+-- was a flag found?
+abbrev pub is_given : (flag : Text) → List Row → Bool
+is_given flag rows = option_map_or (λ text. bytes_eq text (codes "true")) (first_of flag rows) false
 
--- the words behind `trace`, by clap's definitions: they have no fault, and `--live` is among them or not
-abbrev pub GivesLive : Bool → List Text → Type 0
-GivesLive live words = (level_fault trace_shape [] nothing_held words false [] ≡ []) × (live ≡ is_live (rows_after trace_shape.rules [] words))
+-- the words behind `trace`, by clap's definitions: they have no fault, and each of its flags is among them or not
+abbrev pub GivesFlags : (live whys : Bool) → List Text → Type 0
+GivesFlags live whys words =
+    (level_fault trace_shape [] nothing_held words false [] ≡ [])
+    × (live ≡ is_given (codes "live") (rows_after trace_shape.rules [] words))
+    × (whys ≡ is_given (codes "why") (rows_after trace_shape.rules [] words))
 
--- the words are the program's name, `trace`, and words that say this of `--live`
-abbrev pub IsTrace : Bool → List Text → Type 0
-IsTrace live words = (name : Text) × (rest : List Text) × GivesLive live rest × (words ≡ name ∷ codes "trace" ∷ rest)
-
--- was `--svg` found?
-abbrev pub is_svg : List Row → Bool
-is_svg rows = option_map_or (λ text. bytes_eq text (codes "true")) (first_of (codes "svg") rows) false
+-- the words are the program's name, `trace`, and words that say this of `--live` and of `--why`
+abbrev pub IsTrace : (live whys : Bool) → List Text → Type 0
+IsTrace live whys words = (name : Text) × (rest : List Text) × GivesFlags live whys rest × (words ≡ name ∷ codes "trace" ∷ rest)
 
 -- the words behind `chart`, by clap's definitions: they have no fault, and `--svg` is among them or not
 abbrev pub GivesSvg : Bool → List Text → Type 0
-GivesSvg svg words = (level_fault chart_shape [] nothing_held words false [] ≡ []) × (svg ≡ is_svg (rows_after chart_shape.rules [] words))
+GivesSvg svg words =
+    (level_fault chart_shape [] nothing_held words false [] ≡ []) × (svg ≡ is_given (codes "svg") (rows_after chart_shape.rules [] words))
 
 -- the words are the program's name, `chart`, and words that say this of `--svg`
 abbrev pub IsChart : Bool → List Text → Type 0
@@ -129,7 +125,7 @@ Asks Test words = IsCommand (codes "test") words
 Asks Show words = IsCommand (codes "show") words
 Asks Why words = IsCommand (codes "why") words
 Asks (Chart svg) words = IsChart svg words
-Asks (Trace live) words = IsTrace live words
+Asks (Trace live whys) words = IsTrace live whys words
 
 -- the command that clap entered, by its name and by what was found of `--turns`
 abbrev pub turns_text : List Row → Option Text
@@ -151,8 +147,8 @@ asked_by (Some (name, rows)) =
     if bytes_eq name (codes "test") then Test else
     if bytes_eq name (codes "show") then Show else
     if bytes_eq name (codes "why") then Why else
-    if bytes_eq name (codes "chart") then Chart (is_svg rows) else
-    if bytes_eq name (codes "trace") then Trace (is_live rows) else
+    if bytes_eq name (codes "chart") then Chart (is_given (codes "svg") rows) else
+    if bytes_eq name (codes "trace") then Trace (is_given (codes "live") rows) (is_given (codes "why") rows) else
     Replay
 
 -- what was found of `--turns` is a number of turns

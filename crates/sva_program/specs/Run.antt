@@ -12,6 +12,7 @@ use Rattle.sva_scenario.specs.declared.streams.Outcome.TheVariants.{Done, Faulte
 use Rattle.sva_charts.specs.Charts.{Charts}
 use Rattle.sva_script_traces.specs.declared.rows.Columns.{Columns}
 use Rattle.sva_script_traces.specs.declared.rows.Columns.TheVariants.{Padded, Tabbed}
+use Rattle.sva_script_traces.specs.declared.rows.Style.{Style}
 use Rattle.sva_script_reading.specs.Said.{Prints}
 use Rattle.sva_script_reports.specs.Scripts.{plain_of, test_of}
 use Rattle.sva_script_reports.specs.Shows.{show_of}
@@ -62,6 +63,10 @@ Makes old new text outcome ended = Writes old new text ended × IfOk ended (λ f
 abbrev pub columns_of : (live : Bool) → Columns
 columns_of live = if live then Tabbed else Padded
 
+-- `--why` tells behind the row of a step what holds it back
+abbrev pub style_of : (live whys : Bool) → Style
+style_of live whys = record { columns = columns_of live; whys = whys }
+
 -- What a command wrote. What a storm makes of its input depends on its threads: they have played the scenario in so many turns each, and
 -- what is written is what the audit of their receipts found, the sum of its own counts or a bad receipt; where memory lacked, nothing is. A
 -- trace has written the rows of what came before a read fault. Of a chart it is known what it says where the script is wrong, and that
@@ -75,7 +80,7 @@ Reports Test input old new ended = WhereKnown (λ text. Prints (test_of text) ol
 Reports Show input old new ended = WhereKnown (λ text. Prints (show_of text) old new ended) input old new ended
 Reports Why input old new ended = WhereKnown (λ text. Prints (whys_of text) old new ended) input old new ended
 Reports (Chart svg) input old new ended = WhereKnown (λ text. Charts text old new ended) input old new ended
-Reports (Trace live) input old new ended = IfSome input (λ text. Prints (trace_of (columns_of live) text) old new ended)
+Reports (Trace live whys) input old new ended = IfSome input (λ text. Prints (trace_of (style_of live whys) text) old new ended)
 
 -- a text for the user: something is said, and where the value's own text is known and isn't empty, it is that one
 abbrev pub IsSaid : Option (List ℕ) → List ℕ → Type 0

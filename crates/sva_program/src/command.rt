@@ -2,11 +2,11 @@
 
 ghost use Rattle.std.specs.Prelude.{◌≡◌, IfOk, codes, false};
 ghost use Rattle.clap.specs.Words.{FailsBy, app_of, found_of, new_app, rows_of, rule_of, subcommand_rows_of, with_rule, with_subcommand};
-ghost use Rattle.sva_program.specs.Command.{Asks, IsReadable, IsWritten, asked_by, faults_of, no_commands, is_live, is_svg, live_rule, svahost, svg_rule, texts, turns_by, turns_rule, turns_text};
+ghost use Rattle.sva_program.specs.Command.{Asks, IsReadable, IsWritten, asked_by, faults_of, flag_rule, is_given, no_commands, svahost, texts, turns_by, turns_rule, turns_text};
 
 use crate::help::{
     ABOUT, CHART, CHECK, HELP, LIVE, PLAIN, REPLAY, SHOW, STORM, SVG, TEST, TRACE, TURNS, VERSION,
-    WHY,
+    WHY, WHYS,
 };
 use clap::builder::ValueParser;
 use clap::{Arg, ArgAction, ArgMatches, Command, Error};
@@ -47,6 +47,8 @@ pub enum Asked {
     Trace {
         /// Is a column ended by a tab, and not padded?
         live: bool,
+        /// Is it said behind a step that was refused, blocked or withheld what holds it back?
+        whys: bool,
     },
 }
 
@@ -95,47 +97,39 @@ fn with_storm<'a>(svahost: Command<'a>, alloc: Global) -> Result<Command<'a>, Al
     svahost.subcommand(with_turns)
 }
 
-/// The option `--live`.
-fn live_option<'a>(alloc: Global) -> Arg<'a>
-    ensures rule { rule_of result ≡ live_rule }
+/// An option that is a flag.
+fn flag<'a>(alloc: Global, name: &'a str, about: &'a str) -> Arg<'a>
+    ensures rule { rule_of result ≡ flag_rule name.entry.now }
     ensures local { result.global ≡ false }
 {
-    Arg::new(alloc, "live")
-        .long("live")
+    Arg::new(alloc, name)
+        .long(name)
         .action(ArgAction::SetTrue)
-        .help(LIVE)
+        .help(about)
 }
 
 /// The program with its command `trace`.
 fn with_trace<'a>(svahost: Command<'a>, alloc: Global) -> Result<Command<'a>, AllocError>
-    ensures { IfOk result (λ command. app_of command ≡ with_subcommand (app_of svahost.entry) (with_rule (new_app (codes "trace")) live_rule).top) }
+    ensures { IfOk result (λ command. app_of command
+        ≡ with_subcommand (app_of svahost.entry) (with_rule (with_rule (new_app (codes "trace"))
+        (flag_rule (codes "live"))) (flag_rule (codes "why"))).top) }
 {
     let trace = Command::new(alloc, "trace")
         .about(TRACE)
         .long_about(whole_help());
-    let with_live = trace.arg(live_option(alloc))?;
-    svahost.subcommand(with_live)
-}
-
-/// The option `--svg`.
-fn svg_option<'a>(alloc: Global) -> Arg<'a>
-    ensures rule { rule_of result ≡ svg_rule }
-    ensures local { result.global ≡ false }
-{
-    Arg::new(alloc, "svg")
-        .long("svg")
-        .action(ArgAction::SetTrue)
-        .help(SVG)
+    let with_live = trace.arg(flag(alloc, "live", LIVE))?;
+    let with_why = with_live.arg(flag(alloc, "why", WHYS))?;
+    svahost.subcommand(with_why)
 }
 
 /// The program with its command `chart`.
 fn with_chart<'a>(svahost: Command<'a>, alloc: Global) -> Result<Command<'a>, AllocError>
-    ensures { IfOk result (λ command. app_of command ≡ with_subcommand (app_of svahost.entry) (with_rule (new_app (codes "chart")) svg_rule).top) }
+    ensures { IfOk result (λ command. app_of command ≡ with_subcommand (app_of svahost.entry) (with_rule (new_app (codes "chart")) (flag_rule (codes "svg"))).top) }
 {
     let chart = Command::new(alloc, "chart")
         .about(CHART)
         .long_about(whole_help());
-    let with_svg = chart.arg(svg_option(alloc))?;
+    let with_svg = chart.arg(flag(alloc, "svg", SVG))?;
     svahost.subcommand(with_svg)
 }
 
@@ -194,8 +188,13 @@ fn entered(matches: &ArgMatches<'_>) -> Asked
         Some(("test", _)) => Asked::Test,
         Some(("show", _)) => Asked::Show,
         Some(("why", _)) => Asked::Why,
-        Some(("chart", below)) => Asked::Chart { svg: svg(below) },
-        Some(("trace", below)) => Asked::Trace { live: live(below) },
+        Some(("chart", below)) => Asked::Chart {
+            svg: is_given(below, "svg"),
+        },
+        Some(("trace", below)) => Asked::Trace {
+            live: is_given(below, "live"),
+            whys: is_given(below, "why"),
+        },
         _ => Asked::Replay,
     }
 }
@@ -207,21 +206,11 @@ fn turns(storm: &ArgMatches<'_>) -> u64
     storm.get_one::<u64>("turns").unwrap_or(USUAL_TURNS)
 }
 
-/// Was `--live` asked for?
-fn live(trace: &ArgMatches<'_>) -> bool
-    ensures { result ≡ is_live (rows_of (found_of trace.now)) }
+/// Was a flag given?
+fn is_given(trace: &ArgMatches<'_>, flag: &str) -> bool
+    ensures { result ≡ is_given flag.now (rows_of (found_of trace.now)) }
 {
-    match trace.get_str("live") {
-        Some(text) => text == "true",
-        None => false,
-    }
-}
-
-/// Was `--svg` asked for?
-fn svg(chart: &ArgMatches<'_>) -> bool
-    ensures { result ≡ is_svg (rows_of (found_of chart.now)) }
-{
-    match chart.get_str("svg") {
+    match trace.get_str(flag) {
         Some(text) => text == "true",
         None => false,
     }

@@ -45,6 +45,10 @@ pub const LIVE: &str = "A tab ends a column, and none is padded";
 /// What `-h` says of `--svg`.
 pub const SVG: &str = "The chart is a picture, an SVG file, and not text";
 
+/// What `-h` says of `--why`.
+pub const WHYS: &str =
+    "Behind each step that was refused, blocked or withheld stands what holds it back";
+
 /// What `-h` says of `--turns`.
 pub const TURNS: &str = "How many turns each thread has, 1 to 1000000";
 
@@ -122,8 +126,9 @@ stands. `deliver KIND E` is of the oldest message of a kind that is in flight at
 as it comes; `--live` leaves out the padding of columns. `svahost show` prints what the host keeps
 behind the last line, and `svahost plain` the scenario with all numbers. `svahost why` prints for
 each step that was refused, blocked or withheld what holds it back, and in brackets a step that would
-be accepted. `svahost chart` draws the run: each message from its sending to its delivery; `--svg` as
-a picture. Each scenario is a script.
+be accepted; `svahost trace --why` prints the same behind the rows of these steps, and `svahost test`
+behind an answer that isn't as expected. `svahost chart` draws the run: each message from its sending
+to its delivery; `--svg` as a picture. Each scenario is a script.
 `./svahost test FILE ..` tries several, and `./svahost show --after N` shows what is kept behind line N.
 
 The config, and the steps. E is an endpoint, S a space, B a binding, M a message, F a frame and W a

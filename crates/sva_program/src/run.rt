@@ -4,7 +4,8 @@ ghost use Rattle.std.specs.Prelude.{◌≡◌, ◌≢◌, ◌≤◌, ◌<◌, �
 ghost use Rattle.std.specs.Io.KnownBytes.{Appends};
 ghost use Rattle.std.specs.IoError.{error_kind};
 ghost use Rattle.sva_program.specs.Command.{Asks, AsksRun, AsksText, CallsHelp, CallsVersion, IsMistaken, texts};
-ghost use Rattle.sva_program.specs.Run.{HasCause, IsSaid, Reports, Says, columns_of, complaint, fault_line, status_of, unread_line};
+ghost use Rattle.sva_program.specs.Run.{HasCause, IsSaid, Reports, Says, columns_of, complaint, fault_line};
+ghost use Rattle.sva_program.specs.Run.{status_of, style_of, unread_line};
 ghost use Rattle.sva_scenario.specs.Streams.{IsNew, Writes};
 
 use crate::command::{Asked, parse};
@@ -20,7 +21,7 @@ use std::thread::Threads;
 use sva_charts::{Drawing, chart};
 use sva_scenario::{DriveFault, Outcome, Told, check, drive, write_all};
 use sva_script_reports::{Saying, print};
-use sva_script_traces::{Columns, trace};
+use sva_script_traces::{Columns, Style, trace};
 
 /// The steps were run, or help was shown.
 const DONE: u8 = 0;
@@ -94,7 +95,7 @@ fn perform<X: AllocGlobal + Threads + Wait + Sync, R: Read, W: Write>(
         Asked::Show => print(rt.alloc(), Saying::Show, reader, writer),
         Asked::Why => print(rt.alloc(), Saying::Why, reader, writer),
         Asked::Chart { svg } => chart(rt.alloc(), drawing_of(svg), reader, writer),
-        Asked::Trace { live } => trace(rt.alloc(), columns_of(live), reader, writer),
+        Asked::Trace { live, whys } => trace(rt.alloc(), style_of(live, whys), reader, writer),
     }
 }
 
@@ -111,6 +112,16 @@ fn columns_of(live: bool) -> Columns
         Columns::Tabbed
     } else {
         Columns::Padded
+    }
+}
+
+/// How a trace writes its rows.
+fn style_of(live: bool, whys: bool) -> Style
+    ensures { result ≡ style_of live whys }
+{
+    Style {
+        columns: columns_of(live),
+        whys,
     }
 }
 

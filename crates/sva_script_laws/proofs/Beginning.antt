@@ -16,7 +16,7 @@ use Rattle.sva_script_reading.specs.Said.{Said, bad, well}
 use Rattle.sva_script_reading.specs.Begins.{Line, begin_of, begun, config_at, config_by, config_in, config_with, faults_from, if_right, joined_words}
 use Rattle.sva_script_reading.specs.Begins.{lines_from, said_by, too_large}
 use Rattle.sva_script_reports.specs.Scripts.{comment_of, past_config, plain_from, plain_line, plain_of, start, test_from, test_line}
-use Rattle.sva_script_traces.specs.declared.rows.Columns.{Columns}
+use Rattle.sva_script_traces.specs.declared.rows.Style.{Style}
 use Rattle.sva_script_traces.specs.Traces.{Tracing, fresh, trace_config, trace_from, trace_line, trace_more}
 use Rattle.sva_script_laws.specs.Replays.{answer_line, answers_from}
 use Rattle.sva_script_laws.specs.Traces.{LineRow, is_written, rows_report, rows_text, said_texts, written_numbers}
@@ -43,7 +43,7 @@ pub record Begins (config : Config) (lines : List Line) (out text : List ℕ) : 
   pub told : answers_from (start config) lines ≡ rows_report rows counts
   pub number : ℕ
   pub numbers : written_numbers lines ≡ number ∷ map (λ (it : LineRow). it.line) rows
-  pub traced : (columns : Columns) (before : ℕ) → trace_from columns fresh before lines ≡ well (rows_text columns rows counts)
+  pub traced : (style : Style) (before : ℕ) → trace_from style fresh before lines ≡ well (rows_text style rows counts)
   pub none_skipped : map (λ (it : Expectation). it.line) (expectations_from 0 (start config) lines) ≡ expecting lines
   pub tested : test_from 0 false (start config) lines
       ≡ judged_by (lines_of (answers_from (start config) lines)) 0 (expectations_from 0 (start config) lines)
@@ -78,9 +78,9 @@ begins_silent config line lines out text clean none left =
       number = left.number;
       numbers =
           ap (λ words. map (λ (l : Line). l.0) (cond (is_written words) (line ∷ written_lines lines) (written_lines lines))) none ∙ left.numbers;
-      traced = λ columns before.
-          ap (λ words. trace_more (λ next. trace_from columns next line.0 lines) (trace_line columns fresh line.0 words)) none
-          ∙ left.traced columns line.0;
+      traced = λ style before.
+          ap (λ words. trace_more (λ next. trace_from style next line.0 lines) (trace_line style fresh line.0 words)) none
+          ∙ left.traced style line.0;
       none_skipped =
           ap (λ words. map (λ (it : Expectation). it.line)
           (expect_line 0 (start config) line.0 (λ next after. expectations_from next after lines) words)) none
@@ -95,10 +95,10 @@ begins_silent config line lines out text clean none left =
 
 -- ---- The config
 
-config_traced : (columns : Columns) (config : Config) (rest : Tracing → Said) → is_fit config ≡ true
+config_traced : (style : Style) (config : Config) (rest : Tracing → Said) → is_fit config ≡ true
     → trace_more rest (trace_config fresh (Ok config))
     ≡ rest (record { run = Some (record { seen = first_wire config; known = [] }); has_ended = false; has_faulted = false })
-config_traced columns config rest fit =
+config_traced style config rest fit =
     ap (λ t. trace_more rest (cond t
     (record { run = Some (record { seen = first_wire config; known = [] }); has_ended = false; has_faulted = false }, [])
     (record { run = None; has_ended = true; has_faulted = true }, ended (refusal_text BadConfig)))) fit
@@ -147,11 +147,11 @@ begins_here config line lines left word words out text clean said fit right foun
           ap (λ ws. map (λ (l : Line). l.0) (cond (is_written ws) (line ∷ written_lines lines) (written_lines lines))) said
           ∙ ap (λ t. map (λ (l : Line). l.0) (cond (not t) (line ∷ written_lines lines) (written_lines lines))) no_end
           ∙ ap (λ ns. line.0 ∷ ns) more.numbers;
-      traced = λ columns before.
-          ap (λ ws. trace_more (λ next. trace_from columns next line.0 lines) (trace_line columns fresh line.0 ws)) said
-          ∙ ap (λ r. trace_more (λ next. trace_from columns next line.0 lines) (trace_config fresh (config_by line.0 (word ∷ words) r))) written_so
-          ∙ config_traced columns config (λ next. trace_from columns next line.0 lines) fit
-          ∙ more.traced columns line.0;
+      traced = λ style before.
+          ap (λ ws. trace_more (λ next. trace_from style next line.0 lines) (trace_line style fresh line.0 ws)) said
+          ∙ ap (λ r. trace_more (λ next. trace_from style next line.0 lines) (trace_config fresh (config_by line.0 (word ∷ words) r))) written_so
+          ∙ config_traced style config (λ next. trace_from style next line.0 lines) fit
+          ∙ more.traced style line.0;
       none_skipped =
           ap (λ ws. map (λ (it : Expectation). it.line)
           (expect_line 0 (start config) line.0 (λ next after. expectations_from next after lines) ws)) said

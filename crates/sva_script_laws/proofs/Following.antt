@@ -20,14 +20,14 @@ use Rattle.sva_script_reading.specs.Said.{Said, bad, well}
 use Rattle.sva_script_reports.specs.Scripts as scripts
 use Rattle.sva_script_reading.specs.Begins.{Line, counts_at, faults_at, faults_from, noted}
 use Rattle.sva_script_reports.specs.Scripts.{At, comment_of, if_small, plain_from, plain_line, step_line, test_from, test_line, test_read}
-use Rattle.sva_script_traces.specs.declared.rows.Columns.{Columns}
+use Rattle.sva_script_traces.specs.declared.rows.Style.{Style}
 use Rattle.sva_script_traces.specs.Traces.{NoEnd, Tracing, row_of, trace_from, trace_line, trace_more, trace_read, trace_step}
 use Rattle.sva_script_laws.specs.Replays.{answer_line, answer_read, answers_from, step_answer}
 use Rattle.sva_script_laws.specs.Traces.{LineRow, is_written, last_text, line_text, rows_report, rows_text, said_texts, written_numbers}
 use Rattle.sva_script_laws.specs.Tests.{Expectation, expect_line, expect_read, expectations_from, expectation, expecting, expects, judged_by, place_behind}
 use Rattle.sva_script_laws.proofs.AnswerTexts.{counts_clean, reply_clean}
 use Rattle.sva_script_laws.proofs.Judging.{at_place, expecting_so, judged_so, line_at_place, never, place_next}
-use Rattle.sva_script_laws.proofs.RowTexts.{row_is, row_made}
+use Rattle.sva_script_laws.proofs.RowTexts.{row_made, step_told}
 use Rattle.sva_script_laws.proofs.StepLines.{ends_is, expects_is, right_behind, step_is}
 use Rattle.sva_script_laws.proofs.Written.{Clean, comment_clean, not_skipped, silent, skipped, step_line_read, step_not_skipped, written}
 use Rattle.sva_script_traces.proofs.TraceLemmas.{line_at}
@@ -62,7 +62,7 @@ pub record Follows (past : Bool) (running : Running) (lines : List Line) (out te
   pub answers : report_from running.seen steps ≡ answers_from (behind_line running) lines
   pub told : answers_from (behind_line running) lines ≡ rows_report rows counts
   pub numbers : written_numbers lines ≡ map (λ (it : LineRow). it.line) rows
-  pub traced : (columns : Columns) (before : ℕ) → trace_from columns (tracing_at past running) before lines ≡ well (rows_text columns rows counts)
+  pub traced : (style : Style) (before : ℕ) → trace_from style (tracing_at past running) before lines ≡ well (rows_text style rows counts)
   pub none_skipped : (place : ℕ) → map (λ (it : Expectation). it.line) (expectations_from place (behind_line running) lines) ≡ expecting lines
   pub tested : (front : List (List ℕ)) (count : ℕ)
       → test_from count past (behind_line running) lines
@@ -101,7 +101,7 @@ follows_none past running out text is =
       answers = refl;
       told = refl;
       numbers = refl;
-      traced = λ columns before. refl;
+      traced = λ style before. refl;
       none_skipped = λ place. refl;
       tested = λ front count. refl;
     }
@@ -129,9 +129,9 @@ follows_silent past running line lines out text clean none left =
       told = answers_same ∙ left.told;
       numbers =
           ap (λ words. map (λ (l : Line). l.0) (cond (is_written words) (line ∷ written_lines lines) (written_lines lines))) none ∙ left.numbers;
-      traced = λ columns before.
-          ap (λ words. trace_more (λ next. trace_from columns next line.0 lines) (trace_line columns (tracing_at past running) line.0 words)) none
-          ∙ left.traced columns line.0;
+      traced = λ style before.
+          ap (λ words. trace_more (λ next. trace_from style next line.0 lines) (trace_line style (tracing_at past running) line.0 words)) none
+          ∙ left.traced style line.0;
       none_skipped = λ place.
           ap (λ words. map (λ (it : Expectation). it.line)
           (expect_line place (behind_line running) line.0 (λ next after. expectations_from next after lines) words)) none
@@ -161,13 +161,13 @@ answered running line lines word words read step said at is =
 expected : (place : ℕ) (running : Running) (line : Line) (lines : List Line) (word : List ℕ) (words : List (List ℕ)) (read : LineRead) (step : Option Plain)
     → script_words line.1 ≡ word ∷ words → read_at running (parts_of (word ∷ words)) ≡ Ok read → read.step ≡ step
     → expectations_from place (behind_line running) (line ∷ lines)
-    ≡ expectation line.0 place step read.expected
+    ≡ expectation line.0 place running.seen step read.expected
     ++ expectations_from (place_behind place step) (behind_line (behind running line.0 (parts_of (word ∷ words)).name step)) lines
 unfolding expectations_from
 expected place running line lines word words read step said at is =
     ap (expect_line place (behind_line running) line.0 (λ next after. expectations_from next after lines)) said
     ∙ ap (expect_read place running line.0 (word ∷ words) (λ next after. expectations_from next after lines)) at
-    ∙ ap (λ s. expectation line.0 place s read.expected
+    ∙ ap (λ s. expectation line.0 place running.seen s read.expected
     ++ expectations_from (place_behind place s) (behind_line (behind running line.0 (parts_of (word ∷ words)).name s)) lines) is
 
 -- is it one that says something of the scenario? The last line alone isn't
@@ -188,35 +188,35 @@ stands_so : (place : ℕ) (running : Running) (line : Line) (lines : List Line) 
 stands_so place running line lines word words read step said at is rest =
     let others = expectations_from (place_behind place step) (behind_line (behind running line.0 (parts_of (word ∷ words)).name step)) lines in
     ap (map (λ (it : Expectation). it.line)) (expected place running line lines word words read step said at is)
-    ∙ expecting_so line.0 place line.1 step read.expected (word ∷ words) others (expecting_lines lines)
+    ∙ expecting_so line.0 place line.1 running.seen step read.expected (word ∷ words) others (expecting_lines lines)
     (expects_is running.known (link_of (Some running.seen)) (word ∷ words) read at) rest
     ∙ ap (λ ws. map (λ (l : Line). l.0) (cond (expects ws) (line ∷ expecting_lines lines) (expecting_lines lines))) (sym said)
 
 -- what a trace says of it
-traced_read : (columns : Columns) (running : Running) (line : Line) (lines : List Line) (before : ℕ) (word : List ℕ) (words : List (List ℕ)) (read : LineRead)
+traced_read : (style : Style) (running : Running) (line : Line) (lines : List Line) (before : ℕ) (word : List ℕ) (words : List (List ℕ)) (read : LineRead)
     (step : Option Plain)
     → script_words line.1 ≡ word ∷ words → read_at running (parts_of (word ∷ words)) ≡ Ok read → read.step ≡ step
-    → trace_from columns (tracing_at false running) before (line ∷ lines)
-    ≡ trace_more (λ next. trace_from columns next line.0 lines) (trace_step columns (tracing_at false running) running line.0 (word ∷ words) step)
+    → trace_from style (tracing_at false running) before (line ∷ lines)
+    ≡ trace_more (λ next. trace_from style next line.0 lines) (trace_step style (tracing_at false running) running line.0 (word ∷ words) step)
 unfolding trace_from
-traced_read columns running line lines before word words read step said at is =
-    let rest : Tracing → Said = λ next. trace_from columns next line.0 lines in
-    ap (λ ws. trace_more rest (trace_line columns (tracing_at false running) line.0 ws)) said
-    ∙ ap (λ r. trace_more rest (trace_read columns (tracing_at false running) running line.0 (word ∷ words) r)) at
-    ∙ ap (λ s. trace_more rest (trace_step columns (tracing_at false running) running line.0 (word ∷ words) s)) is
+traced_read style running line lines before word words read step said at is =
+    let rest : Tracing → Said = λ next. trace_from style next line.0 lines in
+    ap (λ ws. trace_more rest (trace_line style (tracing_at false running) line.0 ws)) said
+    ∙ ap (λ r. trace_more rest (trace_read style (tracing_at false running) running line.0 (word ∷ words) r)) at
+    ∙ ap (λ s. trace_more rest (trace_step style (tracing_at false running) running line.0 (word ∷ words) s)) is
 
 -- what a test makes of it
 tested_read : (running : Running) (line : Line) (lines : List Line) (count : ℕ) (word : List ℕ) (words : List (List ℕ)) (read : LineRead) (step : Option Plain)
     → script_words line.1 ≡ word ∷ words → read_at running (parts_of (word ∷ words)) ≡ Ok read → read.step ≡ step
     → test_from count false (behind_line running) (line ∷ lines)
-    ≡ scripts.compared count line.0 (scripts.told_step step) (scripts.answer_at running.seen step)
+    ≡ scripts.compared count line.0 (scripts.told_step step) (scripts.answer_at running.seen step) (scripts.held_at running.seen step)
     (λ more. test_from more (is_none step) (behind_line (behind running line.0 (parts_of (word ∷ words)).name step)) lines) read.expected
 unfolding test_from
 tested_read running line lines count word words read step said at is =
     let rest : ℕ → Bool → At → Said = λ more is_past next. test_from more is_past next lines in
     ap (test_line (behind_line running) false line count rest) said
     ∙ ap (test_read running line.0 (word ∷ words) count rest) at
-    ∙ ap (λ s. scripts.compared count line.0 (scripts.told_step s) (scripts.answer_at running.seen s)
+    ∙ ap (λ s. scripts.compared count line.0 (scripts.told_step s) (scripts.answer_at running.seen s) (scripts.held_at running.seen s)
     (λ more. rest more (is_none s) (behind_line (behind running line.0 (parts_of (word ∷ words)).name s))) read.expected) is
 
 -- ---- A step
@@ -231,7 +231,7 @@ follows_step running line lines word words read plain out text said at some left
     let writes = step_is running.known (link_of (Some running.seen)) (parts_of (word ∷ words)) read plain at some in
     let line_of = step_line_read plain.text plain.step writes in
     let reply = reply_text (reply_of running.seen plain.step) in
-    let row : LineRow = row_made line.0 plain.text (row_of running.seen plain) in
+    let row : LineRow = row_made line.0 plain.text (next_of running.seen plain.step) (row_of running.seen plain) in
     let after : Running = behind running line.0 (parts_of (word ∷ words)).name (Some plain) in
     let stands : (n : ℕ) → said_lines n (plain.text ∷ left.more) ≡ (n, plain.text) ∷ said_lines (n + 1) left.more =
     λ n. not_skipped n plain.text left.more (step_not_skipped plain.text plain.step line_of.1) in
@@ -259,13 +259,13 @@ follows_step running line lines word words read plain out text said at some left
           answers_are ∙ ap (λ l. ended reply ++ l) left.told
           ∙ sym (append_assoc (ended reply) (flat_map (λ (it : LineRow). ended it.answer) left.rows) (ended left.counts));
       numbers = numbered_by running line lines word words read (Some plain) said at some ∙ ap (λ ns. line.0 ∷ ns) left.numbers;
-      traced = λ columns before.
-          traced_read columns running line lines before word words read (Some plain) said at some
+      traced = λ style before.
+          traced_read style running line lines before word words read (Some plain) said at some
           ∙ (λ i. record {
-            text = row_is columns line.0 plain.text (row_of running.seen plain) i ++ (left.traced columns line.0 i).text;
-            outcome = (left.traced columns line.0 i).outcome;
+            text = step_told style line.0 plain.text (next_of running.seen plain.step) (row_of running.seen plain) i ++ (left.traced style line.0 i).text;
+            outcome = (left.traced style line.0 i).outcome;
           })
-          ∙ ap well (sym (append_assoc (line_text columns row) (flat_map (λ it. line_text columns it) left.rows) (last_text columns left.counts)));
+          ∙ ap well (sym (append_assoc (line_text style row) (flat_map (λ it. line_text style it) left.rows) (last_text style.columns left.counts)));
       none_skipped = λ place. stands_so place running line lines word words read (Some plain) said at some (left.none_skipped (place + 1));
       tested = λ front count.
           let others = expectations_from (length front + 1) (behind_line after) lines in
@@ -278,7 +278,7 @@ follows_step running line lines word words read plain out text said at some left
           left.tested (front ++ reply ∷ []) more
           ∙ (λ i. judged_by (append_assoc front (reply ∷ []) behind_it i) more (expectations_from (place_next front reply i) (behind_line after) lines)) in
           tested_read running line lines count word words read (Some plain) said at some
-          ∙ judged_so (front ++ reply ∷ behind_it) line.0 (length front) count (Some plain) reply others
+          ∙ judged_so (front ++ reply ∷ behind_it) line.0 (length front) count running.seen (Some plain) reply others
           (λ more. test_from more false (behind_line after) lines) read.expected (at_place front reply behind_it) (line_at_place front reply behind_it) next
           ∙ (λ i. judged_by (front ++ sym report_is i) count (sym (expected (length front) running line lines word words read (Some plain) said at some) i));
     }
@@ -318,7 +318,7 @@ follows_end known running line lines word words read out text said at none right
       answers = left.answers ∙ sym answers_are;
       told = answers_are ∙ left.told;
       numbers = numbered_by running line lines word words read None said at none ∙ left.numbers;
-      traced = λ columns before. traced_read columns running line lines before word words read None said at none ∙ left.traced columns line.0;
+      traced = λ style before. traced_read style running line lines before word words read None said at none ∙ left.traced style line.0;
       none_skipped = λ place. stands_so place running line lines word words read None said at none (left.none_skipped place);
       tested = λ front count.
           let counts = counts_at running.seen in
@@ -331,7 +331,7 @@ follows_end known running line lines word words read out text said at none right
           let line_there : slice_index_or (front ++ rest) (length front) [] ≡ counts =
           ap (λ l. slice_index_or (front ++ l) (length front) []) rest_is ∙ line_at_place front counts [] in
           tested_read running line lines count word words read None said at none
-          ∙ judged_so (front ++ rest) line.0 (length front) count None counts others (λ more. test_from more true (behind_line running) lines) read.expected
+          ∙ judged_so (front ++ rest) line.0 (length front) count running.seen None counts others (λ more. test_from more true (behind_line running) lines) read.expected
           place line_there (left.tested front)
           ∙ (λ i. judged_by (front ++ lines_of (sym answers_are i)) count
           (sym (expected (length front) running line lines word words read None said at none) i));

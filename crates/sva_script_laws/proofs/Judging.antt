@@ -9,7 +9,8 @@ use Rattle.sva_script.specs.Expect.{are_as_expected}
 use Rattle.sva_script_runs.specs.Lines.{Plain}
 use Rattle.sva_script_reading.specs.Said.{Said, bad, well}
 use Rattle.sva_script_reading.specs.Begins.{Line}
-use Rattle.sva_script_reports.specs.Scripts.{compared, is_expected, miss_text, told_step, verdict_text}
+use Rattle.sva_model.specs.Wire.{Wire}
+use Rattle.sva_script_reports.specs.Scripts.{compared, held_at, is_expected, miss_text, told_step, verdict_text}
 use Rattle.sva_script_laws.specs.Tests.{Expectation, expectation, expects, is_met, judged_by}
 
 -- ---- The line at a place
@@ -29,26 +30,29 @@ place_next (first ∷ front) line = let more = place_next front line in omega (a
 -- ---- A line's expectation
 
 -- what a line expects is judged by the line of the report at its place
-pub judged_so : (report : List (List ℕ)) (line place count : ℕ) (step : Option Plain) (answer : List ℕ) (others : List Expectation) (rest : ℕ → Said)
+pub judged_so : (report : List (List ℕ)) (line place count : ℕ) (seen : Wire) (step : Option Plain) (answer : List ℕ) (others : List Expectation) (rest : ℕ → Said)
     (expected : Option (List ℕ))
     → slice_get report place ≡ Some answer → slice_index_or report place [] ≡ answer → ((more : ℕ) → rest more ≡ judged_by report more others)
-    → compared count line (told_step step) answer rest expected ≡ judged_by report count (expectation line place step expected ++ others)
-judged_so report line place count step answer others rest None at is behind = behind count
-judged_so report line place count step answer others rest (Some expected) at is behind =
-    (λ i. cond (is_expected (drop 1 expected) answer) (behind (count + 1) i) (bad (miss_text line (told_step step) (drop 1 expected) (sym is i))))
-    ∙ ap (λ t. cond t (judged_by report (count + 1) others) (bad (miss_text line (told_step step) (drop 1 expected) (slice_index_or report place []))))
+    → compared count line (told_step step) answer (held_at seen step) rest expected
+    ≡ judged_by report count (expectation line place seen step expected ++ others)
+judged_so report line place count seen step answer others rest None at is behind = behind count
+judged_so report line place count seen step answer others rest (Some expected) at is behind =
+    (λ i. cond (is_expected (drop 1 expected) answer) (behind (count + 1) i)
+    (bad (miss_text line (told_step step) (drop 1 expected) (sym is i) ++ held_at seen step)))
+    ∙ ap (λ t. cond t (judged_by report (count + 1) others)
+    (bad (miss_text line (told_step step) (drop 1 expected) (slice_index_or report place []) ++ held_at seen step)))
     (sym (ap (λ found. option_map_or (λ a. are_as_expected (words_of (drop 1 expected)) (words_of a)) found false) at))
 
 -- and stands among the lines that say what they expect
-pub expecting_so : (line place : ℕ) (text : List ℕ) (step : Option Plain) (expected : Option (List ℕ)) (words : List (List ℕ))
+pub expecting_so : (line place : ℕ) (text : List ℕ) (seen : Wire) (step : Option Plain) (expected : Option (List ℕ)) (words : List (List ℕ))
     (others : List Expectation) (left : List Line)
     → expects words ≡ is_some expected
     → map (λ (it : Expectation). it.line) others ≡ map (λ (l : Line). l.0) left
-    → map (λ (it : Expectation). it.line) (expectation line place step expected ++ others)
+    → map (λ (it : Expectation). it.line) (expectation line place seen step expected ++ others)
     ≡ map (λ (l : Line). l.0) (cond (expects words) ((line, text) ∷ left) left)
-expecting_so line place text step None words others left says rest =
+expecting_so line place text seen step None words others left says rest =
     rest ∙ ap (λ t. map (λ (l : Line). l.0) (cond t ((line, text) ∷ left) left)) (sym says)
-expecting_so line place text step (Some expected) words others left says rest =
+expecting_so line place text seen step (Some expected) words others left says rest =
     ap (λ ls. line ∷ ls) rest ∙ ap (λ t. map (λ (l : Line). l.0) (cond t ((line, text) ∷ left) left)) (sym says)
 
 -- ---- All are met
@@ -62,7 +66,7 @@ pub all_met : (report : List (List ℕ)) (count : ℕ) (expectations : List Expe
 all_met report count [] met = ap (λ n. well (verdict_text n)) (omega arith)
 all_met report count (it ∷ others) met =
     let parts = and_parts (is_met report it) (list_all (is_met report) others) met in
-    ap (λ t. cond t (judged_by report (count + 1) others) (bad (miss_text it.line it.step it.answer (slice_index_or report it.place [])))) parts.0
+    ap (λ t. cond t (judged_by report (count + 1) others) (bad (miss_text it.line it.step it.answer (slice_index_or report it.place []) ++ it.whys))) parts.0
     ∙ all_met report (count + 1) others parts.1
     ∙ ap (λ n. well (verdict_text n)) (omega arith)
 
@@ -72,7 +76,7 @@ met_all report count [] verdict is = refl
 met_all report count (it ∷ others) verdict is = by_test (is_met report it) refl is (met_all report (count + 1) others verdict)
   where
     miss : List ℕ
-    miss = miss_text it.line it.step it.answer (slice_index_or report it.place [])
+    miss = miss_text it.line it.step it.answer (slice_index_or report it.place []) ++ it.whys
 
     by_test : (test : Bool) → is_met report it ≡ test → cond test (judged_by report (count + 1) others) (bad miss) ≡ well verdict
         → (judged_by report (count + 1) others ≡ well verdict → list_all (is_met report) others ≡ true)

@@ -93,7 +93,7 @@ traces_answer text plain is =
       all.counts,
       all.numbers,
       ap (said_texts 1) (lines_are run.config (lines_from 1 text) plain all) ∙ all.said 1,
-      λ columns. all.traced columns 0,
+      λ style. all.traced style 0,
       report_is text plain run ∙ all.told,
     )
 

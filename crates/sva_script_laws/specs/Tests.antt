@@ -4,6 +4,7 @@ use Rattle.std.specs.Prelude.{is_some, length, map, slice_get, slice_index_or, O
 use Rattle.std.specs.List.{list_all}
 use Rattle.std.specs.Option.{option_map_or}
 use Rattle.sva_step.specs.declared.limits.Config.{Config}
+use Rattle.sva_model.specs.Wire.{Wire}
 use Rattle.sva_grammar.specs.Grammar.{lines_of, words_of}
 use Rattle.sva_scenario.specs.Report.{report_of}
 use Rattle.sva_script.specs.declared.faults.Wrong.{Wrong}
@@ -13,24 +14,30 @@ use Rattle.sva_script_runs.specs.Lines.{LineRead, Plain}
 use Rattle.sva_script_runs.specs.Runs.{Running, read_at}
 use Rattle.sva_script_reading.specs.Said.{Said, bad, well}
 use Rattle.sva_script_reading.specs.Begins.{Line, begin_of, lines_from}
-use Rattle.sva_script_reports.specs.Scripts.{At, miss_text, past_config, past_line, plain_of, start, test_of}
+use Rattle.sva_script_reports.specs.Scripts.{At, held_at, miss_text, past_config, past_line, plain_of, start, test_of}
 use Rattle.sva_script_reports.specs.Scripts.{told_step, verdict_text}
 
 -- ---- What a script expects
 
--- what a line expects: its number, its step as it is told, at which place of the report the step's answer stands, and
--- the answer that is expected
+-- what a line expects: its number, its step as it is told, at which place of the report the step's answer stands, the
+-- answer that is expected, and what holds the step back
 pub record Expectation : Type 0 where
   pub line : ℕ
   pub step : List ℕ
   pub place : ℕ
   pub answer : List ℕ
+  pub whys : List ℕ
 
--- that of a line that was read so; what is expected was read with a space before it
-abbrev pub expectation : (line place : ℕ) → Option Plain → Option (List ℕ) → List Expectation
-expectation line place step None = []
-expectation line place step (Some expected) =
-    record { line = line; step = told_step step; place = place; answer = drop 1 expected } ∷ []
+-- that of a line that was read so where this was kept; what is expected was read with a space before it
+abbrev pub expectation : (line place : ℕ) → Wire → Option Plain → Option (List ℕ) → List Expectation
+expectation line place seen step None = []
+expectation line place seen step (Some expected) = record {
+  line = line;
+  step = told_step step;
+  place = place;
+  answer = drop 1 expected;
+  whys = held_at seen step;
+} ∷ []
 
 -- behind a line's step the next answer stands a line further on
 abbrev pub place_behind : ℕ → Option Plain → ℕ
@@ -40,7 +47,7 @@ place_behind place (Some plain) = place + 1
 abbrev pub expect_read : (place : ℕ) → Running → (line : ℕ) → List (List ℕ) → (rest : ℕ → At → List Expectation)
     → Result LineRead Wrong → List Expectation
 expect_read place running line words rest (Ok read) =
-    expectation line place read.step read.expected
+    expectation line place running.seen read.step read.expected
     ++ rest (place_behind place read.step) (past_line running line (parts_of words) read)
 expect_read place running line words rest (Err wrong) = []
 
@@ -84,12 +91,13 @@ is_met report it =
 abbrev pub AreMet : (report : List (List ℕ)) → List Expectation → Type 0
 AreMet report expectations = list_all (is_met report) expectations ≡ true
 
--- what is said of a report where so many were met before: the first that isn't, or how many are
+-- what is said of a report where so many were met before: the first that isn't, with what holds its step back; or how
+-- many are
 abbrev pub judged_by : (report : List (List ℕ)) → (count : ℕ) → List Expectation → Said
 judged_by report count [] = well (verdict_text count)
 judged_by report count (it ∷ others) =
     if is_met report it then judged_by report (count + 1) others
-    else bad (miss_text it.line it.step it.answer (slice_index_or report it.place []))
+    else bad (miss_text it.line it.step it.answer (slice_index_or report it.place []) ++ it.whys)
 
 -- ---- The laws, of a script that has a scenario
 

@@ -23,8 +23,8 @@ pub fn scenarios_are_plain()
 {}
 
 /// Of a script that has a scenario, a test compares what its lines expect with the lines of that one's report, each at
-/// its own place. It passes exactly where all are met, and says how many these are; else it tells the first that isn't.
-/// No line that says what it expects is passed over.
+/// its own place. It passes exactly where all are met, and says how many these are; else it tells the first that isn't,
+/// and what holds its step back. No line that says what it expects is passed over.
 pub fn tests_compare()
     ensures compares { TestsCompare }
     ensures passes { TestsPass }
@@ -32,7 +32,8 @@ pub fn tests_compare()
 {}
 
 /// Of a script that has a scenario, the trace has a row for each step of that, in order, with the number of its line in
-/// the script and the answer that stands at its place in the report, and last the report's counts.
+/// the script and the answer that stands at its place in the report, and last the report's counts. Where that is wanted,
+/// lines of what holds the step back stand behind its row.
 pub fn traces_answer()
     ensures { TracesAnswer }
 {}

@@ -1,5 +1,5 @@
 -- What a line comes to that is taken.
-use Rattle.std.proofs.Common.{◌≡◌, ◌∙◌, ap, refl, subst, sym, ℕ, ◌+◌, false, not, List, [], ◌∷◌, ◌++◌, append-nil, if◌then◌else◌, Option, Some, None}
+use Rattle.std.proofs.Common.{◌≡◌, ◌∙◌, ap, refl, subst, sym, ℕ, ◌+◌, false, not, List, [], ◌∷◌, ◌++◌, append-nil, append_assoc, if◌then◌else◌, Option, Some, None}
 use Rattle.std.specs.Prelude.{Bool, true, OnOk, Result, Ok, Err, codes, cond, drop, is_none}
 use Rattle.sva_model.specs.Wire.{Wire}
 use Rattle.sva_grammar.specs.Grammar.{◌>>=◌}
@@ -22,9 +22,10 @@ use Rattle.sva_script_reading.specs.Faults.{fault_text}
 use Rattle.sva_script_reading.specs.Said.{Said, bad, faults_text, faulty}
 use Rattle.sva_script_reading.specs.Begins.{fault_of}
 use Rattle.sva_script_reading.specs.Begins.{counts_at}
-use Rattle.sva_script_reports.specs.Scripts.{At, answer_at, compared, judged, plain_read, plain_step, step_line, test_read}
+use Rattle.sva_script_reports.specs.Scripts.{At, answer_at, compared, held_at, judged, plain_read, plain_step, step_line, test_read}
 use Rattle.sva_script_reports.specs.Scripts.{is_expected, miss_text, test_made, test_step, told_step}
-use Rattle.sva_script_reports.specs.Lines.{AnswersLine, Compares, StepsPlain, behind_line, stopped}
+use Rattle.sva_script_reports.specs.Lines.{AnswersLine, Compares, StepsPlain, behind_line, held_by, stopped}
+use Rattle.sva_why.specs.Why.{why_of}
 use Rattle.sva_script_reports.specs.declared.testing.Compared.TheVariants.{Differs}
 
 ok_inj : {A E : Type 0} {a b : A} → ◌≡◌ {A = Result A E} (Ok a) (Ok b) → a ≡ b
@@ -136,33 +137,46 @@ last_is before (Some plain) (Some taken) tells = refl
 last_is before None (Some taken) tells = absurd tells
 last_is before (Some plain) None tells = absurd tells
 
-by_expected : (line : ℕ) (told answer expected : List ℕ) (count : ℕ) (rest : ℕ → Said) (found : Option (List ℕ)) → expected ≡ expected_text found
-    → compared count line told answer rest found ≡ test_made (not (is_none found)) line told answer expected count rest
-by_expected line told answer expected count rest None is = refl
-by_expected line told answer expected count rest (Some text) is = ap (λ own. judged count line told answer (drop 1 own) rest) (sym is)
+-- what holds the step back that was taken
+abbrev pub whys_of : Wire → Option Taken → List ℕ
+whys_of wire None = []
+whys_of wire (Some taken) = why_of wire taken.step taken.told.reply
+
+whys_are : (before after : Running) (line : ℕ) (name : Option (List ℕ)) (step : Option Plain) (taken : Option Taken) → TellsStep before.seen step taken
+    → after ≡ behind before line name step → held_at before.seen step ≡ whys_of after.seen taken
+whys_are before after line name None None tells is = refl
+whys_are before after line name (Some plain) (Some taken) tells is =
+    λ i. why_of (sym is i).seen (sym tells.is_step i) (sym (ap (λ (t : Told). t.reply) tells.told) i)
+whys_are before after line name None (Some taken) tells is = absurd tells
+whys_are before after line name (Some plain) None tells is = absurd tells
+
+by_expected : (line : ℕ) (told answer whys expected : List ℕ) (count : ℕ) (rest : ℕ → Said) (found : Option (List ℕ)) → expected ≡ expected_text found
+    → compared count line told answer whys rest found ≡ test_made (not (is_none found)) line told answer whys expected count rest
+by_expected line told answer whys expected count rest None is = refl
+by_expected line told answer whys expected count rest (Some text) is = ap (λ own. judged count line told answer whys (drop 1 own) rest) (sym is)
 
 made_by : (before after : Running) (line : ℕ) (words : List (List ℕ)) (text expected : List ℕ) (count : ℕ) (rest : ℕ → Bool → At → Said)
     (read : Result LineRead Wrong) (taken : Option Taken) → read_at before (parts_of words) ≡ read
     → TakesRead before line (parts_of words) after text expected read (Ok taken)
     → test_read before line words count rest read
-    ≡ test_made (not (is_none (parts_of words).expected)) line (step_told taken text) (answered before.seen taken) expected count
+    ≡ test_made (not (is_none (parts_of words).expected)) line (step_told taken text) (answered before.seen taken) (whys_of after.seen taken) expected count
     (λ more. rest more (is_none taken) (behind_line after))
 made_by before after line words text expected count rest (Ok read) taken is takes =
     let kind = read_kind before.known (link_of (Some before.seen)) (parts_of words) read is in
     let last = last_is before read.step taken takes.0 in
-    ap (λ running. compared count line (told_step read.step) (answer_at before.seen read.step) (λ more. rest more (is_none read.step) (behind_line running))
-    read.expected) (sym takes.1)
-    ∙ by_expected line (told_step read.step) (answer_at before.seen read.step) expected count (λ more. rest more (is_none read.step) (behind_line after))
-    read.expected takes.3
+    ap (λ running. compared count line (told_step read.step) (answer_at before.seen read.step) (held_at before.seen read.step)
+    (λ more. rest more (is_none read.step) (behind_line running)) read.expected) (sym takes.1)
+    ∙ by_expected line (told_step read.step) (answer_at before.seen read.step) (held_at before.seen read.step) expected count
+    (λ more. rest more (is_none read.step) (behind_line after)) read.expected takes.3
     ∙ (λ i. test_made (not (sym kind i)) line (told_is before read.step taken text takes.0 takes.2 i) (answer_is before read.step taken takes.0 i)
-    expected count (λ more. rest more (last i) (behind_line after)))
+    (whys_are before after line (parts_of words).name read.step taken takes.0 takes.1 i) expected count (λ more. rest more (last i) (behind_line after)))
 made_by before after line words text expected count rest (Err wrong) taken is takes = absurd takes.0
 
 pub test_done : (before after : Running) (line : ℕ) (words : List (List ℕ)) (text expected : List ℕ) (count : ℕ) (rest : ℕ → Bool → At → Said)
     (taken : Option Taken)
     → Takes before line (parts_of words) after text expected (Ok taken)
     → test_step before line words count rest
-    ≡ test_made (not (is_none (parts_of words).expected)) line (step_told taken text) (answered before.seen taken) expected count
+    ≡ test_made (not (is_none (parts_of words).expected)) line (step_told taken text) (answered before.seen taken) (whys_of after.seen taken) expected count
     (λ more. rest more (is_none taken) (behind_line after))
 test_done before after line words text expected count rest taken takes =
     made_by before after line words text expected count rest (read_at before (parts_of words)) taken refl takes
@@ -203,11 +217,11 @@ plain_failed before after line words given text expected old cleared new known w
 
 -- the same of a test
 pub line_failed : (before after : Running) (line : ℕ) (words given : List (List ℕ)) (told answer expected old new : List ℕ) (is_last : Bool) (known : Known)
-    (wrong : Wrong)
-    → given ≡ words → AnswersLine before line given after told answer expected (Err (stop.Wrong wrong)) → known ≡ after.known
+    (taken : Taken) (wrong : Wrong)
+    → given ≡ words → AnswersLine before line given after told answer expected taken (Err (stop.Wrong wrong)) → known ≡ after.known
     → new ≡ old ++ fault_text (fault_of known line given wrong)
     → Compares before line words old new is_last after (Ok Differs)
-line_failed before after line words given told answer expected old new is_last known wrong same answers is appended =
+line_failed before after line words given told answer expected old new is_last known taken wrong same answers is appended =
     subst (λ ws. Compares before line ws old new is_last after (Ok Differs)) same (
       faulty (fault_of before.known line given wrong ∷ []),
       refl,
@@ -215,30 +229,34 @@ line_failed before after line words given told answer expected old new is_last k
       answers.1,
     )
 
--- an answer that differs
-pub line_differs : (before after : Running) (line : ℕ) (words given : List (List ℕ)) (told answer expected shown old new : List ℕ) (is_last : Bool)
-    → given ≡ words → AnswersLine before line given after told answer expected (Ok is_last) → is_none (parts_of given).expected ≡ false
-    → shown ≡ drop 1 expected → is_expected shown answer ≡ false → new ≡ old ++ miss_text line told shown answer
+-- an answer that differs, and what holds the step back
+pub line_differs : (before after : Running) (line : ℕ) (words given : List (List ℕ)) (told answer expected shown old missed new : List ℕ) (is_last : Bool)
+    (taken : Taken)
+    → given ≡ words → AnswersLine before line given after told answer expected taken (Ok is_last) → is_none (parts_of given).expected ≡ false
+    → shown ≡ drop 1 expected → is_expected shown answer ≡ false → missed ≡ old ++ miss_text line told shown answer
+    → new ≡ missed ++ held_by is_last after.seen taken
     → Compares before line words old new is_last after (Ok Differs)
-line_differs before after line words given told answer expected shown old new is_last same answers some is differs appended =
+line_differs before after line words given told answer expected shown old missed new is_last taken same answers some is differs told_so behind_it =
+    let whys = held_by is_last after.seen taken in
     subst (λ ws. Compares before line ws old new is_last after (Ok Differs)) same (
-      bad (miss_text line told shown answer),
+      bad (miss_text line told shown answer ++ whys),
       refl,
-      appended,
+      behind_it ∙ ap (λ l. l ++ whys) told_so ∙ append_assoc old (miss_text line told shown answer) whys,
       λ count rest.
           answers count rest
-          ∙ ap (λ b. test_made (not b) line told answer expected count (λ more. rest more is_last (behind_line after))) some
-          ∙ ap (λ text. judged count line told answer text (λ more. rest more is_last (behind_line after))) (sym is)
-          ∙ ap (λ t. cond t (rest (count + 1) is_last (behind_line after)) (bad (miss_text line told shown answer))) differs,
+          ∙ ap (λ b. test_made (not b) line told answer whys expected count (λ more. rest more is_last (behind_line after))) some
+          ∙ ap (λ text. judged count line told answer whys text (λ more. rest more is_last (behind_line after))) (sym is)
+          ∙ ap (λ t. cond t (rest (count + 1) is_last (behind_line after)) (bad (miss_text line told shown answer ++ whys))) differs,
     )
 
 -- a step's line that was taken
 pub step_answered : (before after : Running) (line : ℕ) (words : List (List ℕ)) (text expected cleared answer : List ℕ) (taken : Taken)
     → Takes before line (parts_of words) after text expected (Ok (Some taken)) → cleared ≡ [] → answer ≡ cleared ++ reply_text taken.told.reply
-    → AnswersLine before line words after text answer expected (Ok false)
+    → AnswersLine before line words after text answer expected taken (Ok false)
 step_answered before after line words text expected cleared answer taken takes none is count rest =
     test_done before after line words text expected count rest (Some taken) takes
-    ∙ ap (λ a. test_made (not (is_none (parts_of words).expected)) line text a expected count (λ more. rest more false (behind_line after)))
+    ∙ ap (λ a. test_made (not (is_none (parts_of words).expected)) line text a (why_of after.seen taken.step taken.told.reply) expected count
+    (λ more. rest more false (behind_line after)))
     (sym (is ∙ ap (λ l. l ++ reply_text taken.told.reply) none))
 
 ended_by : (before after : Running) (line : ℕ) (parts : Parts) (text expected : List ℕ) (read : Result LineRead Wrong)
@@ -253,25 +271,26 @@ ended_by before after line parts text expected (Err wrong) takes = absurd takes.
 
 -- the last line
 pub end_answered : (before after : Running) (line : ℕ) (words : List (List ℕ)) (text expected cleared told answer : List ℕ) (found : FrameCounts)
+    (stale : Taken)
     → Takes before line (parts_of words) after text expected (Ok None) → cleared ≡ [] → Counted after.seen.places found → told ≡ text ++ codes "end"
     → answer ≡ cleared ++ counts_text (record { free = found.free; mapped = found.mapped; withheld = found.withheld })
-    → AnswersLine before line words after told answer expected (Ok true)
-end_answered before after line words text expected cleared told answer found takes none counted ends is count rest =
+    → AnswersLine before line words after told answer expected stale (Ok true)
+end_answered before after line words text expected cleared told answer found stale takes none counted ends is count rest =
     let same = ended_by before after line (parts_of words) text expected (read_at before (parts_of words)) takes in
     let all : answer ≡ counts_at before.seen =
     is ∙ ap (λ l. l ++ counts_text (record { free = found.free; mapped = found.mapped; withheld = found.withheld })) none
     ∙ (λ i. counts_text (record { free = counted.free i; mapped = counted.mapped i; withheld = counted.withheld i }))
     ∙ ap (λ (r : Running). counts_at r.seen) same.0 in
     test_done before after line words text expected count rest None takes
-    ∙ (λ i. test_made (not (is_none (parts_of words).expected)) line (sym (ends ∙ ap (λ l. l ++ codes "end") same.1) i) (sym all i) expected count
+    ∙ (λ i. test_made (not (is_none (parts_of words).expected)) line (sym (ends ∙ ap (λ l. l ++ codes "end") same.1) i) (sym all i) [] expected count
     (λ more. rest more true (behind_line after)))
 
 -- unless memory lacked
-pub answers_if : (before after : Running) (line : ℕ) (words : List (List ℕ)) (told answer expected : List ℕ) (is_last : Bool) {P : Type 0}
+pub answers_if : (before after : Running) (line : ℕ) (words : List (List ℕ)) (told answer expected : List ℕ) (taken : Taken) (is_last : Bool) {P : Type 0}
     (put : Result (Unit {0}) AllocError) (result : Result Bool Stop) → result ≡ stopped is_last put → OnOk put P
-    → (P → AnswersLine before line words after told answer expected (Ok is_last))
-    → AnswersLine before line words after told answer expected result
-answers_if before after line words told answer expected is_last (Ok done) result is holds by =
-    subst (AnswersLine before line words after told answer expected) (sym is) (by holds)
-answers_if before after line words told answer expected is_last (Err lack) result is holds by =
-    subst (AnswersLine before line words after told answer expected) (sym is) tt
+    → (P → AnswersLine before line words after told answer expected taken (Ok is_last))
+    → AnswersLine before line words after told answer expected taken result
+answers_if before after line words told answer expected taken is_last (Ok done) result is holds by =
+    subst (AnswersLine before line words after told answer expected taken) (sym is) (by holds)
+answers_if before after line words told answer expected taken is_last (Err lack) result is holds by =
+    subst (AnswersLine before line words after told answer expected taken) (sym is) tt

@@ -11,7 +11,10 @@ use Rattle.sva_script_reading.specs.Begins.{Line, fault_of}
 use Rattle.sva_script_reports.specs.Scripts.{At, plain_line, plain_step, test_line, test_made, test_step}
 use Rattle.sva_script_reports.specs.declared.testing.Compared.{Compared}
 use Rattle.sva_script_reports.specs.declared.testing.Compared.TheVariants.{Differs, NotExpected, Same}
+use Rattle.sva_script_runs.specs.declared.running.Taken.{Taken}
 use Rattle.sva_script_runs.specs.Runs.{Running}
+use Rattle.sva_model.specs.Wire.{Wire}
+use Rattle.sva_why.specs.Why.{why_of}
 
 -- behind a line of the script
 abbrev pub behind_line : Running → At
@@ -48,13 +51,19 @@ abbrev pub stopped : (is_last : Bool) → Result (Unit {0}) AllocError → Resul
 stopped is_last (Ok done) = Ok is_last
 stopped is_last (Err lack) = Err stop.Memory
 
+-- what holds the step back that was taken, where it has left this; the last line has no step
+abbrev pub held_by : (is_last : Bool) → Wire → Taken → List ℕ
+held_by true wire taken = []
+held_by false wire taken = why_of wire taken.step taken.told.reply
+
 -- a line was taken, and what it expects is to be compared with its answer; or it is wrong, and changes nothing
-abbrev pub AnswersLine : Running → (line : ℕ) → List (List ℕ) → Running → (told answer expected : List ℕ) → Result Bool Stop → Type 0
-AnswersLine before line words after told answer expected (Ok is_last) =
+abbrev pub AnswersLine : Running → (line : ℕ) → List (List ℕ) → Running → (told answer expected : List ℕ) → Taken → Result Bool Stop → Type 0
+AnswersLine before line words after told answer expected taken (Ok is_last) =
     (count : ℕ) (rest : ℕ → Bool → At → Said) → test_step before line words count rest
-    ≡ test_made (not (is_none (parts_of words).expected)) line told answer expected count (λ more. rest more is_last (behind_line after))
-AnswersLine before line words after told answer expected (Err stop.Memory) = Unit {0}
-AnswersLine before line words after told answer expected (Err (stop.Wrong wrong)) =
+    ≡ test_made (not (is_none (parts_of words).expected)) line told answer (held_by is_last after.seen taken) expected count
+    (λ more. rest more is_last (behind_line after))
+AnswersLine before line words after told answer expected taken (Err stop.Memory) = Unit {0}
+AnswersLine before line words after told answer expected taken (Err (stop.Wrong wrong)) =
     (after ≡ before)
     × ((count : ℕ) (rest : ℕ → Bool → At → Said) → test_step before line words count rest ≡ faulty (fault_of before.known line words wrong ∷ []))
 

@@ -3,7 +3,7 @@ use Rattle.std.specs.Prelude.{ℕ, ◌+◌, ◌==◌, not, Bool, true, false, if
 use Rattle.std.specs.Prelude.{position, Option, Some, None, Result, Ok, Err}
 use Rattle.std.specs.Option.{option_map_or}
 use Rattle.sva_step.specs.declared.limits.Config.{Config}
-use Rattle.sva_labels.specs.Host.{first_wire, reply_of}
+use Rattle.sva_labels.specs.Host.{first_wire, next_of, reply_of}
 use Rattle.sva_model.specs.Wire.{Wire}
 use Rattle.sva_grammar.specs.Grammar.{is_too_large, words_of}
 use Rattle.sva_scenario.specs.Report.{ended, reply_text}
@@ -17,6 +17,7 @@ use Rattle.sva_script_reading.specs.Begins.{Line, at_word, begin_of, counts_at, 
 use Rattle.sva_script_reading.specs.Said.{Said, bad, faulty, well}
 use Rattle.sva_script_runs.specs.Lines.{LineRead, Plain}
 use Rattle.sva_script_runs.specs.Runs.{Running, behind, read_at}
+use Rattle.sva_why.specs.Why.{why_of}
 
 -- ---- In the run
 
@@ -80,6 +81,11 @@ abbrev pub answer_at : Wire → Option Plain → List ℕ
 answer_at wire None = counts_at wire
 answer_at wire (Some plain) = reply_text (reply_of wire plain.step)
 
+-- what holds its step back where that has left this; of a step that isn't held back, and of the last line, nothing
+abbrev pub held_at : Wire → Option Plain → List ℕ
+held_at wire None = []
+held_at wire (Some plain) = why_of (next_of wire plain.step) plain.step (reply_of wire plain.step)
+
 -- is the answer as expected, word by word?
 abbrev pub is_expected : (expected answer : List ℕ) → Bool
 is_expected expected answer = are_as_expected (words_of expected) (words_of answer)
@@ -98,24 +104,25 @@ miss_text line step expected answer =
 abbrev pub verdict_text : ℕ → List ℕ
 verdict_text count = decimal count ++ ended (if count == 1 then codes " answer as expected" else codes " answers as expected")
 
--- one more is as expected, or it is told that it isn't
-abbrev pub judged : (count line : ℕ) → (step answer expected : List ℕ) → (rest : ℕ → Said) → Said
-judged count line step answer expected rest = if is_expected expected answer then rest (count + 1) else bad (miss_text line step expected answer)
+-- one more is as expected, or it is told that it isn't, and what holds the step back
+abbrev pub judged : (count line : ℕ) → (step answer whys expected : List ℕ) → (rest : ℕ → Said) → Said
+judged count line step answer whys expected rest =
+    if is_expected expected answer then rest (count + 1) else bad (miss_text line step expected answer ++ whys)
 
 -- the answer is compared with what is expected, which has a space before each word; where nothing is, nothing is compared
-abbrev pub compared : (count line : ℕ) → (step answer : List ℕ) → (rest : ℕ → Said) → (expected : Option (List ℕ)) → Said
-compared count line step answer rest None = rest count
-compared count line step answer rest (Some expected) = judged count line step answer (drop 1 expected) rest
+abbrev pub compared : (count line : ℕ) → (step answer whys : List ℕ) → (rest : ℕ → Said) → (expected : Option (List ℕ)) → Said
+compared count line step answer whys rest None = rest count
+compared count line step answer whys rest (Some expected) = judged count line step answer whys (drop 1 expected) rest
 
 -- what a test makes of a line that was taken
-abbrev pub test_made : (is_expected : Bool) → (line : ℕ) → (told answer expected : List ℕ) → (count : ℕ) → (rest : ℕ → Said) → Said
-test_made false line told answer expected count rest = rest count
-test_made true line told answer expected count rest = judged count line told answer (drop 1 expected) rest
+abbrev pub test_made : (is_expected : Bool) → (line : ℕ) → (told answer whys expected : List ℕ) → (count : ℕ) → (rest : ℕ → Said) → Said
+test_made false line told answer whys expected count rest = rest count
+test_made true line told answer whys expected count rest = judged count line told answer whys (drop 1 expected) rest
 
 -- what a line comes to where so many answers were as expected; `rest` is what those behind it come to
 abbrev pub test_read : Running → (line : ℕ) → List (List ℕ) → (count : ℕ) → (rest : ℕ → Bool → At → Said) → Result LineRead Wrong → Said
 test_read running line words count rest (Ok read) =
-    compared count line (told_step read.step) (answer_at running.seen read.step)
+    compared count line (told_step read.step) (answer_at running.seen read.step) (held_at running.seen read.step)
     (λ more. rest more (is_none read.step) (past_line running line (parts_of words) read)) read.expected
 test_read running line words count rest (Err wrong) = faulty (fault_of running.known line words wrong ∷ [])
 

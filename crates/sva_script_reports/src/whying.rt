@@ -15,9 +15,8 @@ use sva_script_reading::{
     Desk, Lines, put_bad_config, put_number, put_reply, put_wrong, read_script,
 };
 use sva_script_runs::{Came, Run, Taken};
-use sva_snapshot::snapshot;
 use sva_step::{Answer, Config, Refusal};
-use sva_why::{is_held, put_why};
+use sva_why::{is_held, put_why_in};
 
 /// Said where no step was held back.
 const NOTHING: &[u8] = b"nothing was refused, blocked or withheld\n";
@@ -187,8 +186,7 @@ fn put_held(
         ++ held_text number plain.now run.now.seen taken.now.step taken.now.told.reply) }
 {
     put_case_line(out, number, plain, &taken.told.reply)?;
-    let kept = snapshot(alloc, run.world())?;
-    put_why(out, &kept, &taken.step, &taken.told.reply)
+    put_why_in(out, alloc, run.world(), &taken.step, &taken.told.reply)
 }
 
 /// Appends the case of a step, if it is held back.

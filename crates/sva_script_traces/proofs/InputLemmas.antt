@@ -7,30 +7,30 @@ use Rattle.sva_scenario.specs.declared.streams.DriveFault.{DriveFault}
 use Rattle.sva_scenario.specs.declared.streams.Outcome.{Outcome}
 use Rattle.sva_scenario.specs.Streams.{AppendsPrefix}
 use Rattle.sva_scenario.proofs.StreamLemmas.{AppendsPrefix-after, AppendsPrefix-longer}
-use Rattle.sva_script_traces.specs.declared.rows.Columns.{Columns}
+use Rattle.sva_script_traces.specs.declared.rows.Style.{Style}
 use Rattle.sva_script_reading.specs.Said.{Prints}
 use Rattle.sva_script_reading.specs.Said.{Said}
 use Rattle.sva_script_traces.specs.Traces.{Tracer, TracesPiece, fresh, then_said, trace_of, trace_rest}
 use Rattle.sva_script_traces.proofs.TraceLemmas.{then_both}
 
 -- of known input: what was written so far, and what is said of what is held and of what isn't read yet, are the trace of all
-abbrev pub TracesInput : Columns → (input left written now : Option (List ℕ)) → Tracer → (held : List ℕ) → Type 0
-TracesInput columns None left written now tracer held = Unit {0}
-TracesInput columns (Some input) None written now tracer held = ⊥
-TracesInput columns (Some input) (Some left) written now tracer held =
-    (text : List ℕ) × Appends written now text × (trace_of columns input ≡ then_said text (trace_rest tracer (held ++ left)))
+abbrev pub TracesInput : Style → (input left written now : Option (List ℕ)) → Tracer → (held : List ℕ) → Type 0
+TracesInput style None left written now tracer held = Unit {0}
+TracesInput style (Some input) None written now tracer held = ⊥
+TracesInput style (Some input) (Some left) written now tracer held =
+    (text : List ℕ) × Appends written now text × (trace_of style input ≡ then_said text (trace_rest tracer (held ++ left)))
 
 -- nothing was read
-pub input_begins : (columns : Columns) (input written : Option (List ℕ)) → TracesInput columns input input written written
-    (record { columns = columns; lines = 0; tracing = fresh }) []
-input_begins columns None written = tt
-input_begins columns (Some input) written = ([], Appends-nil written, refl)
+pub input_begins : (style : Style) (input written : Option (List ℕ)) → TracesInput style input input written written
+    (record { style = style; lines = 0; tracing = fresh }) []
+input_begins style None written = tt
+input_begins style (Some input) written = ([], Appends-nil written, refl)
 
 -- what is said of a piece comes next
-goes_on : (columns : Columns) (input left rest text : List ℕ) (before after : Tracer) (held kept piece out : List ℕ)
-    → trace_of columns input ≡ then_said text (trace_rest before (held ++ left)) → left ≡ piece ++ rest → TracesPiece before held piece after kept [] out
-    → trace_of columns input ≡ then_said (text ++ out) (trace_rest after (kept ++ rest))
-goes_on columns input left rest text before after held kept piece out so_far read said =
+goes_on : (style : Style) (input left rest text : List ℕ) (before after : Tracer) (held kept piece out : List ℕ)
+    → trace_of style input ≡ then_said text (trace_rest before (held ++ left)) → left ≡ piece ++ rest → TracesPiece before held piece after kept [] out
+    → trace_of style input ≡ then_said (text ++ out) (trace_rest after (kept ++ rest))
+goes_on style input left rest text before after held kept piece out so_far read said =
     so_far ∙ ap (λ l. then_said text (trace_rest before (held ++ l))) read ∙ ap (then_said text) (said.2 rest)
     ∙ then_both text said.0 (trace_rest after (kept ++ rest))
     ∙ ap (λ more. then_said (text ++ more) (trace_rest after (kept ++ rest))) (sym said.1)
@@ -42,28 +42,28 @@ piece_said before after held piece kept cleared new out none is said =
     subst (λ old. TracesPiece before held piece after kept old out) none (subst (TracesPiece before held piece after kept cleared) (sym is) said)
 
 -- a piece was read, and what is said of it was written
-pub input_goes_on : (columns : Columns) (input left rest written now new : Option (List ℕ)) (before after : Tracer) (held kept piece out : List ℕ)
-    → TracesInput columns input left written now before held → Consumes left rest piece → TracesPiece before held piece after kept [] out
-    → Appends now new out → TracesInput columns input rest written new after kept
-input_goes_on columns None left rest written now new before after held kept piece out so_far read said appended = tt
-input_goes_on columns (Some input) None rest written now new before after held kept piece out so_far read said appended = absurd so_far
-input_goes_on columns (Some input) (Some left) None written now new before after held kept piece out so_far read said appended = absurd read
-input_goes_on columns (Some input) (Some left) (Some rest) written now new before after held kept piece out so_far read said appended = (
+pub input_goes_on : (style : Style) (input left rest written now new : Option (List ℕ)) (before after : Tracer) (held kept piece out : List ℕ)
+    → TracesInput style input left written now before held → Consumes left rest piece → TracesPiece before held piece after kept [] out
+    → Appends now new out → TracesInput style input rest written new after kept
+input_goes_on style None left rest written now new before after held kept piece out so_far read said appended = tt
+input_goes_on style (Some input) None rest written now new before after held kept piece out so_far read said appended = absurd so_far
+input_goes_on style (Some input) (Some left) None written now new before after held kept piece out so_far read said appended = absurd read
+input_goes_on style (Some input) (Some left) (Some rest) written now new before after held kept piece out so_far read said appended = (
   so_far.0 ++ out,
   Appends-trans written now new so_far.0 out so_far.1 appended,
-  goes_on columns input left rest so_far.0 before after held kept piece out so_far.2 read said,
+  goes_on style input left rest so_far.0 before after held kept piece out so_far.2 read said,
 )
 
 -- or a prefix of that was written
-pub input_breaks : (columns : Columns) (input left rest written now new : Option (List ℕ)) (before after : Tracer) (held kept piece out : List ℕ)
-    (fault : DriveFault) → TracesInput columns input left written now before held → Consumes left rest piece
+pub input_breaks : (style : Style) (input left rest written now new : Option (List ℕ)) (before after : Tracer) (held kept piece out : List ℕ)
+    (fault : DriveFault) → TracesInput style input left written now before held → Consumes left rest piece
     → TracesPiece before held piece after kept [] out → AppendsPrefix now new out
-    → IfSome input (λ all. Prints (trace_of columns all) written new (Err fault))
-input_breaks columns None left rest written now new before after held kept piece out fault so_far read said appended = tt
-input_breaks columns (Some input) None rest written now new before after held kept piece out fault so_far read said appended = absurd so_far
-input_breaks columns (Some input) (Some left) None written now new before after held kept piece out fault so_far read said appended = absurd read
-input_breaks columns (Some input) (Some left) (Some rest) written now new before after held kept piece out fault so_far read said appended =
-    let all = goes_on columns input left rest so_far.0 before after held kept piece out so_far.2 read said in (
+    → IfSome input (λ all. Prints (trace_of style all) written new (Err fault))
+input_breaks style None left rest written now new before after held kept piece out fault so_far read said appended = tt
+input_breaks style (Some input) None rest written now new before after held kept piece out fault so_far read said appended = absurd so_far
+input_breaks style (Some input) (Some left) None written now new before after held kept piece out fault so_far read said appended = absurd read
+input_breaks style (Some input) (Some left) (Some rest) written now new before after held kept piece out fault so_far read said appended =
+    let all = goes_on style input left rest so_far.0 before after held kept piece out so_far.2 read said in (
       subst (AppendsPrefix written new) (sym (ap (λ (said : Said). said.text) all))
           (AppendsPrefix-longer written new (so_far.0 ++ out) (trace_rest after (kept ++ rest)).text
           (AppendsPrefix-after written now new so_far.0 out so_far.1 appended)),
@@ -71,55 +71,55 @@ input_breaks columns (Some input) (Some left) (Some rest) written now new before
     )
 
 -- what was written is a prefix of the whole
-pub input_cut : (columns : Columns) (input left written now : Option (List ℕ)) (tracer : Tracer) (held : List ℕ) (fault : DriveFault)
-    → TracesInput columns input left written now tracer held
-    → IfSome input (λ all. Prints (trace_of columns all) written now (Err fault))
-input_cut columns None left written now tracer held fault so_far = tt
-input_cut columns (Some input) None written now tracer held fault so_far = absurd so_far
-input_cut columns (Some input) (Some left) written now tracer held fault so_far =
+pub input_cut : (style : Style) (input left written now : Option (List ℕ)) (tracer : Tracer) (held : List ℕ) (fault : DriveFault)
+    → TracesInput style input left written now tracer held
+    → IfSome input (λ all. Prints (trace_of style all) written now (Err fault))
+input_cut style None left written now tracer held fault so_far = tt
+input_cut style (Some input) None written now tracer held fault so_far = absurd so_far
+input_cut style (Some input) (Some left) written now tracer held fault so_far =
     ((so_far.0, (trace_rest tracer (held ++ left)).text, sym (ap (λ (said : Said). said.text) so_far.2), so_far.1), tt)
 
 -- all was read
-all_read : (columns : Columns) (input left rest text : List ℕ) (tracer : Tracer) (held piece : List ℕ)
-    → trace_of columns input ≡ then_said text (trace_rest tracer (held ++ left)) → left ≡ piece ++ rest → piece ≡ [] → rest ≡ []
-    → trace_of columns input ≡ then_said text (trace_rest tracer held)
-all_read columns input left rest text tracer held piece so_far read none end =
+all_read : (style : Style) (input left rest text : List ℕ) (tracer : Tracer) (held piece : List ℕ)
+    → trace_of style input ≡ then_said text (trace_rest tracer (held ++ left)) → left ≡ piece ++ rest → piece ≡ [] → rest ≡ []
+    → trace_of style input ≡ then_said text (trace_rest tracer held)
+all_read style input left rest text tracer held piece so_far read none end =
     let gone : left ≡ [] = read ∙ ap (λ l. l ++ rest) none ∙ end in
     so_far ∙ ap (λ l. then_said text (trace_rest tracer (held ++ l))) gone ∙ ap (λ l. then_said text (trace_rest tracer l)) (append-nil held)
 
 -- and what stands at the end was written
-pub input_ends : (columns : Columns) (input left rest written now new : Option (List ℕ)) (tracer : Tracer) (held piece out : List ℕ) (outcome : Outcome)
-    → TracesInput columns input left written now tracer held → Consumes left rest piece → piece ≡ [] → IsAtEnd rest
+pub input_ends : (style : Style) (input left rest written now new : Option (List ℕ)) (tracer : Tracer) (held piece out : List ℕ) (outcome : Outcome)
+    → TracesInput style input left written now tracer held → Consumes left rest piece → piece ≡ [] → IsAtEnd rest
     → out ≡ (trace_rest tracer held).text → outcome ≡ (trace_rest tracer held).outcome → Appends now new out
-    → IfSome input (λ all. Prints (trace_of columns all) written new (Ok outcome))
-input_ends columns None left rest written now new tracer held piece out outcome so_far read none end said ends appended = tt
-input_ends columns (Some input) None rest written now new tracer held piece out outcome so_far read none end said ends appended = absurd so_far
-input_ends columns (Some input) (Some left) None written now new tracer held piece out outcome so_far read none end said ends appended = absurd read
-input_ends columns (Some input) (Some left) (Some rest) written now new tracer held piece out outcome so_far read none end said ends appended =
-    let all = all_read columns input left rest so_far.0 tracer held piece so_far.2 read none end in (
+    → IfSome input (λ all. Prints (trace_of style all) written new (Ok outcome))
+input_ends style None left rest written now new tracer held piece out outcome so_far read none end said ends appended = tt
+input_ends style (Some input) None rest written now new tracer held piece out outcome so_far read none end said ends appended = absurd so_far
+input_ends style (Some input) (Some left) None written now new tracer held piece out outcome so_far read none end said ends appended = absurd read
+input_ends style (Some input) (Some left) (Some rest) written now new tracer held piece out outcome so_far read none end said ends appended =
+    let all = all_read style input left rest so_far.0 tracer held piece so_far.2 read none end in (
       subst (Appends written new) (sym (ap (λ (said : Said). said.text) all ∙ ap (λ l. so_far.0 ++ l) (sym said)))
           (Appends-trans written now new so_far.0 out so_far.1 appended),
       ends ∙ sym (ap (λ (said : Said). said.outcome) all),
     )
 
 -- or a prefix of that
-pub input_end_breaks : (columns : Columns) (input left rest written now new : Option (List ℕ)) (tracer : Tracer) (held piece out : List ℕ)
-    (fault : DriveFault) → TracesInput columns input left written now tracer held → Consumes left rest piece → piece ≡ [] → IsAtEnd rest
+pub input_end_breaks : (style : Style) (input left rest written now new : Option (List ℕ)) (tracer : Tracer) (held piece out : List ℕ)
+    (fault : DriveFault) → TracesInput style input left written now tracer held → Consumes left rest piece → piece ≡ [] → IsAtEnd rest
     → out ≡ (trace_rest tracer held).text → AppendsPrefix now new out
-    → IfSome input (λ all. Prints (trace_of columns all) written new (Err fault))
-input_end_breaks columns None left rest written now new tracer held piece out fault so_far read none end said appended = tt
-input_end_breaks columns (Some input) None rest written now new tracer held piece out fault so_far read none end said appended = absurd so_far
-input_end_breaks columns (Some input) (Some left) None written now new tracer held piece out fault so_far read none end said appended = absurd read
-input_end_breaks columns (Some input) (Some left) (Some rest) written now new tracer held piece out fault so_far read none end said appended =
-    let all = all_read columns input left rest so_far.0 tracer held piece so_far.2 read none end in (
+    → IfSome input (λ all. Prints (trace_of style all) written new (Err fault))
+input_end_breaks style None left rest written now new tracer held piece out fault so_far read none end said appended = tt
+input_end_breaks style (Some input) None rest written now new tracer held piece out fault so_far read none end said appended = absurd so_far
+input_end_breaks style (Some input) (Some left) None written now new tracer held piece out fault so_far read none end said appended = absurd read
+input_end_breaks style (Some input) (Some left) (Some rest) written now new tracer held piece out fault so_far read none end said appended =
+    let all = all_read style input left rest so_far.0 tracer held piece so_far.2 read none end in (
       subst (AppendsPrefix written new) (sym (ap (λ (said : Said). said.text) all ∙ ap (λ l. so_far.0 ++ l) (sym said)))
           (AppendsPrefix-after written now new so_far.0 out so_far.1 appended),
       tt,
     )
 
 -- and the fault is handed on
-pub failed_print : (columns : Columns) (input written new : Option (List ℕ)) (result : Result Outcome DriveFault) → is_err result ≡ true
-    → ((fault : DriveFault) → IfSome input (λ all. Prints (trace_of columns all) written new (Err fault)))
-    → IfSome input (λ all. Prints (trace_of columns all) written new result)
-failed_print columns input written new (Ok outcome) failed by = absurd (cc failed)
-failed_print columns input written new (Err fault) failed by = by fault
+pub failed_print : (style : Style) (input written new : Option (List ℕ)) (result : Result Outcome DriveFault) → is_err result ≡ true
+    → ((fault : DriveFault) → IfSome input (λ all. Prints (trace_of style all) written new (Err fault)))
+    → IfSome input (λ all. Prints (trace_of style all) written new result)
+failed_print style input written new (Ok outcome) failed by = absurd (cc failed)
+failed_print style input written new (Err fault) failed by = by fault

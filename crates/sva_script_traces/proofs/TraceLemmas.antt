@@ -11,7 +11,7 @@ use Rattle.sva_grammar.proofs.LineLemmas.{lines_of-first, lines_of-last}
 use Rattle.sva_grammar.proofs.PlaceLemmas.{not_found}
 use Rattle.sva_script.proofs.ItemLemmas.{found_at}
 use Rattle.sva_script.specs.Lines.{script_words}
-use Rattle.sva_script_traces.specs.declared.rows.Columns.{Columns}
+use Rattle.sva_script_traces.specs.declared.rows.Style.{Style}
 use Rattle.sva_script_reading.specs.Said.{Said}
 use Rattle.sva_script_reading.specs.Begins.{lines_from}
 use Rattle.sva_script_traces.specs.Traces.{NoEnd, Traced, Tracer, Traces, TracesLine, Tracing, end_of, end_outcome, end_said, then_said}
@@ -72,32 +72,32 @@ then_both first second said = ap (λ text. record { text = text; outcome = said.
 
 rest_of : (old : Tracer) (line more : List ℕ) → NoEnd line
     → trace_rest old (line ++ 10 ∷ more)
-    ≡ trace_more (λ next. trace_from old.columns next (old.lines + 1) (lines_from (old.lines + 1 + 1) more))
-    (trace_line old.columns old.tracing (old.lines + 1) (script_words line))
+    ≡ trace_more (λ next. trace_from old.style next (old.lines + 1) (lines_from (old.lines + 1 + 1) more))
+    (trace_line old.style old.tracing (old.lines + 1) (script_words line))
 unfolding trace_from
 rest_of old line more none =
-    ap (λ lines. trace_from old.columns old.tracing old.lines (enumerate_from (old.lines + 1) lines)) (line_at line more none)
+    ap (λ lines. trace_from old.style old.tracing old.lines (enumerate_from (old.lines + 1) lines)) (line_at line more none)
 
 -- a line that was taken, and what follows it
 pub line_taken : (old new : Tracer) (line more before after : List ℕ) → NoEnd line → TracesLine old line new before after
-    → trace_rest old (line ++ 10 ∷ more) ≡ then_said (trace_line old.columns old.tracing (old.lines + 1) (script_words line)).1 (trace_rest new more)
+    → trace_rest old (line ++ 10 ∷ more) ≡ then_said (trace_line old.style old.tracing (old.lines + 1) (script_words line)).1 (trace_rest new more)
 line_taken old new line more before after none taken =
     rest_of old line more none
-    ∙ (λ i. then_said (trace_line old.columns old.tracing (old.lines + 1) (script_words line)).1
+    ∙ (λ i. then_said (trace_line old.style old.tracing (old.lines + 1) (script_words line)).1
     (trace_from (sym taken.0 i) (sym taken.2 i) (sym taken.1 i) (lines_from (sym taken.1 i + 1) more)))
 
 -- the end, where no line is left, or one that lacks its LF
-pub ended_here : (old : Tracer) → trace_rest old [] ≡ end_said old.columns old.tracing old.lines
+pub ended_here : (old : Tracer) → trace_rest old [] ≡ end_said old.style old.tracing old.lines
 unfolding trace_from
 ended_here old = refl
 
 pub ended_last : (old new : Tracer) (line before after : List ℕ) → 0 < length line → NoEnd line → TracesLine old line new before after
     → trace_rest old line
-    ≡ then_said (trace_line old.columns old.tracing (old.lines + 1) (script_words line)).1 (end_said new.columns new.tracing new.lines)
+    ≡ then_said (trace_line old.style old.tracing (old.lines + 1) (script_words line)).1 (end_said new.style new.tracing new.lines)
 unfolding trace_from
 ended_last old new line before after some none taken =
-    ap (λ lines. trace_from old.columns old.tracing old.lines (enumerate_from (old.lines + 1) lines)) (last_line line some none)
-    ∙ (λ i. then_said (trace_line old.columns old.tracing (old.lines + 1) (script_words line)).1
+    ap (λ lines. trace_from old.style old.tracing old.lines (enumerate_from (old.lines + 1) lines)) (last_line line some none)
+    ∙ (λ i. then_said (trace_line old.style old.tracing (old.lines + 1) (script_words line)).1
     (end_said (sym taken.0 i) (sym taken.2 i) (sym taken.1 i)))
 
 -- ---- A piece
@@ -118,7 +118,7 @@ pub piece_line : (start now next : Tracer) (held piece left rest front more befo
     → TracesLine now (left ++ front) next out new
     → TracedSoFar start next held piece [] more before new
 piece_line start now next held piece left rest front more before out new so_far is none taken =
-    let said = (trace_line now.columns now.tracing (now.lines + 1) (script_words (left ++ front))).1 in
+    let said = (trace_line now.style now.tracing (now.lines + 1) (script_words (left ++ front))).1 in
     record {
       text = so_far.text ++ said;
       appended = taken.3 ∙ ap (λ l. l ++ said) so_far.appended ∙ append_assoc before so_far.text said;
@@ -134,26 +134,26 @@ piece_line start now next held piece left rest front more before out new so_far 
 
 -- ---- A line
 
-says : (columns : Columns) (tracing : Tracing) (line : ℕ) (words : List (List ℕ)) → (words ≡ [] → ⊥)
-    → trace_line columns tracing line words ≡ trace_words columns tracing line words tracing.run
-says columns tracing line [] some = absurd (some refl)
-says columns tracing line (word ∷ words) some = refl
+says : (style : Style) (tracing : Tracing) (line : ℕ) (words : List (List ℕ)) → (words ≡ [] → ⊥)
+    → trace_line style tracing line words ≡ trace_words style tracing line words tracing.run
+says style tracing line [] some = absurd (some refl)
+says style tracing line (word ∷ words) some = refl
 
 -- its words were taken
 pub line_told : (old mid new : Tracer) (line : List ℕ) (words : List (List ℕ)) (before after : List ℕ)
-    → mid ≡ record { columns = old.columns; lines = old.lines + 1; tracing = old.tracing } → words ≡ script_words line → (words ≡ [] → ⊥)
-    → Traces mid (trace_words mid.columns mid.tracing mid.lines words mid.tracing.run) new before after
+    → mid ≡ record { style = old.style; lines = old.lines + 1; tracing = old.tracing } → words ≡ script_words line → (words ≡ [] → ⊥)
+    → Traces mid (trace_words mid.style mid.tracing mid.lines words mid.tracing.run) new before after
     → TracesLine old line new before after
 line_told old mid new line words before after is same some traces =
-    let told = subst (λ (m : Tracer). Traces m (trace_words m.columns m.tracing m.lines words m.tracing.run) new before after) is traces in
-    let all : trace_words old.columns old.tracing (old.lines + 1) words old.tracing.run
-    ≡ trace_line old.columns old.tracing (old.lines + 1) (script_words line) =
-    sym (says old.columns old.tracing (old.lines + 1) words some) ∙ ap (trace_line old.columns old.tracing (old.lines + 1)) same in
+    let told = subst (λ (m : Tracer). Traces m (trace_words m.style m.tracing m.lines words m.tracing.run) new before after) is traces in
+    let all : trace_words old.style old.tracing (old.lines + 1) words old.tracing.run
+    ≡ trace_line old.style old.tracing (old.lines + 1) (script_words line) =
+    sym (says old.style old.tracing (old.lines + 1) words some) ∙ ap (trace_line old.style old.tracing (old.lines + 1)) same in
     (told.0, told.1, told.2 ∙ ap (λ (t : Traced). t.0) all, told.3 ∙ ap (λ (t : Traced). before ++ t.1) all)
 
 -- ---- The end
 
-pub end_here : (old : Tracer) (held before after : List ℕ) → held ≡ [] → after ≡ before ++ end_of old.columns old.tracing old.lines old.tracing.run
+pub end_here : (old : Tracer) (held before after : List ℕ) → held ≡ [] → after ≡ before ++ end_of old.style old.tracing old.lines old.tracing.run
     → after ≡ before ++ (trace_rest old held).text
 end_here old held before after none told = told ∙ ap (λ (said : Said). before ++ said.text) (sym (ap (trace_rest old) none ∙ ended_here old))
 
@@ -161,10 +161,10 @@ pub ends_here : (old : Tracer) (held : List ℕ) → held ≡ [] → end_outcome
 ends_here old held none = ap (λ (said : Said). said.outcome) (sym (ap (trace_rest old) none ∙ ended_here old))
 
 pub end_last : (old new : Tracer) (line before mid after : List ℕ) → 0 < length line → NoEnd line → TracesLine old line new before mid
-    → after ≡ mid ++ end_of new.columns new.tracing new.lines new.tracing.run → after ≡ before ++ (trace_rest old line).text
+    → after ≡ mid ++ end_of new.style new.tracing new.lines new.tracing.run → after ≡ before ++ (trace_rest old line).text
 end_last old new line before mid after some none taken told =
-    let text = (trace_line old.columns old.tracing (old.lines + 1) (script_words line)).1 in
-    let end = end_of new.columns new.tracing new.lines new.tracing.run in
+    let text = (trace_line old.style old.tracing (old.lines + 1) (script_words line)).1 in
+    let end = end_of new.style new.tracing new.lines new.tracing.run in
     told ∙ ap (λ l. l ++ end) taken.3 ∙ append_assoc before text end
     ∙ ap (λ (said : Said). before ++ said.text) (sym (ended_last old new line before mid some none taken))
 

@@ -16,9 +16,9 @@ use Rattle.sva_script.specs.Lines.{parts_of, script_words}
 use Rattle.sva_script_runs.specs.Lines.{LineRead, Plain}
 use Rattle.sva_script_runs.specs.Messages.{link_of}
 use Rattle.sva_script_runs.specs.Runs.{Running, behind, delivered_by, read_at, sent_of, told_of}
-use Rattle.sva_script_traces.specs.declared.rows.Columns.{Columns}
+use Rattle.sva_script_traces.specs.declared.rows.Style.{Style}
 use Rattle.sva_script_reading.specs.Faults.{Fault, fault_text}
-use Rattle.sva_script_traces.specs.Rows.{Row, end_text, row_text}
+use Rattle.sva_script_traces.specs.Rows.{Row, end_text, step_text}
 use Rattle.sva_script_reading.specs.Said.{Said}
 use Rattle.sva_script_reading.specs.Begins.{Line, at_word, config_by, fault_of, joined_words, lines_from}
 use Rattle.sva_script_reading.specs.Begins.{counts_at}
@@ -64,46 +64,46 @@ row_of wire plain = record {
   first_sent = sent_of (link_of (Some (next_of wire plain.step))) ((next_of wire plain.step).next_message - wire.next_message);
 }
 
--- the row of a step; `end => ..` has none, and no line may follow it
-abbrev pub trace_step : Columns → Tracing → Running → (line : ℕ) → List (List ℕ) → Option Plain → Traced
-trace_step columns tracing running line words (Some plain) = (
+-- the row of a step, with what holds it back where that is wanted; `end => ..` has none, and no line may follow it
+abbrev pub trace_step : Style → Tracing → Running → (line : ℕ) → List (List ℕ) → Option Plain → Traced
+trace_step style tracing running line words (Some plain) = (
   record { run = Some (behind running line (parts_of words).name (Some plain)); has_ended = tracing.has_ended; has_faulted = tracing.has_faulted },
-  row_text columns line plain.text (row_of running.seen plain),
+  step_text style line plain.text (next_of running.seen plain.step) (row_of running.seen plain),
 )
-trace_step columns tracing running line words None = (record { run = Some running; has_ended = true; has_faulted = tracing.has_faulted }, [])
+trace_step style tracing running line words None = (record { run = Some running; has_ended = true; has_faulted = tracing.has_faulted }, [])
 
-abbrev pub trace_read : Columns → Tracing → Running → (line : ℕ) → List (List ℕ) → Result LineRead Wrong → Traced
-trace_read columns tracing running line words (Ok read) = trace_step columns tracing running line words read.step
-trace_read columns tracing running line words (Err wrong) = is_wrong tracing (fault_of running.known line words wrong)
+abbrev pub trace_read : Style → Tracing → Running → (line : ℕ) → List (List ℕ) → Result LineRead Wrong → Traced
+trace_read style tracing running line words (Ok read) = trace_step style tracing running line words read.step
+trace_read style tracing running line words (Err wrong) = is_wrong tracing (fault_of running.known line words wrong)
 
 -- ---- A line
 
 -- behind a config that is out of its limits nothing is said
-abbrev pub trace_words : Columns → Tracing → (line : ℕ) → List (List ℕ) → Option Running → Traced
-trace_words columns tracing line words None =
+abbrev pub trace_words : Style → Tracing → (line : ℕ) → List (List ℕ) → Option Running → Traced
+trace_words style tracing line words None =
     if tracing.has_ended then (tracing, []) else trace_config tracing (config_by line words (config_read (joined_words words)))
-trace_words columns tracing line words (Some running) =
+trace_words style tracing line words (Some running) =
     if tracing.has_ended then is_wrong tracing (fault_of running.known line words (at_word 0 wanted.NoLine))
-    else trace_read columns tracing running line words (read_at running (parts_of words))
+    else trace_read style tracing running line words (read_at running (parts_of words))
 
 -- a line that says nothing has no row
-abbrev pub trace_line : Columns → Tracing → (line : ℕ) → List (List ℕ) → Traced
-trace_line columns tracing line [] = (tracing, [])
-trace_line columns tracing line words = trace_words columns tracing line words tracing.run
+abbrev pub trace_line : Style → Tracing → (line : ℕ) → List (List ℕ) → Traced
+trace_line style tracing line [] = (tracing, [])
+trace_line style tracing line words = trace_words style tracing line words tracing.run
 
 -- ---- The whole
 
 -- at the end stand the counts; or there was no config
-abbrev pub end_of : Columns → Tracing → (before : ℕ) → Option Running → List ℕ
-end_of columns tracing before (Some running) = end_text columns (counts_at running.seen)
-end_of columns tracing before None = if tracing.has_faulted then [] else fault_text (fault_of [] (before + 1) [] (at_word 0 wanted.Config))
+abbrev pub end_of : Style → Tracing → (before : ℕ) → Option Running → List ℕ
+end_of style tracing before (Some running) = end_text style.columns (counts_at running.seen)
+end_of style tracing before None = if tracing.has_faulted then [] else fault_text (fault_of [] (before + 1) [] (at_word 0 wanted.Config))
 
 abbrev pub end_outcome : Tracing → Option Running → Outcome
 end_outcome tracing (Some running) = if tracing.has_faulted then Faulted else Done
 end_outcome tracing None = Faulted
 
-abbrev pub end_said : Columns → Tracing → (before : ℕ) → Said
-end_said columns tracing before = record { text = end_of columns tracing before tracing.run; outcome = end_outcome tracing tracing.run }
+abbrev pub end_said : Style → Tracing → (before : ℕ) → Said
+end_said style tracing before = record { text = end_of style tracing before tracing.run; outcome = end_outcome tracing tracing.run }
 
 -- more is said behind
 abbrev pub then_said : List ℕ → Said → Said
@@ -113,38 +113,38 @@ abbrev pub trace_more : (rest : Tracing → Said) → Traced → Said
 trace_more rest (tracing, text) = then_said text (rest tracing)
 
 -- what is said of the lines from here on; the line before them has the number `before`
-unfoldable pub trace_from : Columns → Tracing → (before : ℕ) → List Line → Said
-trace_from columns tracing before [] = end_said columns tracing before
-trace_from columns tracing before (line ∷ lines) =
-    trace_more (λ next. trace_from columns next line.0 lines) (trace_line columns tracing line.0 (script_words line.1))
+unfoldable pub trace_from : Style → Tracing → (before : ℕ) → List Line → Said
+trace_from style tracing before [] = end_said style tracing before
+trace_from style tracing before (line ∷ lines) =
+    trace_more (λ next. trace_from style next line.0 lines) (trace_line style tracing line.0 (script_words line.1))
 
 -- what `trace` says of a script
-abbrev pub trace_of : Columns → List ℕ → Said
-trace_of columns text = trace_from columns fresh 0 (lines_from 1 text)
+abbrev pub trace_of : Style → List ℕ → Said
+trace_of style text = trace_from style fresh 0 (lines_from 1 text)
 
 -- ---- What a call makes of it
 
--- a trace that goes on: how its columns are ended, how many lines it took, and where it is
+-- a trace that goes on: how its rows are written, how many lines it took, and where it is
 pub record Tracer : Type 0 where
-  pub columns : Columns
+  pub style : Style
   pub lines : ℕ
   pub tracing : Tracing
 
 -- what is said of a text whose lines follow
 abbrev pub trace_rest : Tracer → List ℕ → Said
-trace_rest tracer text = trace_from tracer.columns tracer.tracing tracer.lines (lines_from (tracer.lines + 1) text)
+trace_rest tracer text = trace_from tracer.style tracer.tracing tracer.lines (lines_from (tracer.lines + 1) text)
 
 -- where it is behind a line, which it took, and what was appended of that
 abbrev pub Traces : Tracer → Traced → Tracer → (before after : List ℕ) → Type 0
 Traces old traced new before after =
-    (new.columns ≡ old.columns) × (new.lines ≡ old.lines) × (new.tracing ≡ traced.0) × (after ≡ before ++ traced.1)
+    (new.style ≡ old.style) × (new.lines ≡ old.lines) × (new.tracing ≡ traced.0) × (after ≡ before ++ traced.1)
 
 -- the same of a line that wasn't counted yet
 abbrev pub TracesLine : Tracer → (line : List ℕ) → Tracer → (before after : List ℕ) → Type 0
 TracesLine old line new before after =
-    (new.columns ≡ old.columns) × (new.lines ≡ old.lines + 1)
-    × (new.tracing ≡ (trace_line old.columns old.tracing (old.lines + 1) (script_words line)).0)
-    × (after ≡ before ++ (trace_line old.columns old.tracing (old.lines + 1) (script_words line)).1)
+    (new.style ≡ old.style) × (new.lines ≡ old.lines + 1)
+    × (new.tracing ≡ (trace_line old.style old.tracing (old.lines + 1) (script_words line)).0)
+    × (after ≡ before ++ (trace_line old.style old.tracing (old.lines + 1) (script_words line)).1)
 
 -- no byte ends a line (10)
 abbrev pub NoEnd : List ℕ → Type 0

@@ -4,5 +4,5 @@
 mod rows;
 mod tracing;
 
-pub use rows::Columns;
+pub use rows::{Columns, Style};
 pub use tracing::trace;

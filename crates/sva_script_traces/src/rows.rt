@@ -4,15 +4,16 @@ ghost use Rattle.std.specs.Prelude.{◌≡◌, ◌++◌, ◌+◌, ◌<◌, ◌�
 ghost use Rattle.sva_parts_by_labels.specs.Flights.{kind_seen};
 ghost use Rattle.sva_scenario.specs.Report.{counts_text};
 ghost use Rattle.sva_script_traces.specs.Rows.{answer_column, column, column_end, delivered_text, end_text, kind_text, messages_text, row_seen, row_text};
-ghost use Rattle.sva_script_traces.specs.Rows.{sends, sent_text};
+ghost use Rattle.sva_script_traces.specs.Rows.{sends, sent_text, step_text, whys_if};
 
-use std::alloc::AllocError;
+use std::alloc::{AllocError, Global};
 use sva_frames::Counts;
 use sva_msg::Kind;
 use sva_script::Told;
 use sva_script_reading::{put_counts, put_number, put_reply};
-use sva_script_runs::{Taken, kind_name};
+use sva_script_runs::{Run, Taken, kind_name};
 use sva_step::Step;
+use sva_why::put_why_in;
 
 /// How wide the column of the line's number is.
 const NUMBER_WIDTH: usize = 5;
@@ -30,6 +31,15 @@ pub enum Columns {
     Padded,
     /// By a tab each.
     Tabbed,
+}
+
+/// How the rows of a trace are written.
+#[derive(Clone, Copy, PartialEq, Eq)]
+pub struct Style {
+    /// How columns are ended.
+    pub columns: Columns,
+    /// Is it said behind the row of a step that was refused, blocked or withheld what holds it back?
+    pub whys: bool,
 }
 
 /// Appends a byte.
@@ -76,8 +86,42 @@ fn put_column(
     end_column(out, columns, width, text.len())
 }
 
+/// Appends the row of a step behind which the run is, and, where that is wanted, what holds the step back.
+pub(crate) fn put_step(
+    alloc: Global,
+    out: &mut Vec<u8>,
+    style: Style,
+    line: u64,
+    plain: &[u8],
+    run: &Run,
+    taken: &Taken,
+) -> Result<(), AllocError>
+    ensures { OnOk result (out.new.items ≡ out.old.items
+        ++ step_text style line plain.now run.now.seen (row_seen taken.now)) }
+{
+    put_row(out, style.columns, line, plain, taken)?;
+    put_whys_if(alloc, out, style.whys, run, taken)
+}
+
+/// Appends what holds a step back behind which the run is, where that is wanted.
+fn put_whys_if(
+    alloc: Global,
+    out: &mut Vec<u8>,
+    wanted: bool,
+    run: &Run,
+    taken: &Taken,
+) -> Result<(), AllocError>
+    ensures { OnOk result (out.new.items ≡ out.old.items ++ whys_if wanted run.now.seen (row_seen taken.now)) }
+{
+    if wanted {
+        put_why_in(out, alloc, run.world(), &taken.step, &taken.told.reply)
+    } else {
+        Ok(())
+    }
+}
+
 /// Appends the row of a step.
-pub(crate) fn put_row(
+fn put_row(
     out: &mut Vec<u8>,
     columns: Columns,
     line: u64,

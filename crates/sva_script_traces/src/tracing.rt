@@ -11,7 +11,7 @@ ghost use Rattle.sva_script_reading.specs.Begins.{config_by, joined_words};
 ghost use Rattle.sva_script_traces.specs.Traces.{NoEnd, Traces, TracesLine, TracesPiece, end_of, end_outcome, fresh, trace_config, trace_of};
 ghost use Rattle.sva_script_traces.specs.Traces.{trace_rest, trace_words};
 
-use crate::rows::{Columns, put_end, put_row};
+use crate::rows::{Style, put_end, put_step};
 use std::alloc::{AllocError, Global};
 use std::io::{Read, Write};
 use std::marker::Model;
@@ -28,7 +28,7 @@ struct Tracer {
     plain: Vec<u8>,
     expected: Vec<u8>,
     taken: Taken,
-    columns: Columns,
+    style: Style,
     /// How many lines were taken.
     lines: u64,
     /// Whether no line may follow: that of the end was taken, or a config out of its limits.
@@ -42,25 +42,26 @@ impl Model for Tracer {
     ghost Value = { TracerSeen };
 
     ghost view = { λ tracer. record {
-      columns = tracer.columns;
+      style = tracer.style;
       lines = tracer.lines;
       tracing = record { run = tracer.run; has_ended = tracer.has_ended; has_faulted = tracer.has_faulted };
     } };
 }
 
 /// Reads a script line by line, and writes for each step a row as it comes: the number of the line, the step, its answer,
-/// and the messages that it delivered and sent. A line that is wrong is told in its place, and changes nothing. At the end
-/// of the input stand the counts. `Faulted` tells that a line was wrong.
+/// and the messages that it delivered and sent; and behind the row, where that is wanted, what holds the step back. A line
+/// that is wrong is told in its place, and changes nothing. At the end of the input stand the counts. `Faulted` tells that
+/// a line was wrong.
 pub fn trace<R: Read, W: Write>(
     alloc: Global,
-    columns: Columns,
+    style: Style,
     reader: &mut Told<R>,
     writer: &mut Told<W>,
 ) -> Result<Outcome, DriveFault>
     requires reader { IsNew reader.old }
     requires writer { IsNew writer.old }
     ensures printed { IfSome (R.remaining reader.old.inner)
-        (λ input. Prints (trace_of columns input) (W.contents writer.old.inner) (W.contents writer.new.inner) result) }
+        (λ input. Prints (trace_of style input) (W.contents writer.old.inner) (W.contents writer.new.inner) result) }
     ensures end { OnOk result ((reader.new.failures ≡ 0) × IsAtEnd (R.remaining reader.new.inner) × (writer.new.failures ≡ 0)) }
     ensures read { result ≡ Err DriveFault.Read → (writer.new.failures ≡ 0)
         × ((reader.new.failures ≡ 1) ⊎ ((reader.new.failures ≡ 0) × (reader.new.calls ≡ MOST_TURNS))) }
@@ -69,7 +70,7 @@ pub fn trace<R: Read, W: Write>(
     ensures asked { 0 < reader.new.calls }
     ensures turns { reader.new.calls ≤ MOST_TURNS }
 {
-    let mut tracer = Tracer::new(alloc, columns);
+    let mut tracer = Tracer::new(alloc, style);
     tracer.run(alloc, reader, writer)
 }
 
@@ -86,15 +87,15 @@ fn write_piece<W: Write>(writer: &mut Told<W>, bytes: &[u8]) -> Result<(), Drive
 
 impl Tracer {
     /// A trace in which nothing was read.
-    fn new(alloc: Global, columns: Columns) -> Self
-        ensures { result ≡ record { columns = columns; lines = 0; tracing = fresh } }
+    fn new(alloc: Global, style: Style) -> Self
+        ensures { result ≡ record { style = style; lines = 0; tracing = fresh } }
     {
         Tracer {
             run: None,
             plain: Vec::new(alloc),
             expected: Vec::new(alloc),
             taken: Taken::new(),
-            columns,
+            style,
             lines: 0,
             has_ended: false,
             has_faulted: false,
@@ -108,11 +109,11 @@ impl Tracer {
         reader: &mut Told<R>,
         writer: &mut Told<W>,
     ) -> Result<Outcome, DriveFault>
-        requires fresh { self.old ≡ record { columns = self.old.columns; lines = 0; tracing = fresh } }
+        requires fresh { self.old ≡ record { style = self.old.style; lines = 0; tracing = fresh } }
         requires reader { IsNew reader.old }
         requires writer { IsNew writer.old }
         ensures printed { IfSome (R.remaining reader.old.inner)
-            (λ input. Prints (trace_of self.old.columns input) (W.contents writer.old.inner) (W.contents writer.new.inner) result) }
+            (λ input. Prints (trace_of self.old.style input) (W.contents writer.old.inner) (W.contents writer.new.inner) result) }
         ensures end { OnOk result ((reader.new.failures ≡ 0) × IsAtEnd (R.remaining reader.new.inner) × (writer.new.failures ≡ 0)) }
         ensures read { result ≡ Err DriveFault.Read → (writer.new.failures ≡ 0)
             × ((reader.new.failures ≡ 1) ⊎ ((reader.new.failures ≡ 0) × (reader.new.calls ≡ MOST_TURNS))) }
@@ -281,7 +282,7 @@ impl Tracer {
         words: &[&[u8]],
         out: &mut Vec<u8>,
     ) -> Result<(), AllocError>
-        ensures { OnOk result (Traces self.old (trace_words self.old.columns self.old.tracing self.old.lines (map (λ word. word.now) words.now)
+        ensures { OnOk result (Traces self.old (trace_words self.old.style self.old.tracing self.old.lines (map (λ word. word.now) words.now)
             self.old.tracing.run) self.new out.old.items out.new.items) }
     {
         match &self.run {
@@ -299,7 +300,7 @@ impl Tracer {
         out: &mut Vec<u8>,
     ) -> Result<(), AllocError>
         requires { is_some self.old.tracing.run ≡ true }
-        ensures { OnOk result (Traces self.old (trace_words self.old.columns self.old.tracing self.old.lines (map (λ word. word.now) words.now)
+        ensures { OnOk result (Traces self.old (trace_words self.old.style self.old.tracing self.old.lines (map (λ word. word.now) words.now)
             self.old.tracing.run) self.new out.old.items out.new.items) }
     {
         let line = self.lines;
@@ -317,11 +318,13 @@ impl Tracer {
                 &mut self.expected,
                 &mut self.taken,
             ) {
-                Ok(Came::Step) => put_row(
+                Ok(Came::Step) => put_step(
+                    alloc,
                     out,
-                    self.columns,
+                    self.style,
                     line,
                     self.plain.as_slice(),
+                    run,
                     &self.taken,
                 ),
                 Ok(Came::End) => {
@@ -371,10 +374,10 @@ impl Tracer {
     /// Appends the row of the end, or that there was no config.
     fn put_end(&self, alloc: Global, out: &mut Vec<u8>) -> Result<(), AllocError>
         requires { self.now.lines + 1 < 2 ^ 64 }
-        ensures { OnOk result (out.new.items ≡ out.old.items ++ end_of self.now.columns self.now.tracing self.now.lines self.now.tracing.run) }
+        ensures { OnOk result (out.new.items ≡ out.old.items ++ end_of self.now.style self.now.tracing self.now.lines self.now.tracing.run) }
     {
         match &self.run {
-            Some(run) => put_end(out, self.columns, &run.counts()),
+            Some(run) => put_end(out, self.style.columns, &run.counts()),
             None if self.has_faulted => Ok(()),
             None => {
                 let names = Names::new(alloc);

@@ -6,18 +6,17 @@ use Rattle.sva_step.specs.Limits
 use Rattle.sva_step.specs.declared.steps.Step.TheVariants as step
 use Rattle.sva_model.specs.State.{GroupState, PasidState}
 use Rattle.sva_model.specs.State.PasidState.{Off, On, Ending}
-use Rattle.sva_model.specs.Wire.{BindingWire, DeviceWire, EndpointWire, GroupWire, RequestWire, TakenWire, UseWire, Wire}
+use Rattle.sva_model.specs.Wire.{BindingWire, DeviceWire, EndpointWire, GroupWire, RequestWire, UseWire, Wire}
 use Rattle.sva_labels.specs.Finding.{has_unfinished_group, is_use_of, outstanding, pasid_state}
-use Rattle.sva_model.specs.Labels.{is_set, names_none}
 use Rattle.sva_listing.specs.Memory.{stage_text}
 use Rattle.sva_listing.specs.Pieces.{field, line_end, rows, word_if}
 use Rattle.sva_standing.specs.declared.levels.Level.{Level}
 use Rattle.sva_standing.specs.declared.levels.Level.TheVariants.{First, Second}
-use Rattle.sva_standing.specs.declared.link.Topic.TheVariants.{Asks, Itag, Responds, Start, Tag}
+use Rattle.sva_standing.specs.declared.link.Topic.TheVariants.{Asks, Responds, Start, Tag}
 use Rattle.sva_accepted.specs.Accepted.{is_accepted}
 use Rattle.sva_standing.specs.Lines.{below, bracket, bracket_of_two, indent, start}
 use Rattle.sva_standing.specs.Link.{about_lines}
-use Rattle.sva_standing.specs.Units.{reset_if, use_text, waits_for_lines}
+use Rattle.sva_standing.specs.Units.{reset_if, use_text}
 
 -- ---- What only a reset helps
 
@@ -127,36 +126,6 @@ use_lines level wire endpoint part pasid = rows (use_if level wire endpoint pasi
 abbrev pub busy_pasid_lines : Level → Wire → (endpoint : ℕ) → EndpointWire → (pasid : ℕ) → List ℕ
 busy_pasid_lines level wire endpoint part pasid =
     unfinished_lines level wire endpoint part pasid ++ tag_lines level wire endpoint part pasid ++ use_lines level wire endpoint part pasid
-
--- ---- ITags that a vector may not name
-
-abbrev pub not_pending_line : Level → (itag : ℕ) → List ℕ
-not_pending_line level itag = start level (codes "itag ") itag ++ codes " isn't pending" ++ line_end
-
-abbrev pub free_or_out_lines : Level → Wire → (endpoint : ℕ) → EndpointWire → (itag : ℕ) → List ℕ
-free_or_out_lines level wire endpoint part itag =
-    not_pending_line level itag ++ about_lines (below level) wire endpoint (Itag itag) ++ reset_if (below level) wire endpoint part
-
--- one that is named and not taken: its Invalidate or its completions are in flight, or the unit is in reset, or it is free
-abbrev pub not_pending_if : Wire → (endpoint : ℕ) → EndpointWire → (vector itag : ℕ) → Option TakenWire → List ℕ
-not_pending_if wire endpoint part vector itag (Some taken) = []
-not_pending_if wire endpoint part vector itag None = if is_set vector itag then free_or_out_lines First wire endpoint part itag else []
-
-abbrev pub none_named_line : Level → List ℕ
-none_named_line level = indent level ++ codes "the vector names no itag" ++ line_end
-
-abbrev pub not_pending_lines : Wire → (endpoint : ℕ) → EndpointWire → (vector : ℕ) → List ℕ
-not_pending_lines wire endpoint part vector =
-    if names_none vector then none_named_line First else rows (not_pending_if wire endpoint part vector) 0 part.device.taken
-
--- one that is named and taken: the uses for which it waits
-abbrev pub in_use_if : Wire → (endpoint : ℕ) → EndpointWire → (vector itag : ℕ) → Option TakenWire → List ℕ
-in_use_if wire endpoint part vector itag None = []
-in_use_if wire endpoint part vector itag (Some taken) =
-    if is_set vector itag then waits_for_lines First wire endpoint part itag taken else []
-
-abbrev pub in_use_lines : Wire → (endpoint : ℕ) → EndpointWire → (vector : ℕ) → List ℕ
-in_use_lines wire endpoint part vector = rows (in_use_if wire endpoint part vector) 0 part.device.taken
 
 -- ---- PASIDs that aren't on
 

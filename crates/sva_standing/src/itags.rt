@@ -137,7 +137,7 @@ fn put_each_wait(
 }
 
 /// Appends the lines of the uses that an invalidation noted.
-pub(crate) fn put_waits_for(
+pub fn put_waits_for(
     out: &mut Vec<u8>,
     level: Level,
     snapshot: &Snapshot,

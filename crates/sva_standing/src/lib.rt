@@ -10,12 +10,11 @@ mod link;
 mod places;
 mod tables;
 mod units;
-mod vectors;
 
 pub use credits::{put_credit, put_disabled};
+pub use itags::put_waits_for;
 pub use levels::{Level, below, put_bracket, put_bracket_of_two, put_indent, put_start};
 pub use link::{Topic, put_about, put_older};
 pub use places::put_place;
 pub use tables::{put_busy_pasid, put_not_started, put_unfinished_if};
 pub use units::{put_blocked, put_in_reset, put_reset_if, put_room, put_wait_if};
-pub use vectors::{put_in_use, put_not_pending};

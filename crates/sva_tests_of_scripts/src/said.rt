@@ -3,7 +3,7 @@
 use std::alloc::Global;
 use sva_scenario::{DriveFault, Outcome, Told};
 use sva_script_reports::{Saying, print};
-use sva_script_traces::{Columns, trace};
+use sva_script_traces::{Style, trace};
 
 /// Does `plain` of a script print this, and end so?
 pub(crate) fn is_plain(
@@ -34,18 +34,13 @@ pub(crate) fn is_tested(
 /// Does `trace` of a script print this, and end so?
 pub(crate) fn is_traced(
     alloc: Global,
-    is_live: bool,
+    style: Style,
     script: &str,
     want: &str,
     end: Outcome,
 ) -> Result<bool, DriveFault> {
     let mut reader = Told::new(script.as_bytes());
     let mut writer = Told::new(Vec::new(alloc));
-    let columns = if is_live {
-        Columns::Tabbed
-    } else {
-        Columns::Padded
-    };
-    let ended = trace(alloc, columns, &mut reader, &mut writer)?;
+    let ended = trace(alloc, style, &mut reader, &mut writer)?;
     Ok(ended == end && writer.inner().as_slice() == want.as_bytes())
 }

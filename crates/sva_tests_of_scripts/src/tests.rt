@@ -80,3 +80,20 @@ fn the_first_that_differs(rt: HostRuntime) -> Result<(), Fail> {
     );
     Ok(())
 }
+
+/// Below an answer that differs stands what holds its step back.
+#[test]
+fn what_holds_it_back(rt: HostRuntime) -> Result<(), Fail> {
+    let alloc = rt.alloc();
+    let overtakes = "config 1 1 1\ns: space\nb: bind 0 s\nunbind b\ndeliver 1 => stopping\n";
+    let want = "line 5: deliver 1: expected 'stopping', answered 'refused 33 Overtakes'
+    message 0 is older: start pasid 1 [deliver 0]
+";
+    assert!(rt; is_tested(alloc, overtakes, want, Outcome::Faulted)?);
+    // the last line has no step: nothing is said of the one before
+    let counts = "config 1 1 1\nmap 9 1 r\nend => free 0 mapped 0 withheld 0\n";
+    let told =
+        "line 3: end: expected 'free 0 mapped 0 withheld 0', answered 'free 1 mapped 0 withheld 0'\n";
+    assert!(rt; is_tested(alloc, counts, told, Outcome::Faulted)?);
+    Ok(())
+}

@@ -3,6 +3,19 @@
 use crate::said::is_traced;
 use std::test::Fail;
 use sva_scenario::Outcome;
+use sva_script_traces::{Columns, Style};
+
+/// Rows alone, in columns that stand below one another.
+static TABLE: Style = Style {
+    columns: Columns::Padded,
+    whys: false,
+};
+
+/// Rows alone, with tabs.
+static LIVE: Style = Style {
+    columns: Columns::Tabbed,
+    whys: false,
+};
 
 static SCRIPT: &str = "config 1 4 1
 # a comment
@@ -26,7 +39,7 @@ fn a_table(rt: HostRuntime) -> Result<(), Fail> {
 9    look 9                     refused 8 NoFrame
      end                        free 3 mapped 1 withheld 0
 ";
-    assert!(rt; is_traced(alloc, false, SCRIPT, want, Outcome::Done)?);
+    assert!(rt; is_traced(alloc, TABLE, SCRIPT, want, Outcome::Done)?);
     Ok(())
 }
 
@@ -42,7 +55,7 @@ fn live(rt: HostRuntime) -> Result<(), Fail> {
 9\tlook 9\trefused 8 NoFrame
 \tend\tfree 3 mapped 1 withheld 0
 ";
-    assert!(rt; is_traced(alloc, true, SCRIPT, want, Outcome::Done)?);
+    assert!(rt; is_traced(alloc, LIVE, SCRIPT, want, Outcome::Done)?);
     Ok(())
 }
 
@@ -55,6 +68,62 @@ line 3: 'spac': wanted a step (space?)
 4    space                      space 0
      end                        free 1 mapped 0 withheld 0
 ";
-    assert!(rt; is_traced(alloc, false, script, want, Outcome::Faulted)?);
+    assert!(rt; is_traced(alloc, TABLE, script, want, Outcome::Faulted)?);
+    Ok(())
+}
+
+/// Behind the row of a step stands what holds it back.
+#[test]
+fn whys(rt: HostRuntime) -> Result<(), Fail> {
+    let alloc = rt.alloc();
+    let want = "3    space                      space 0
+4    bind 0 0                   binding 0 pasid 1      -> 0 start
+5    deliver 0                  started                <- 0 start
+6    map 0 16 r                 frame 0
+7    ask 0 1 16                 tag 0                  -> 1 request
+8    deliver 1                  completion             <- 1 request, -> 2 completion
+9    look 9                     refused 8 NoFrame
+    too few frames are free, or none has this number
+     end                        free 3 mapped 1 withheld 0
+";
+    let style = Style {
+        columns: Columns::Padded,
+        whys: true,
+    };
+    assert!(rt; is_traced(alloc, style, SCRIPT, want, Outcome::Done)?);
+    Ok(())
+}
+
+/// The same with tabs: a frame waits for a wait, and then for an ITag that is busy.
+#[test]
+fn live_whys(rt: HostRuntime) -> Result<(), Fail> {
+    let alloc = rt.alloc();
+    let script = "config 1 4 1
+s: space
+b: bind 0 s
+deliver b
+m: map s 16 w
+unmap s 16
+pump 0
+look m
+";
+    let want = "2\tspace\tspace 0
+3\tbind 0 0\tbinding 0 pasid 1\t-> 0 start
+4\tdeliver 0\tstarted\t<- 0 start
+5\tmap 0 16 w\tframe 0
+6\tunmap 0 16\twithheld 0
+    wait 0 of unit 0 isn't done [pump 0]
+7\tpump 0\titag 0\t-> 1 invalidate
+8\tlook 0\twithheld
+    wait 0 of unit 0 isn't done
+        itag 0 is busy
+            message 1 is in flight: invalidate itag 0 pasid 1 page 16 [deliver 1]
+\tend\tfree 3 mapped 0 withheld 1
+";
+    let style = Style {
+        columns: Columns::Tabbed,
+        whys: true,
+    };
+    assert!(rt; is_traced(alloc, style, script, want, Outcome::Done)?);
     Ok(())
 }

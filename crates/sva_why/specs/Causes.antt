@@ -12,9 +12,10 @@ use Rattle.sva_standing.specs.declared.levels.Level.TheVariants.{First}
 use Rattle.sva_standing.specs.Lines.{indent}
 use Rattle.sva_standing.specs.Link.{older_lines}
 use Rattle.sva_standing.specs.Units.{in_reset_lines, of_part, room_lines}
-use Rattle.sva_standing.specs.Tables.{busy_pasid_lines, credit_if, disabled_if, in_use_lines, not_pending_lines, not_started_lines}
+use Rattle.sva_standing.specs.Tables.{busy_pasid_lines, credit_if, disabled_if, not_started_lines}
 use Rattle.sva_why.specs.Groups.{read_only_lines}
 use Rattle.sva_why.specs.Bindings.{bound_lines, full_lines, not_yet_by, of_binding}
+use Rattle.sva_why.specs.Vectors.{in_use_lines, not_pending_lines}
 use Rattle.sva_why.specs.Plain.{plain_line}
 
 -- ---- The ten

@@ -1,5 +1,6 @@
 pub mod Groups
 pub mod Bindings
+pub mod Vectors
 pub mod Plain
 pub mod Causes
 pub mod Why

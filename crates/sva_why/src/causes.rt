@@ -14,13 +14,14 @@ ghost use Rattle.sva_why.specs.Causes.{unmapped_if, unmapped_lines};
 use crate::bindings::{put_bound, put_full, put_not_yet};
 use crate::groups::put_read_only;
 use crate::plain::put_plain;
+use crate::vectors::{put_in_use, put_not_pending};
 use std::alloc::AllocError;
 use sva_accepted::{binding_of, flight_of, held_by, is_mapped, pages_in, part_at, submits};
 use sva_listing::{end_line, put_field, put_word};
 use sva_snapshot::{Endpoint, Mapping, Snapshot};
 use sva_standing::{
-    Level, put_busy_pasid, put_credit, put_disabled, put_in_reset, put_in_use, put_indent,
-    put_not_pending, put_not_started, put_older, put_room,
+    Level, put_busy_pasid, put_credit, put_disabled, put_in_reset, put_indent, put_not_started,
+    put_older, put_room,
 };
 use sva_step::{MOST_PAGES, PAGES, Refusal, Step};
 

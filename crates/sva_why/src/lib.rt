@@ -6,6 +6,7 @@ mod bindings;
 mod causes;
 mod groups;
 mod plain;
+mod vectors;
 mod whys;
 
-pub use whys::{is_held, put_why};
+pub use whys::{is_held, put_why, put_why_in};

@@ -4,10 +4,11 @@ ghost use Rattle.std.specs.Prelude.{◌≡◌, ◌++◌, OnOk};
 ghost use Rattle.sva_why.specs.Why.{blocked, first_lines, is_held, looked, range_line, why_of};
 
 use crate::causes::put_refused;
-use std::alloc::AllocError;
+use std::alloc::{AllocError, Global};
 use sva_accepted::part_at;
+use sva_core::World;
 use sva_listing::{end_line, put_word};
-use sva_snapshot::Snapshot;
+use sva_snapshot::{Snapshot, snapshot};
 use sva_standing::{Level, put_blocked, put_indent, put_place};
 use sva_step::{Answer, Refusal, Step};
 
@@ -90,5 +91,37 @@ pub fn put_why(
         Ok(Answer::WithheldFrames { frames }) => put_first(out, snapshot, frames.as_slice()),
         Ok(Answer::RangeWithheld { .. }) => put_range(out, Level::First),
         Ok(_) => Ok(()),
+    }
+}
+
+/// Appends the same of a world: what holds back, where it is now, a step that it answered so.
+fn put_held(
+    out: &mut Vec<u8>,
+    alloc: Global,
+    world: &World,
+    step: &Step,
+    reply: &Result<Answer, Refusal>,
+) -> Result<(), AllocError>
+    ensures { OnOk result (out.new.items ≡ out.old.items ++ why_of world.now step.now reply.now) }
+{
+    let kept = snapshot(alloc, world)?;
+    put_why(out, &kept, step, reply)
+}
+
+/// Appends what holds a step back that a world answered so, where that world is behind the step, as `put_why`. What the
+/// world keeps is read only where the step is held back.
+pub fn put_why_in(
+    out: &mut Vec<u8>,
+    alloc: Global,
+    world: &World,
+    step: &Step,
+    reply: &Result<Answer, Refusal>,
+) -> Result<(), AllocError>
+    ensures { OnOk result (out.new.items ≡ out.old.items ++ why_of world.now step.now reply.now) }
+{
+    if is_held(reply) {
+        put_held(out, alloc, world, step, reply)
+    } else {
+        Ok(())
     }
 }

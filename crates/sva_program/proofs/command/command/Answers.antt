@@ -1,7 +1,7 @@
 use Rattle.std.proofs.Common.{ap, codes, ◌∙◌}
 use Rattle.std.proofs.lemmas.Result.{IfOk-weaker}
 use Rattle.clap.specs.Words.{App, Text, new_app, with_rule, with_subcommand}
-use Rattle.sva_program.specs.Command.{live_rule, svg_rule, turns_rule}
+use Rattle.sva_program.specs.Command.{flag_rule, turns_rule}
 use Rattle.sva_program.proofs.command.command.Goals as goal
 
 -- a program with a command more, that takes no arguments
@@ -12,7 +12,7 @@ abbrev with_storm : App → App
 with_storm app = with_subcommand app (with_rule (new_app (codes "storm")) turns_rule).top
 
 abbrev with_chart : App → App
-with_chart app = with_subcommand app (with_rule (new_app (codes "chart")) svg_rule).top
+with_chart app = with_subcommand app (with_rule (new_app (codes "chart")) (flag_rule (codes "svg"))).top
 
 pub returns : goal.returns
 returns c =
@@ -25,4 +25,4 @@ returns c =
     let explaining_is = c.in_ok-explaining.ensures ∙ ap (with_bare (codes "why")) showing_is in
     let charting_is = c.in_ok-charting.ensures ∙ ap with_chart explaining_is in
     IfOk-weaker c.with_trace.result _ _ (λ r added. added
-    ∙ ap (λ (a : App). with_subcommand a (with_rule (new_app (codes "trace")) live_rule).top) charting_is) c.with_trace.ensures
+    ∙ ap (λ (a : App). with_subcommand a (with_rule (with_rule (new_app (codes "trace")) (flag_rule (codes "live"))) (flag_rule (codes "why"))).top) charting_is) c.with_trace.ensures

@@ -12,11 +12,11 @@ returns-in-Some-storm-default c =
 pub returns-in-Some-trace-default : goal.returns-in-Some-trace-default
 returns-in-Some-trace-default c readable =
     let stage = c.in-Some-trace-default in
-    entered_trace c.args.matches.now stage.field-0-0.now (rows_of (found_of stage.below.now)) c.live.result stage.is-trace stage.ensures.name
-    stage.ensures.rows c.live.ensures
+    entered_trace c.args.matches.now stage.field-0-0.now (rows_of (found_of stage.below.now)) c.is_given.result c.is_given-2.result stage.is-trace
+    stage.ensures.name stage.ensures.rows c.is_given.ensures c.is_given-2.ensures
 
 pub returns-in-Some-chart-default : goal.returns-in-Some-chart-default
 returns-in-Some-chart-default c readable =
     let stage = c.in-Some-chart-default in
-    entered_chart c.args.matches.now stage.field-0-0.now (rows_of (found_of stage.below.now)) c.svg.result stage.is-chart stage.ensures.name
-    stage.ensures.rows c.svg.ensures
+    entered_chart c.args.matches.now stage.field-0-0.now (rows_of (found_of stage.below.now)) c.is_given.result stage.is-chart stage.ensures.name
+    stage.ensures.rows c.is_given.ensures

@@ -143,7 +143,7 @@ returns-in-Trace-clause-report g c =
     let old = g.W.Write.contents c.args.writer.now.inner in
     let new = g.W.Write.contents ran.new.writer.inner in
     subst (λ a. Reports a input old new ran.result) (sym c.in-Trace.is)
-    (subst (λ columns. IfSome input (λ text. Prints (trace_of columns text) old new ran.result)) c.columns_of.ensures ran.ensures.printed)
+    (subst (λ style. IfSome input (λ text. Prints (trace_of style text) old new ran.result)) c.style_of.ensures ran.ensures.printed)
 
 pub returns-in-Trace-clause-cause : goal.returns-in-Trace-clause-cause
 returns-in-Trace-clause-cause g c =

@@ -14,6 +14,6 @@ returns c =
     ap (λ ws. map {A = Bor (List ℕ)} {B = List ℕ} (λ word. word.now) ws) c.as_slice.ensures.value ∙ c.in_ok-split.ensures in
     on_ok_by c.take_words.result
     (line_told c.args.self.now _ c.take_words.new.self c.args.line.now words c.args.out.now.items c.take_words.new.out.items
-    (ap (λ (t : Tracer). record { columns = t.columns; lines = t.lines + 1; tracing = t.tracing }) c.self.view_is) same
+    (ap (λ (t : Tracer). record { style = t.style; lines = t.lines + 1; tracing = t.tracing }) c.self.view_is) same
     (some_words c.as_slice.result.now (search rules)))
     c.take_words.ensures

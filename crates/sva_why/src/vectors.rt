@@ -4,17 +4,16 @@ ghost use Rattle.std.specs.Prelude.{◌≡◌, ◌++◌, OnOk, option_map};
 ghost use Rattle.sva_listing.specs.Pieces.{rows};
 ghost use Rattle.sva_parts_by_labels.specs.Device.{taken_seen};
 ghost use Rattle.sva_snapshot.specs.Shown.{endpoint_shown};
-ghost use Rattle.sva_standing.specs.Tables.{free_or_out_lines, none_named_line, not_pending_line};
-ghost use Rattle.sva_standing.specs.Tables.{in_use_if, in_use_lines, not_pending_if, not_pending_lines};
+ghost use Rattle.sva_why.specs.Vectors.{free_or_out_lines, none_named_line, not_pending_line};
+ghost use Rattle.sva_why.specs.Vectors.{in_use_if, in_use_lines, not_pending_if, not_pending_lines};
 
-use crate::itags::put_waits_for;
-use crate::levels::{Level, below, put_indent, put_start};
-use crate::link::{Topic, put_about};
-use crate::units::put_reset_if;
 use std::alloc::AllocError;
 use sva_accepted::{is_set, names_none};
 use sva_listing::{end_line, put_word};
 use sva_snapshot::{Endpoint, Snapshot, Taken};
+use sva_standing::{
+    Level, Topic, below, put_about, put_indent, put_reset_if, put_start, put_waits_for,
+};
 
 /// Appends the line of an ITag that the endpoint hasn't taken.
 fn put_not_pending_line(out: &mut Vec<u8>, level: Level, itag: u64) -> Result<(), AllocError>
@@ -94,7 +93,7 @@ fn put_none_named(out: &mut Vec<u8>, level: Level) -> Result<(), AllocError>
 }
 
 /// Appends why a vector may not be finished.
-pub fn put_not_pending(
+pub(crate) fn put_not_pending(
     out: &mut Vec<u8>,
     snapshot: &Snapshot,
     endpoint: u64,
@@ -135,7 +134,7 @@ fn put_in_use_if(
 }
 
 /// Appends the uses for which the ITags of a vector wait.
-pub fn put_in_use(
+pub(crate) fn put_in_use(
     out: &mut Vec<u8>,
     snapshot: &Snapshot,
     endpoint: u64,

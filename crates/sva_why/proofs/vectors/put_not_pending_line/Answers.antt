@@ -1,6 +1,6 @@
 use Rattle.sva_listing.proofs.Lines.{both}
 use Rattle.sva_standing.proofs.Chains.{joined}
-use Rattle.sva_standing.proofs.vectors.put_not_pending_line.Goals as goal
+use Rattle.sva_why.proofs.vectors.put_not_pending_line.Goals as goal
 
 pub returns : goal.returns
 returns c =

@@ -6,7 +6,7 @@ use Rattle.sva_standing.specs.declared.link.Topic.TheVariants.{Itag}
 use Rattle.sva_standing.specs.Link.{about_lines}
 use Rattle.sva_standing.specs.Units.{reset_if}
 use Rattle.sva_standing.proofs.Chains.{joined}
-use Rattle.sva_standing.proofs.vectors.put_free_or_out.Goals as goal
+use Rattle.sva_why.proofs.vectors.put_free_or_out.Goals as goal
 
 pub returns : goal.returns
 returns c =

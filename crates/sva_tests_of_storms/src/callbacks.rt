@@ -1,6 +1,8 @@
 //! What a device and a pager are told, what becomes of what a pager says, and how many uses a loop has in hand.
 
-use crate::worlds::{Setting, Tried, each_ends, last_answer, plays, plays_alone, scenario, set_up, sets};
+use crate::worlds::{
+    Setting, Tried, each_ends, last_answer, plays, plays_alone, scenario, set_up, sets,
+};
 use std::alloc::Global;
 use std::process::Abort;
 use std::sync::Wait;

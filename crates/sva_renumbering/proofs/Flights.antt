@@ -1,5 +1,5 @@
--- What a move does to messages in flight: one is sent, or several copies, or one leaves, or one leaves and its answer is sent. Done in
--- both of two hosts where the same are in flight, it leaves the same in flight, and names go on.
+-- What a move does to messages in flight: one is sent, or several copies, or one leaves, or one leaves and its answer
+-- is sent. Done in both of two hosts where the same are in flight, it leaves the same in flight, and names go on.
 use Rattle.std.proofs.Common.{◌≡◌, ℕ, ◌+◌, Bool, true, false}
 use Rattle.std.specs.Prelude.{Option, Some, None, List, ◌++◌}
 use Rattle.sva_model.specs.Message.{Message}

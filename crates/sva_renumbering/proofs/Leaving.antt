@@ -1,5 +1,5 @@
--- Messages in flight in two hosts, the same at each endpoint under whatever numbers: more of them in both; and without one that has the
--- same place in both, which is the same message, and held back in both or in neither.
+-- Messages in flight in two hosts, the same at each endpoint under whatever numbers: more of them in both; and without
+-- one that has the same place in both, which is the same message, and held back in both or in neither.
 use Rattle.std.proofs.Common.{◌≡◌, refl, ap, ap₂, sym, subst, ◌∙◌, ℕ, Bool, true, false, arith}
 use Rattle.std.specs.Prelude.{◌==◌, if◌then◌else◌, Option, Some, None, List, [], ◌∷◌, ◌++◌, length}
 use Rattle.std.specs.List.{list_any}

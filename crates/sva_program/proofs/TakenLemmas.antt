@@ -1,6 +1,6 @@
 -- The words behind `storm` that clap takes, and what is found of them.
 use Rattle.std.proofs.Common.{◌≡◌, refl, sym, subst, ap, ap₂, ◌∙◌, Bool, true, false, List, [], ◌∷◌, ◌++◌, Option, Some, None, codes}
-use Rattle.std.proofs.Common.{if◌then◌else◌, fold, ◌==◌, ◌<◌, ◌+◌, arith}
+use Rattle.std.proofs.Common.{if◌then◌else◌, fold, ◌==◌, ◌<◌, arith}
 use Rattle.std.specs.Prelude.{option_and_then}
 use Rattle.std.specs.Str.{bytes_eq}
 use Rattle.std.specs.Option.{option_map_or}

@@ -5,18 +5,6 @@ use std::test::Fail;
 use sva_scenario::Outcome;
 use sva_script_traces::{Columns, Style};
 
-/// Rows alone, in columns that stand below one another.
-static TABLE: Style = Style {
-    columns: Columns::Padded,
-    whys: false,
-};
-
-/// Rows alone, with tabs.
-static LIVE: Style = Style {
-    columns: Columns::Tabbed,
-    whys: false,
-};
-
 static SCRIPT: &str = "config 1 4 1
 # a comment
 s: space
@@ -39,7 +27,11 @@ fn a_table(rt: HostRuntime) -> Result<(), Fail> {
 9    look 9                     refused 8 NoFrame
      end                        free 3 mapped 1 withheld 0
 ";
-    assert!(rt; is_traced(alloc, TABLE, SCRIPT, want, Outcome::Done)?);
+    let table = Style {
+        columns: Columns::Padded,
+        whys: false,
+    };
+    assert!(rt; is_traced(alloc, table, SCRIPT, want, Outcome::Done)?);
     Ok(())
 }
 
@@ -55,7 +47,11 @@ fn live(rt: HostRuntime) -> Result<(), Fail> {
 9\tlook 9\trefused 8 NoFrame
 \tend\tfree 3 mapped 1 withheld 0
 ";
-    assert!(rt; is_traced(alloc, LIVE, SCRIPT, want, Outcome::Done)?);
+    let tabbed = Style {
+        columns: Columns::Tabbed,
+        whys: false,
+    };
+    assert!(rt; is_traced(alloc, tabbed, SCRIPT, want, Outcome::Done)?);
     Ok(())
 }
 
@@ -68,7 +64,11 @@ line 3: 'spac': wanted a step (space?)
 4    space                      space 0
      end                        free 1 mapped 0 withheld 0
 ";
-    assert!(rt; is_traced(alloc, TABLE, script, want, Outcome::Faulted)?);
+    let table = Style {
+        columns: Columns::Padded,
+        whys: false,
+    };
+    assert!(rt; is_traced(alloc, table, script, want, Outcome::Faulted)?);
     Ok(())
 }
 

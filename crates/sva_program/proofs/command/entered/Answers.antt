@@ -1,4 +1,3 @@
-use Rattle.std.proofs.Common.{rules}
 use Rattle.clap.specs.Words.{found_of, rows_of}
 use Rattle.sva_program.proofs.ReadLemmas.{entered_chart, entered_storm, entered_trace}
 use Rattle.sva_program.proofs.command.entered.Goals as goal

@@ -9,11 +9,14 @@ _svahost() {
     return
   fi
   if [ "$COMP_CWORD" -eq 1 ]; then
-    words='replay check storm plain test show why chart trace --help --version'
+    words='replay check storm plain test show why chart explore trace --help --version'
   elif [ "$command" = trace ]; then
     words='--live --why --help'
   elif [ "$command" = chart ]; then
     words='--svg --help'
+  elif [ "$command" = explore ]; then
+    [ "$before" = --most ] && return
+    words='--most --help'
   elif [ "$command" = storm ]; then
     [ "$before" = --turns ] && return
     words='--turns --help'

@@ -1,4 +1,4 @@
-" Vim syntax of svahost's scripts, *.svs, and scenarios, *.sva (docs/FORMAT.md, sections 3 and 13).
+" Vim syntax of svahost's scripts, *.svs, and scenarios, *.sva (docs/FORMAT.md, sections 3 and 12).
 " Put it into ~/.vim/syntax/, and this line into ~/.vim/filetype.vim:
 "     autocmd BufNewFile,BufRead *.svs,*.sva setfiletype svs
 if exists('b:current_syntax')

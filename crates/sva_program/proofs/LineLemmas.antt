@@ -1,5 +1,5 @@
--- clap takes a command that has no arguments alone, and with `--` behind, `storm` with what `TurnLemmas` says, and `chart` and `trace` with what
--- their own definitions say: each other list of words has a fault.
+-- clap takes a command that has no arguments alone, and with `--` behind, `storm` with what `TurnLemmas` says, and `chart`, `explore` and
+-- `trace` with what their own definitions say: each other list of words has a fault.
 use Rattle.std.proofs.Common.{◌≡◌, ◌⊎◌, inl, inr, refl, sym, subst, ap, ◌∙◌, ℕ, Bool, true, false, List, [], ◌∷◌, ◌++◌, Option, Some, None, codes}
 use Rattle.std.proofs.Common.{length, cond, option_map, unwrap_or, fold, ◌||◌, ◌<◌, append-nil, append_assoc, arith}
 use Rattle.std.specs.Prelude.{is_some}
@@ -17,9 +17,9 @@ use Rattle.clap.specs.Walk.{finished, settled, rows_after, Names, Walk, answers_
 use Rattle.clap.proofs.OnLiterals.{clap_on_literals}
 use Rattle.clap.proofs.ValueTestLemmas.{Accepts-accepts, accepts-Accepts}
 use Rattle.sva_program.specs.declared.command.Asked.{Asked}
-use Rattle.sva_program.specs.declared.command.Asked.TheVariants.{Replay, Check, Storm, Plain, Test, Show, Why, Chart, Trace}
+use Rattle.sva_program.specs.declared.command.Asked.TheVariants.{Replay, Check, Storm, Plain, Test, Show, Why, Chart, Explore, Trace}
 use Rattle.sva_program.specs.Command.{Asks, AsksRun, faults_of, GivesTurns, IsCommand, IsReadable, WritesTurns, apart, asked_by, attached, chart_shape, is_given}
-use Rattle.sva_program.specs.Command.{svahost, trace_shape, turns_by, turns_text, usual}
+use Rattle.sva_program.specs.Command.{explore_shape, most_by, most_text, svahost, trace_shape, turns_by, turns_text, usual}
 use Rattle.sva_program.proofs.FlagLemmas.{dashes, is_word, leaf_words, left, right, top, tops, tops_ask}
 use Rattle.sva_program.proofs.TurnLemmas.{IsTaken, taken_apart, taken_attached, taken_nothing}
 use Rattle.sva_program.proofs.TakenLemmas.{apart_taken, apart_taken_dashes, attached_taken, attached_taken_dashes, found, text_accepted, text_of}
@@ -58,6 +58,9 @@ storm = codes "storm"
 abbrev chart : Text
 chart = codes "chart"
 
+abbrev explore : Text
+explore = codes "explore"
+
 abbrev trace : Text
 trace = codes "trace"
 
@@ -65,17 +68,18 @@ abbrev names : Names
 names = names_of (built svahost)
 
 -- the command that a word names, by which of their names it is
-abbrev met_by : Bool → Bool → Bool → Bool → Bool → Bool → Bool → Bool → Bool → Option Text
-met_by a b c d e f g h i =
+abbrev met_by : Bool → Bool → Bool → Bool → Bool → Bool → Bool → Bool → Bool → Bool → Option Text
+met_by a b c d e f g h x i =
     option_map {T = Text × List Text} (λ s. s.0) (cond a (Some (word_of replaying, [])) (cond b (Some (word_of checking, [])) (cond c (Some (storm, []))
     (cond d (Some (word_of printing, [])) (cond e (Some (word_of testing, [])) (cond f (Some (word_of showing, []))
-    (cond g (Some (word_of explaining, [])) (cond h (Some (chart, [])) (cond i (Some (trace, [])) None)))))))))
+    (cond g (Some (word_of explaining, [])) (cond h (Some (chart, [])) (cond x (Some (explore, [])) (cond i (Some (trace, [])) None))))))))))
 
 -- the first word is the name of a command, or `--`
 data IsFirst (word : Text) : Type 0 where
   is_bare : (bare : Bare) → word ≡ word_of bare → IsFirst word
   is_storm : word ≡ storm → IsFirst word
   is_chart : word ≡ chart → IsFirst word
+  is_explore : word ≡ explore → IsFirst word
   is_trace : word ≡ trace → IsFirst word
   is_dashes : word ≡ codes "--" → IsFirst word
 
@@ -86,7 +90,7 @@ or_false false e = e
 named : (name word : Text) → answers_to word (name, []) ≡ true → word ≡ name
 named name word met = sym (is_word name word (or_false _ met))
 
-command_or_dashes : (a b c d f g y z h : Bool) (word : Text)
+command_or_dashes : (a b c d f g y z q h : Bool) (word : Text)
     → (a ≡ true → word ≡ word_of replaying)
     → (b ≡ true → word ≡ word_of checking)
     → (c ≡ true → word ≡ storm)
@@ -95,30 +99,32 @@ command_or_dashes : (a b c d f g y z h : Bool) (word : Text)
     → (g ≡ true → word ≡ word_of showing)
     → (y ≡ true → word ≡ word_of explaining)
     → (z ≡ true → word ≡ chart)
+    → (q ≡ true → word ≡ explore)
     → (h ≡ true → word ≡ trace)
-    → or_else (other_fault top (met_by a b c d f g y z h) word nothing_held)
-    (step_fault top 1 (subcommand_or_other top.rules (met_by a b c d f g y z h) idle 1 word nothing_held).0
-    (subcommand_or_other top.rules (met_by a b c d f g y z h) idle 1 word nothing_held).1) ≡ []
+    → or_else (other_fault top (met_by a b c d f g y z q h) word nothing_held)
+    (step_fault top 1 (subcommand_or_other top.rules (met_by a b c d f g y z q h) idle 1 word nothing_held).0
+    (subcommand_or_other top.rules (met_by a b c d f g y z q h) idle 1 word nothing_held).1) ≡ []
     → IsFirst word
-command_or_dashes true b c d f g y z h word r k s p t w v x u e = is_bare replaying (r refl)
-command_or_dashes false true c d f g y z h word r k s p t w v x u e = is_bare checking (k refl)
-command_or_dashes false false true d f g y z h word r k s p t w v x u e = is_storm (s refl)
-command_or_dashes false false false true f g y z h word r k s p t w v x u e = is_bare printing (p refl)
-command_or_dashes false false false false true g y z h word r k s p t w v x u e = is_bare testing (t refl)
-command_or_dashes false false false false false true y z h word r k s p t w v x u e = is_bare showing (w refl)
-command_or_dashes false false false false false false true z h word r k s p t w v x u e = is_bare explaining (v refl)
-command_or_dashes false false false false false false false true h word r k s p t w v x u e = is_chart (x refl)
-command_or_dashes false false false false false false false false true word r k s p t w v x u e = is_trace (u refl)
-command_or_dashes false false false false false false false false false word r k s p t w v x u e =
+command_or_dashes true b c d f g y z q h word r k s p t w v x m u e = is_bare replaying (r refl)
+command_or_dashes false true c d f g y z q h word r k s p t w v x m u e = is_bare checking (k refl)
+command_or_dashes false false true d f g y z q h word r k s p t w v x m u e = is_storm (s refl)
+command_or_dashes false false false true f g y z q h word r k s p t w v x m u e = is_bare printing (p refl)
+command_or_dashes false false false false true g y z q h word r k s p t w v x m u e = is_bare testing (t refl)
+command_or_dashes false false false false false true y z q h word r k s p t w v x m u e = is_bare showing (w refl)
+command_or_dashes false false false false false false true z q h word r k s p t w v x m u e = is_bare explaining (v refl)
+command_or_dashes false false false false false false false true q h word r k s p t w v x m u e = is_chart (x refl)
+command_or_dashes false false false false false false false false true h word r k s p t w v x m u e = is_explore (m refl)
+command_or_dashes false false false false false false false false false true word r k s p t w v x m u e = is_trace (u refl)
+command_or_dashes false false false false false false false false false false word r k s p t w v x m u e =
     is_dashes (is_word _ _ (dashes tops tops_ask top (bytes_eq word (codes "--")) word e))
 
 top_first : (word : Text) → turn_fault top names (walk_from nothing_held) word ≡ [] → IsFirst word
 top_first word e =
     command_or_dashes (answers_to word (word_of replaying, [])) (answers_to word (word_of checking, [])) (answers_to word (storm, []))
     (answers_to word (word_of printing, [])) (answers_to word (word_of testing, [])) (answers_to word (word_of showing, []))
-    (answers_to word (word_of explaining, [])) (answers_to word (chart, [])) (answers_to word (trace, [])) word (named (word_of replaying) word)
-    (named (word_of checking) word) (named storm word) (named (word_of printing) word) (named (word_of testing) word) (named (word_of showing) word)
-    (named (word_of explaining) word) (named chart word) (named trace word) e
+    (answers_to word (word_of explaining, [])) (answers_to word (chart, [])) (answers_to word (explore, [])) (answers_to word (trace, [])) word
+    (named (word_of replaying) word) (named (word_of checking) word) (named storm word) (named (word_of printing) word) (named (word_of testing) word)
+    (named (word_of showing) word) (named (word_of explaining) word) (named chart word) (named explore word) (named trace word) e
 
 none_behind_top : (rest : List Text) → walk_fault top names (walked top.rules names (walk_from nothing_held) (codes "--")) rest ≡ [] → rest ≡ []
 unfolding clap_on_literals
@@ -175,6 +181,13 @@ chart_level name rest e =
     let stop = gathers chart [] rest (walk_from nothing_held) in
     subst (λ stop. entered_fault (built svahost) stop ≡ []) stop (left _ _ (right _ _ e))
 
+explore_level : (name : Text) (rest : List Text) → fault_of svahost (name ∷ explore ∷ rest) ≡ []
+    → level_fault explore_shape [] nothing_held rest false [] ≡ []
+unfolding clap_on_literals
+explore_level name rest e =
+    let stop = gathers explore [] rest (walk_from nothing_held) in
+    subst (λ stop. entered_fault (built svahost) stop ≡ []) stop (left _ _ (right _ _ e))
+
 trace_level : (name : Text) (rest : List Text) → fault_of svahost (name ∷ trace ∷ rest) ≡ [] → level_fault trace_shape [] nothing_held rest false [] ≡ []
 unfolding clap_on_literals
 trace_level name rest e =
@@ -228,6 +241,10 @@ asks_first name word rest (is_bare bare is) e =
 asks_first name word rest (is_chart is) e =
     let none = chart_level name rest (subst (λ w. fault_of svahost (name ∷ w ∷ rest) ≡ []) is e) in
     subst (λ w. AsksRun (name ∷ w ∷ rest)) (sym is) (Chart (is_given (codes "svg") (rows_after chart_shape.rules [] rest)), (name, rest, (none, refl), refl))
+asks_first name word rest (is_explore is) e =
+    let none = explore_level name rest (subst (λ w. fault_of svahost (name ∷ w ∷ rest) ≡ []) is e) in
+    subst (λ w. AsksRun (name ∷ w ∷ rest)) (sym is)
+    (Explore (most_by (most_text (rows_after explore_shape.rules [] rest))), (name, rest, (none, refl), refl))
 asks_first name word rest (is_trace is) e =
     let none = trace_level name rest (subst (λ w. fault_of svahost (name ∷ w ∷ rest) ≡ []) is e) in
     subst (λ w. AsksRun (name ∷ w ∷ rest)) (sym is) (
@@ -318,6 +335,14 @@ behind_words end =
     (or_else (defaults_fault (settled top.rules end.held).rows top.rules)
     (check_fault top (finished top.rules end.held) (is_some (entered (built svahost) end.stopped)))))
 
+takes_explore : (name : Text) (rest : List Text) → level_fault explore_shape [] nothing_held rest false [] ≡ []
+    → fault_of svahost (name ∷ explore ∷ rest) ≡ []
+unfolding clap_on_literals
+takes_explore name rest e =
+    let first = record (walk_from nothing_held) { stopped = Some (explore, []) } in
+    ap (λ k. or_else k (behind_words (fold (walked top.rules names) first rest))) (gathered_unfaulted explore [] rest (walk_from nothing_held))
+    ∙ ap behind_words (gathers_all explore [] rest (walk_from nothing_held)) ∙ ap (λ k. or_else k []) e
+
 takes_trace : (name : Text) (rest : List Text) → level_fault trace_shape [] nothing_held rest false [] ≡ [] → fault_of svahost (name ∷ trace ∷ rest) ≡ []
 unfolding clap_on_literals
 takes_trace name rest e =
@@ -340,6 +365,7 @@ taken_words Test words is = taken_bare testing words is
 taken_words Show words is = taken_bare showing words is
 taken_words Why words is = taken_bare explaining words is
 taken_words (Chart svg) words (name, rest, given, e) = subst (λ w. fault_of svahost w ≡ []) (sym e) (takes_chart name rest given.0)
+taken_words (Explore most) words (name, rest, given, e) = subst (λ w. fault_of svahost w ≡ []) (sym e) (takes_explore name rest given.0)
 taken_words (Trace live whys) words (name, rest, given, e) = subst (λ w. fault_of svahost w ≡ []) (sym e) (takes_trace name rest given.0)
 taken_words (Storm turns) words (name, rest, given, inl e) = subst (λ w. fault_of svahost w ≡ []) (sym e) (unfaulted name rest (given_taken turns rest given)).0
 taken_words (Storm turns) words (name, rest, given, inr e) = subst (λ w. fault_of svahost w ≡ []) (sym e) (unfaulted name rest (given_taken turns rest given)).1
@@ -380,6 +406,11 @@ bare_tells : (bare : Bare) (words : List Text) → IsCommand (word_of bare) word
 bare_tells bare words (name, inl e) = subst (Tells (asked_of bare)) (sym e) (tells_bare bare name)
 bare_tells bare words (name, inr e) = subst (Tells (asked_of bare)) (sym e) (tells_bare_dashes bare name)
 
+enters_explore : (name : Text) (words : List Text)
+    → subcommand_of svahost (name ∷ explore ∷ words) ≡ Some (explore, rows_after explore_shape.rules [] words)
+unfolding clap_on_literals
+enters_explore name words = ap (entered (built svahost)) (gathers explore [] words (walk_from nothing_held))
+
 enters_trace : (name : Text) (words : List Text) → subcommand_of svahost (name ∷ trace ∷ words) ≡ Some (trace, rows_after trace_shape.rules [] words)
 unfolding clap_on_literals
 enters_trace name words = ap (entered (built svahost)) (gathers trace [] words (walk_from nothing_held))
@@ -409,6 +440,12 @@ tells_storm name text turns words is e number =
           (λ is_storm other same. subst (IsUnsignedIn 1 1000000) (ap (λ found. unwrap_or found text) (sym is ∙ same)) (accepts-Accepts false parser text e)),
     )
 
+tells_explore : (name : Text) (rest : List Text) (most : ℕ) → most ≡ most_by (most_text (rows_after explore_shape.rules [] rest))
+    → Tells (Explore most) (name ∷ explore ∷ rest)
+tells_explore name rest most is =
+    let enters = enters_explore name rest in
+    (ap asked_by enters ∙ ap Explore (sym is), subst IsReadable (sym enters) (λ is_storm. absurd (is_other explore refl is_storm)))
+
 tells_trace : (name : Text) (rest : List Text) (live whys : Bool) → live ≡ is_given (codes "live") (rows_after trace_shape.rules [] rest)
     → whys ≡ is_given (codes "why") (rows_after trace_shape.rules [] rest) → Tells (Trace live whys) (name ∷ trace ∷ rest)
 tells_trace name rest live whys is are =
@@ -428,6 +465,7 @@ tells Test words is = bare_tells testing words is
 tells Show words is = bare_tells showing words is
 tells Why words is = bare_tells explaining words is
 tells (Chart svg) words (name, rest, given, e) = subst (Tells (Chart svg)) (sym e) (tells_chart name rest svg given.1)
+tells (Explore most) words (name, rest, given, e) = subst (Tells (Explore most)) (sym e) (tells_explore name rest most given.1)
 tells (Trace live whys) words (name, rest, given, e) = subst (Tells (Trace live whys)) (sym e) (tells_trace name rest live whys given.1 given.2)
 tells (Storm turns) words (name, rest, given, inl e) =
     let t = given_taken turns rest given in

@@ -1,5 +1,5 @@
 -- How a run ends, from what its command says, and from a command line that couldn't be read for want of memory.
-use Rattle.std.proofs.Common.{◌≡◌, ◌⊎◌, inl, inr, sym, ◌∙◌, subst, append-nil, refl, ℕ, List}
+use Rattle.std.proofs.Common.{◌≡◌, ◌≤◌, ◌⊎◌, arith, inl, inr, sym, ◌∙◌, subst, append-nil, refl, ℕ, List}
 use Rattle.std.proofs.Common.{[], ◌∷◌, Option, Some, None, IfSome, Result, Ok, Err, OnOk}
 use Rattle.std.proofs.Common.{IfOk}
 use Rattle.std.specs.Io.KnownBytes.{Appends, Keeps}
@@ -12,6 +12,7 @@ use Rattle.sva_scenario.specs.declared.reading.TheConstants.{MOST_TURNS}
 use Rattle.sva_scenario.specs.declared.streams.DriveFault.{DriveFault}
 use Rattle.sva_scenario.specs.declared.streams.DriveFault.TheVariants.{Read, Write, Memory}
 use Rattle.sva_scenario.specs.declared.streams.Outcome.{Outcome}
+use Rattle.sva_scenario.specs.declared.streams.Outcome.TheVariants.{Done, Faulted}
 use Rattle.sva_scenario.specs.Report.{check_of, report_of}
 use Rattle.sva_scenario.proofs.StormLemmas.{lacking_of}
 use Rattle.sva_script_reading.specs.Said.{Prints}
@@ -20,9 +21,12 @@ use Rattle.sva_script_reports.specs.Scripts.{plain_of, test_of}
 use Rattle.sva_script_reports.specs.Shows.{show_of}
 use Rattle.sva_script_reports.specs.Whys.{whys_of}
 use Rattle.sva_script_traces.specs.Traces.{trace_of}
-use Rattle.sva_program.specs.Run.{HasCause, Makes, Reports, WhereKnown, style_of}
+use Rattle.sva_program.specs.Run.{HasCause, Makes, Reports, RunsTo, WhereKnown, explored_of, ran_of, status_of, style_of}
 use Rattle.sva_program.specs.declared.command.Asked.{Asked}
-use Rattle.sva_program.specs.declared.command.Asked.TheVariants.{Chart, Check, Plain, Replay, Show, Storm, Test, Trace, Why}
+use Rattle.sva_program.specs.declared.command.Asked.TheVariants.{Chart, Check, Explore, Plain, Replay, Show, Storm, Test, Trace, Why}
+use Rattle.sva_program.specs.declared.run.Ending.{Ending}
+use Rattle.sva_race_reports.specs.declared.judging.Judged.{Judged}
+use Rattle.sva_race_reports.specs.declared.judging.Judged.TheVariants.{Holds, Fails, Unknown}
 
 keeps : (old new : Option (List ℕ)) → new ≡ old → Keeps old new
 keeps None new e = tt
@@ -30,7 +34,7 @@ keeps (Some xs) (Some ys) e = cc e
 keeps (Some xs) None e = absurd (cc e)
 
 -- what a command says of what it wrote, put together
-pub reported : (makes : List ℕ → Type 0) (input old new : Option (List ℕ)) (r : Result Outcome DriveFault) → IfSome input makes
+pub reported : {A : Type 0} (makes : List ℕ → Type 0) (input old new : Option (List ℕ)) (r : Result A DriveFault) → IfSome input makes
     → (r ≡ Err Read → new ≡ old)
     → WhereKnown makes input old new r
 reported makes input old new (Ok ended) made read = made
@@ -60,7 +64,7 @@ pub printed : (says : List ℕ → Said) (input old new : Option (List ℕ)) (r 
 printed says input old new r made read = reported (λ text. Prints (says text) old new r) input old new r made read
 
 -- and of what failed
-pub caused : {R W : Type 0} (reader : Stream R) (writer : Stream W) (r : Result Outcome DriveFault)
+pub caused : {A R W : Type 0} (reader : Stream R) (writer : Stream W) (r : Result A DriveFault)
     → OnOk r ((reader.failures ≡ 0) × (writer.failures ≡ 0))
     → (r ≡ Err Read → (reader.failures ≡ 1) ⊎ ((reader.failures ≡ 0) × (reader.calls ≡ MOST_TURNS)))
     → (r ≡ Err Write → (reader.failures ≡ 0) × (writer.failures ≡ 1))
@@ -71,6 +75,66 @@ caused reader writer (Err Read) end read write memory = read refl
 caused reader writer (Err Write) end read write memory = write refl
 caused reader writer (Err Memory) end read write memory = memory refl
 
+-- how a run ends has the cause of what came to it
+pub caused_run : {R W : Type 0} (reader : Stream R) (writer : Stream W) (found : Result Outcome DriveFault) (ended : Result Ending DriveFault)
+    → ended ≡ ran_of found → HasCause reader writer found → HasCause reader writer ended
+caused_run reader writer found ended is h = subst (HasCause reader writer) (sym is) (go found h)
+  where
+    go : (found : Result Outcome DriveFault) → HasCause reader writer found → HasCause reader writer (ran_of found)
+    go (Ok outcome) h = h
+    go (Err Read) h = h
+    go (Err Write) h = h
+    go (Err Memory) h = h
+
+pub caused_exploring : {R W : Type 0} (reader : Stream R) (writer : Stream W) (found : Result (Option Judged) DriveFault)
+    (ended : Result Ending DriveFault) → ended ≡ explored_of found → HasCause reader writer found → HasCause reader writer ended
+caused_exploring reader writer found ended is h = subst (HasCause reader writer) (sym is) (go found h)
+  where
+    go : (found : Result (Option Judged) DriveFault) → HasCause reader writer found → HasCause reader writer (explored_of found)
+    go (Ok None) h = h
+    go (Ok (Some judged)) h = h
+    go (Err Read) h = h
+    go (Err Write) h = h
+    go (Err Memory) h = h
+
+-- ---- The status
+
+run_status : (found : Result Outcome DriveFault) (ended : Result Ending DriveFault) → ended ≡ ran_of found → status_of ended ≤ 2
+run_status found ended is = subst (λ e. status_of e ≤ 2) (sym is) (go found)
+  where
+    go : (found : Result Outcome DriveFault) → status_of (ran_of found) ≤ 2
+    go (Ok Done) = omega arith
+    go (Ok Faulted) = omega arith
+    go (Err fault) = omega arith
+
+-- of a command on steps
+pub steps_status : (asked : Asked) (input old new : Option (List ℕ)) (ended : Result Ending DriveFault)
+    → ((most : ℕ) → asked ≡ Explore most → ⊥) → Reports asked input old new ended → status_of ended ≤ 2
+steps_status Replay input old new ended other h = run_status h.0 ended h.1
+steps_status Check input old new ended other h = run_status h.0 ended h.1
+steps_status (Storm turns) input old new ended other h = run_status h.0 ended h.1
+steps_status Plain input old new ended other h = run_status h.0 ended h.1
+steps_status Test input old new ended other h = run_status h.0 ended h.1
+steps_status Show input old new ended other h = run_status h.0 ended h.1
+steps_status Why input old new ended other h = run_status h.0 ended h.1
+steps_status (Explore most) input old new ended other h = absurd (other most refl)
+steps_status (Trace live) input old new ended other h = run_status h.0 ended h.1
+
+-- one of the statuses of exploring
+abbrev IsOfExploring : ℕ → Type 0
+IsOfExploring status = (status ≡ 0) ⊎ (status ≡ 1) ⊎ (status ≡ 4) ⊎ (status ≡ 5)
+
+pub exploring_status : (most : ℕ) (input old new : Option (List ℕ)) (ended : Result Ending DriveFault)
+    → Reports (Explore most) input old new ended → IsOfExploring (status_of ended)
+exploring_status most input old new ended h = subst (λ e. IsOfExploring (status_of e)) (sym h.1) (go h.0)
+  where
+    go : (found : Result (Option Judged) DriveFault) → IsOfExploring (status_of (explored_of found))
+    go (Ok None) = inr (inl refl)
+    go (Ok (Some Holds)) = inl refl
+    go (Ok (Some Fails)) = inr (inr (inl refl))
+    go (Ok (Some Unknown)) = inr (inr (inr refl))
+    go (Err fault) = inr (inl refl)
+
 appends_nothing : (old : Option (List ℕ)) → Appends old old []
 appends_nothing None = tt
 appends_nothing (Some xs) = sym (append-nil xs)
@@ -79,24 +143,31 @@ nothing_of : (old : Option (List ℕ)) (text : List ℕ) → AppendsPrefix old o
 nothing_of old text = ([], text, refl, appends_nothing old)
 
 -- nothing written is a prefix of each report
-unwritten_where : (makes : List ℕ → Type 0) (input old : Option (List ℕ)) → ((text : List ℕ) → makes text) → WhereKnown makes input old old (Err Memory)
-unwritten_where makes None old all = tt
-unwritten_where makes (Some text) old all = all text
+unwritten_where : (A : Type 0) (makes : List ℕ → Type 0) (input old : Option (List ℕ)) → ((text : List ℕ) → makes text)
+    → WhereKnown {A = A} makes input old old (Err Memory)
+unwritten_where A makes None old all = tt
+unwritten_where A makes (Some text) old all = all text
 
 unprinted : (said : Said) (old : Option (List ℕ)) → Prints said old old (Err Memory)
 unprinted said old = (nothing_of old said.text, tt)
 
+-- a command on steps lacks memory
+lacking : {makes : Result Outcome DriveFault → Type 0} → makes (Err Memory) → RunsTo makes (Err Memory)
+lacking made = (Err Memory, refl, made)
+
 unwritten_by : (asked : Asked) (input old : Option (List ℕ)) → Reports asked input old old (Err Memory)
-unwritten_by Replay input old = unwritten_where _ input old (λ text. (nothing_of old (report_of text), tt))
-unwritten_by Check input old = unwritten_where _ input old (λ text. (nothing_of old (check_of text), tt))
-unwritten_by (Storm turns) input old = unwritten_where _ input old (λ text. lacking_of text turns old)
-unwritten_by Plain input old = unwritten_where _ input old (λ text. unprinted (plain_of text) old)
-unwritten_by Test input old = unwritten_where _ input old (λ text. unprinted (test_of text) old)
-unwritten_by Show input old = unwritten_where _ input old (λ text. unprinted (show_of text) old)
-unwritten_by Why input old = unwritten_where _ input old (λ text. unprinted (whys_of text) old)
-unwritten_by (Chart svg) input old = unwritten_where _ input old (λ text. (show_of text, (refl, λ wrong. refl), unprinted (show_of text) old))
-unwritten_by (Trace live whys) None old = tt
-unwritten_by (Trace live whys) (Some text) old = unprinted (trace_of (style_of live whys) text) old
+unwritten_by Replay input old = lacking (unwritten_where Outcome _ input old (λ text. (nothing_of old (report_of text), tt)))
+unwritten_by Check input old = lacking (unwritten_where Outcome _ input old (λ text. (nothing_of old (check_of text), tt)))
+unwritten_by (Storm turns) input old = lacking (unwritten_where Outcome _ input old (λ text. lacking_of text turns old))
+unwritten_by Plain input old = lacking (unwritten_where Outcome _ input old (λ text. unprinted (plain_of text) old))
+unwritten_by Test input old = lacking (unwritten_where Outcome _ input old (λ text. unprinted (test_of text) old))
+unwritten_by Show input old = lacking (unwritten_where Outcome _ input old (λ text. unprinted (show_of text) old))
+unwritten_by Why input old = lacking (unwritten_where Outcome _ input old (λ text. unprinted (whys_of text) old))
+unwritten_by (Chart svg) input old =
+    lacking (unwritten_where Outcome _ input old (λ text. (show_of text, (refl, λ wrong. refl), unprinted (show_of text) old)))
+unwritten_by (Explore most) input old = (Err Memory, refl, unwritten_where (Option Judged) _ input old (λ text. nothing_of old []))
+unwritten_by (Trace live whys) None old = lacking tt
+unwritten_by (Trace live whys) (Some text) old = lacking (unprinted (trace_of (style_of live whys) text) old)
 
 pub unwritten : (asked : Asked) (input old new : Option (List ℕ)) → new ≡ old → Reports asked input old new (Err Memory)
 unwritten asked input old new e = subst (λ n. Reports asked input old n (Err Memory)) (sym e) (unwritten_by asked input old)

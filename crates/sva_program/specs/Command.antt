@@ -1,9 +1,11 @@
 -- What a command line asks for. clap's definitions say what a parse makes of words; here is the command that they speak of.
 use Rattle.std.specs.Prelude.{◌≡◌, ◌≢◌, ◌⊎◌, ℕ, Bool, List, [], ◌∷◌, ◌++◌, false, true, codes, map, if◌then◌else◌, Option, None, Some, String, string_bytes}
+use Rattle.std.specs.Prelude.{◌&&◌, nat_le}
 use Rattle.std.specs.Option.{option_map_or}
 use Rattle.std.specs.Str.{bytes_eq}
 use Rattle.std.specs.Str.Parse.{digits_value, without_leading_plus}
 use Rattle.clap.specs.Faults.{level_fault}
+use Rattle.clap.specs.ValueTests.{is_unsigned_in}
 use Rattle.clap.specs.Walk.{first_of, nothing_held, rows_after}
 use Rattle.clap.specs.Words.{App, IsAmong, IsUnsignedIn, Kinds, Row, Rule, Shape, Text, built, fault_of, new_app, new_rule, one_of}
 use Rattle.clap.specs.Words.{with_rule, with_subcommand}
@@ -12,7 +14,7 @@ use Rattle.clap.specs.declared.builder.value_parser.ValueParser.TheVariants.{Uns
 use Rattle.clap.specs.declared.error.kind.ErrorKind.{ErrorKind}
 use Rattle.clap.specs.declared.error.kind.ErrorKind.TheVariants.{DisplayHelp, DisplayVersion}
 use Rattle.sva_program.specs.declared.command.Asked.{Asked}
-use Rattle.sva_program.specs.declared.command.Asked.TheVariants.{Replay, Check, Storm, Plain, Test, Show, Why, Chart, Trace}
+use Rattle.sva_program.specs.declared.command.Asked.TheVariants.{Replay, Check, Storm, Plain, Test, Show, Why, Chart, Explore, Trace}
 
 -- `--turns N`, a number that is read as u64, from 1 to 1000000, or 10000 where it isn't given
 abbrev pub turns_rule : Rule
@@ -24,6 +26,16 @@ turns_rule = record (new_rule (codes "turns")) {
   parser = Some (Unsigned 1 1000000);
 }
 
+-- `--most N`, a number that is read as u64, from 1 to 1000000000, or 1000000 where it isn't given
+abbrev pub most_rule : Rule
+most_rule = record (new_rule (codes "most")) {
+  long = Some (codes "most");
+  action = Some Set;
+  value_names = 1;
+  defaults = codes "1000000" ∷ [];
+  parser = Some (Unsigned 1 1000000000);
+}
+
 -- a flag, as `--live`
 abbrev pub flag_rule : Text → Rule
 flag_rule name = record (new_rule name) { long = Some name; action = Some SetTrue }
@@ -33,8 +45,8 @@ abbrev pub no_commands : App
 no_commands = let plain = new_app (codes "svahost") in
     record plain { top = record plain.top { has_version = true; subcommand_required = true; disable_help_subcommand = true } }
 
--- `svahost` with a version and its commands: `storm`, which takes `--turns`, `chart`, which takes `--svg`, `trace`, which takes `--live`
--- and `--why`, and those that take no arguments; each has clap's flags for help
+-- `svahost` with a version and its commands: `storm`, which takes `--turns`, `chart`, which takes `--svg`, `explore`, which takes `--most`,
+-- `trace`, which takes `--live` and `--why`, and those that take no arguments; each has clap's flags for help
 abbrev pub svahost : App
 svahost =
     let replaying = with_subcommand no_commands (new_app (codes "replay")).top in
@@ -45,7 +57,8 @@ svahost =
     let showing = with_subcommand testing (new_app (codes "show")).top in
     let explaining = with_subcommand showing (new_app (codes "why")).top in
     let charting = with_subcommand explaining (with_rule (new_app (codes "chart")) (flag_rule (codes "svg"))).top in
-    with_subcommand charting (with_rule (with_rule (new_app (codes "trace")) (flag_rule (codes "live"))) (flag_rule (codes "why"))).top
+    let exploring = with_subcommand charting (with_rule (new_app (codes "explore")) most_rule).top in
+    with_subcommand exploring (with_rule (with_rule (new_app (codes "trace")) (flag_rule (codes "live"))) (flag_rule (codes "why"))).top
 
 -- the faults of words, by clap's definitions
 unfoldable pub faults_of : List Text → Kinds
@@ -83,13 +96,46 @@ last_shape shape (next ∷ shapes) = last_shape next shapes
 abbrev pub trace_shape : Shape
 trace_shape = last_shape (built svahost).top (built svahost).subs
 
--- the command `chart` as clap builds it: the last but one
-abbrev pub shape_before_last : Shape → Shape → List Shape → Shape
-shape_before_last shape last [] = shape
-shape_before_last shape last (next ∷ shapes) = shape_before_last last next shapes
+-- the commands `chart` and `explore` as clap builds them: the last but two, and the last but one
+abbrev pub last_but_two : Shape → List Shape → Shape
+last_but_two shape [] = shape
+last_but_two shape (last ∷ []) = shape
+last_but_two shape (other ∷ last ∷ []) = shape
+last_but_two shape (next ∷ one ∷ other ∷ shapes) = last_but_two next (one ∷ other ∷ shapes)
+
+abbrev pub last_but_one : Shape → List Shape → Shape
+last_but_one shape [] = shape
+last_but_one shape (last ∷ []) = shape
+last_but_one shape (next ∷ other ∷ shapes) = last_but_one next (other ∷ shapes)
 
 abbrev pub chart_shape : Shape
-chart_shape = shape_before_last (built svahost).top (built svahost).top (built svahost).subs
+chart_shape = last_but_two (built svahost).top (built svahost).subs
+
+abbrev pub explore_shape : Shape
+explore_shape = last_but_one (built svahost).top (built svahost).subs
+
+-- what was found of `--most`
+abbrev pub most_text : List Row → Option Text
+most_text = one_of (codes "most")
+
+-- how many moments are to be looked at: the number that was found, or 1000000 where none was
+abbrev pub most_by : Option Text → ℕ
+most_by None = 1000000
+most_by (Some text) = if is_unsigned_in 1 1000000000 text then digits_value 10 (without_leading_plus text) else 1000000
+
+-- a number of moments that was read, where it is within its limits
+abbrev pub within : Option ℕ → ℕ
+within None = 1000000
+within (Some most) = if nat_le 1 most && nat_le most 1000000000 then most else 1000000
+
+-- the words behind `explore`, by clap's definitions: they have no fault, and give this number
+abbrev pub GivesMost : ℕ → List Text → Type 0
+GivesMost most words =
+    (level_fault explore_shape [] nothing_held words false [] ≡ []) × (most ≡ most_by (most_text (rows_after explore_shape.rules [] words)))
+
+-- the words are the program's name, `explore`, and words that give this number of moments
+abbrev pub IsExplore : ℕ → List Text → Type 0
+IsExplore most words = (name : Text) × (rest : List Text) × GivesMost most rest × (words ≡ name ∷ codes "explore" ∷ rest)
 
 -- was a flag found?
 abbrev pub is_given : (flag : Text) → List Row → Bool
@@ -125,6 +171,7 @@ Asks Test words = IsCommand (codes "test") words
 Asks Show words = IsCommand (codes "show") words
 Asks Why words = IsCommand (codes "why") words
 Asks (Chart svg) words = IsChart svg words
+Asks (Explore most) words = IsExplore most words
 Asks (Trace live whys) words = IsTrace live whys words
 
 -- the command that clap entered, by its name and by what was found of `--turns`
@@ -148,6 +195,7 @@ asked_by (Some (name, rows)) =
     if bytes_eq name (codes "show") then Show else
     if bytes_eq name (codes "why") then Why else
     if bytes_eq name (codes "chart") then Chart (is_given (codes "svg") rows) else
+    if bytes_eq name (codes "explore") then Explore (most_by (most_text rows)) else
     if bytes_eq name (codes "trace") then Trace (is_given (codes "live") rows) (is_given (codes "why") rows) else
     Replay
 
@@ -164,6 +212,10 @@ IsReadable (Some (name, rows)) = name ≡ codes "storm" → IsWritten (turns_tex
 abbrev pub AsksRun : List Text → Type 0
 AsksRun words = (asked : Asked) × Asks asked words
 
+-- the words ask for a race to be explored
+abbrev pub AsksExplore : List Text → Type 0
+AsksExplore words = (most : ℕ) × Asks (Explore most) words
+
 -- a call for help: by a flag in the place of the command, whatever follows, or behind the command
 pub data CallsHelp (words : List Text) : Type 0 where
   by_long : (name : Text) (rest : List Text) → words ≡ name ∷ codes "--help" ∷ rest → CallsHelp words
@@ -176,6 +228,7 @@ pub data CallsHelp (words : List Text) : Type 0 where
   behind_show : (name : Text) → words ≡ name ∷ codes "show" ∷ codes "--help" ∷ [] → CallsHelp words
   behind_why : (name : Text) → words ≡ name ∷ codes "why" ∷ codes "--help" ∷ [] → CallsHelp words
   behind_chart : (name : Text) → words ≡ name ∷ codes "chart" ∷ codes "--help" ∷ [] → CallsHelp words
+  behind_explore : (name : Text) → words ≡ name ∷ codes "explore" ∷ codes "--help" ∷ [] → CallsHelp words
   behind_trace : (name : Text) → words ≡ name ∷ codes "trace" ∷ codes "--help" ∷ [] → CallsHelp words
 
 -- a call for the version: by a flag in the place of the command, whatever follows

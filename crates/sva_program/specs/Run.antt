@@ -1,5 +1,6 @@
 -- How a run of svahost ends.
-use Rattle.std.specs.Prelude.{◌≡◌, ◌≢◌, ◌⊎◌, ◌≤◌, ℕ, ◌+◌, List, [], ◌∷◌, ◌++◌, codes, Bool, if◌then◌else◌, Option, IfOk, IfSome, Result, Ok, Err}
+use Rattle.std.specs.Prelude.{◌≡◌, ◌≢◌, ◌⊎◌, ◌≤◌, ℕ, ◌+◌, List, [], ◌∷◌, ◌++◌, codes, Bool, if◌then◌else◌, Option, Some, None, IfOk, IfSome}
+use Rattle.std.specs.Prelude.{Result, Ok, Err}
 use Rattle.std.specs.Io.KnownBytes.{Appends, Keeps}
 use Rattle.sva_scenario.specs.Report.{check_of, check_outcome_of, outcome_of, report_of}
 use Rattle.sva_scenario.specs.Storms.{StormsOf}
@@ -18,14 +19,34 @@ use Rattle.sva_script_reports.specs.Scripts.{plain_of, test_of}
 use Rattle.sva_script_reports.specs.Shows.{show_of}
 use Rattle.sva_script_reports.specs.Whys.{whys_of}
 use Rattle.sva_script_traces.specs.Traces.{trace_of}
+use Rattle.sva_race_reports.specs.declared.judging.Judged.{Judged}
+use Rattle.sva_race_reports.specs.declared.judging.Judged.TheVariants.{Holds, Fails, Unknown}
+use Rattle.sva_race_reports.specs.Explored.{Explores}
 use Rattle.sva_program.specs.declared.command.Asked.{Asked}
-use Rattle.sva_program.specs.declared.command.Asked.TheVariants.{Replay, Check, Storm, Plain, Test, Show, Why, Chart, Trace}
+use Rattle.sva_program.specs.declared.command.Asked.TheVariants.{Replay, Check, Storm, Plain, Test, Show, Why, Chart, Explore, Trace}
+use Rattle.sva_program.specs.declared.run.Ending.{Ending}
+use Rattle.sva_program.specs.declared.run.Ending.TheVariants.{Explored, Ran}
 
--- the status: 0 where the steps were run, 1 for a line fault, a refused config and every fault of a stream or of memory
-abbrev pub status_of : Result Outcome DriveFault → ℕ
-status_of (Ok Done) = 0
-status_of (Ok Faulted) = 1
+-- the status: 0 where the steps were run, or all claims of a race hold; 1 for a line fault, a refused config and every fault of a stream or
+-- of memory; 4 where a claim fails, and 5 where none does and one is unknown
+abbrev pub status_of : Result Ending DriveFault → ℕ
+status_of (Ok (Ran Done)) = 0
+status_of (Ok (Ran Faulted)) = 1
+status_of (Ok (Explored Holds)) = 0
+status_of (Ok (Explored Fails)) = 4
+status_of (Ok (Explored Unknown)) = 5
 status_of (Err fault) = 1
+
+-- how a run of steps ends
+abbrev pub ran_of : Result Outcome DriveFault → Result Ending DriveFault
+ran_of (Ok outcome) = Ok (Ran outcome)
+ran_of (Err fault) = Err fault
+
+-- how the exploring of a race ends; of one that isn't run nothing is said of its claims
+abbrev pub explored_of : Result (Option Judged) DriveFault → Result Ending DriveFault
+explored_of (Ok None) = Ok (Ran Faulted)
+explored_of (Ok (Some judged)) = Ok (Explored judged)
+explored_of (Err fault) = Err fault
 
 -- the line that tells of a fault
 abbrev pub fault_line : DriveFault → List ℕ
@@ -38,8 +59,8 @@ abbrev pub unread_line : List ℕ
 unread_line = codes "error: a word of the command line isn't UTF-8 text" ++ 10 ∷ []
 
 -- what the run says on standard error
-abbrev pub complaint : Result Outcome DriveFault → List ℕ
-complaint (Ok outcome) = []
+abbrev pub complaint : Result Ending DriveFault → List ℕ
+complaint (Ok ending) = []
 complaint (Err fault) = fault_line fault
 
 -- a stream was given a text: all of it where no call failed, and else a prefix of it, up to the first failure
@@ -51,7 +72,7 @@ Says contents old new text =
     × (new.failures ≤ old.failures + 1)
 
 -- what a command makes of its input, where that is known; after a read fault it wrote nothing
-abbrev pub WhereKnown : (List ℕ → Type 0) → Option (List ℕ) → Option (List ℕ) → Option (List ℕ) → Result Outcome DriveFault → Type 0
+abbrev pub WhereKnown : {A : Type 0} → (List ℕ → Type 0) → Option (List ℕ) → Option (List ℕ) → Option (List ℕ) → Result A DriveFault → Type 0
 WhereKnown makes input old new (Err Read) = Keeps old new
 WhereKnown makes input old new ended = IfSome input makes
 
@@ -67,27 +88,39 @@ columns_of live = if live then Tabbed else Padded
 abbrev pub style_of : (live whys : Bool) → Style
 style_of live whys = record { columns = columns_of live; whys = whys }
 
+-- a run of steps ended, and made this
+abbrev pub RunsTo : (Result Outcome DriveFault → Type 0) → Result Ending DriveFault → Type 0
+RunsTo makes ended = (found : Result Outcome DriveFault) × (ended ≡ ran_of found) × makes found
+
+-- so did the exploring of a race
+abbrev pub ExploresTo : (Result (Option Judged) DriveFault → Type 0) → Result Ending DriveFault → Type 0
+ExploresTo makes ended = (found : Result (Option Judged) DriveFault) × (ended ≡ explored_of found) × makes found
+
 -- What a command wrote. What a storm makes of its input depends on its threads: they have played the scenario in so many turns each, and
 -- what is written is what the audit of their receipts found, the sum of its own counts or a bad receipt; where memory lacked, nothing is. A
 -- trace has written the rows of what came before a read fault. Of a chart it is known what it says where the script is wrong, and that
--- it is one text, of which after a fault a prefix was written; not what is drawn.
-abbrev pub Reports : Asked → Option (List ℕ) → Option (List ℕ) → Option (List ℕ) → Result Outcome DriveFault → Type 0
-Reports Replay input old new ended = WhereKnown (λ text. Makes old new (report_of text) (outcome_of text) ended) input old new ended
-Reports Check input old new ended = WhereKnown (λ text. Makes old new (check_of text) (check_outcome_of text) ended) input old new ended
-Reports (Storm turns) input old new ended = WhereKnown (λ text. StormsOf text turns old new ended) input old new ended
-Reports Plain input old new ended = WhereKnown (λ text. Prints (plain_of text) old new ended) input old new ended
-Reports Test input old new ended = WhereKnown (λ text. Prints (test_of text) old new ended) input old new ended
-Reports Show input old new ended = WhereKnown (λ text. Prints (show_of text) old new ended) input old new ended
-Reports Why input old new ended = WhereKnown (λ text. Prints (whys_of text) old new ended) input old new ended
-Reports (Chart svg) input old new ended = WhereKnown (λ text. Charts text old new ended) input old new ended
-Reports (Trace live whys) input old new ended = IfSome input (λ text. Prints (trace_of (style_of live whys) text) old new ended)
+-- it is one text, of which after a fault a prefix was written; not what is drawn. What is said of a race depends on how the search went,
+-- but for what is said of its claims: that is so of all lists of permitted choices.
+abbrev pub Reports : Asked → Option (List ℕ) → Option (List ℕ) → Option (List ℕ) → Result Ending DriveFault → Type 0
+Reports Replay input old new =
+    RunsTo (λ found. WhereKnown (λ text. Makes old new (report_of text) (outcome_of text) found) input old new found)
+Reports Check input old new =
+    RunsTo (λ found. WhereKnown (λ text. Makes old new (check_of text) (check_outcome_of text) found) input old new found)
+Reports (Storm turns) input old new = RunsTo (λ found. WhereKnown (λ text. StormsOf text turns old new found) input old new found)
+Reports Plain input old new = RunsTo (λ found. WhereKnown (λ text. Prints (plain_of text) old new found) input old new found)
+Reports Test input old new = RunsTo (λ found. WhereKnown (λ text. Prints (test_of text) old new found) input old new found)
+Reports Show input old new = RunsTo (λ found. WhereKnown (λ text. Prints (show_of text) old new found) input old new found)
+Reports Why input old new = RunsTo (λ found. WhereKnown (λ text. Prints (whys_of text) old new found) input old new found)
+Reports (Chart svg) input old new = RunsTo (λ found. WhereKnown (λ text. Charts text old new found) input old new found)
+Reports (Explore most) input old new = ExploresTo (λ found. WhereKnown (λ text. Explores text most old new found) input old new found)
+Reports (Trace live whys) input old new = RunsTo (λ found. IfSome input (λ text. Prints (trace_of (style_of live whys) text) old new found))
 
 -- a text for the user: something is said, and where the value's own text is known and isn't empty, it is that one
 abbrev pub IsSaid : Option (List ℕ) → List ℕ → Type 0
 IsSaid shown text = (text ≢ []) × IfSome shown (λ own. own ≢ [] → text ≡ own)
 
 -- a read fault comes where the reader failed or its turns were spent, a write fault where the writer failed, and else none of them failed
-abbrev pub HasCause : {R W : Type 0} → Stream R → Stream W → Result Outcome DriveFault → Type 0
+abbrev pub HasCause : {A R W : Type 0} → Stream R → Stream W → Result A DriveFault → Type 0
 HasCause reader writer (Err Read) = (reader.failures ≡ 1) ⊎ ((reader.failures ≡ 0) × (reader.calls ≡ MOST_TURNS))
 HasCause reader writer (Err Write) = (reader.failures ≡ 0) × (writer.failures ≡ 1)
 HasCause reader writer _ = (reader.failures ≡ 0) × (writer.failures ≡ 0)

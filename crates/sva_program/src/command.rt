@@ -2,11 +2,12 @@
 
 ghost use Rattle.std.specs.Prelude.{◌≡◌, IfOk, codes, false};
 ghost use Rattle.clap.specs.Words.{FailsBy, app_of, found_of, new_app, rows_of, rule_of, subcommand_rows_of, with_rule, with_subcommand};
-ghost use Rattle.sva_program.specs.Command.{Asks, IsReadable, IsWritten, asked_by, faults_of, flag_rule, is_given, no_commands, svahost, texts, turns_by, turns_rule, turns_text};
+ghost use Rattle.sva_program.specs.Command.{Asks, IsReadable, IsWritten, asked_by, faults_of, flag_rule, is_given, no_commands};
+ghost use Rattle.sva_program.specs.Command.{most_by, most_rule, most_text, svahost, texts, turns_by, turns_rule, turns_text, within};
 
 use crate::help::{
-    ABOUT, CHART, CHECK, HELP, LIVE, PLAIN, REPLAY, SHOW, STORM, SVG, TEST, TRACE, TURNS, VERSION,
-    WHY, WHYS,
+    ABOUT, CHART, CHECK, EXPLORE, HELP, LIVE, MOST, PLAIN, REPLAY, SHOW, STORM, SVG, TEST, TRACE,
+    TURNS, VERSION, WHY, WHYS,
 };
 use clap::builder::ValueParser;
 use clap::{Arg, ArgAction, ArgMatches, Command, Error};
@@ -17,6 +18,12 @@ const MOST_TURNS: u64 = 1_000_000;
 
 /// How many it has where nothing is said of them. clap is given the same number as a text.
 const USUAL_TURNS: u64 = 10_000;
+
+/// How many moments of a race are looked at at most.
+const MOST_MOMENTS: u64 = 1_000_000_000;
+
+/// How many are looked at where nothing is said of them. clap is given the same number as a text.
+const USUAL_MOMENTS: u64 = 1_000_000;
 
 /// A command of the program.
 #[derive(Clone, Copy, PartialEq, Eq)]
@@ -42,6 +49,11 @@ pub enum Asked {
     Chart {
         /// Is it a picture, and not text?
         svg: bool,
+    },
+    /// What every order of a race comes to.
+    Explore {
+        /// How many moments are looked at at most: 1 to 1000000000.
+        most: u64,
     },
     /// Each step of a script with its answer and its messages, as it comes.
     Trace {
@@ -95,6 +107,31 @@ fn with_storm<'a>(svahost: Command<'a>, alloc: Global) -> Result<Command<'a>, Al
         .long_about(whole_help());
     let with_turns = storm.arg(turns_option(alloc))?;
     svahost.subcommand(with_turns)
+}
+
+/// The option `--most`.
+fn most_option<'a>(alloc: Global) -> Arg<'a>
+    ensures rule { rule_of result ≡ most_rule }
+    ensures local { result.global ≡ false }
+{
+    Arg::new(alloc, "most")
+        .long("most")
+        .action(ArgAction::Set)
+        .value_name("N")
+        .default_value("1000000")
+        .help(MOST)
+        .value_parser(ValueParser::unsigned(1, MOST_MOMENTS))
+}
+
+/// The program with its command `explore`.
+fn with_explore<'a>(svahost: Command<'a>, alloc: Global) -> Result<Command<'a>, AllocError>
+    ensures { IfOk result (λ command. app_of command ≡ with_subcommand (app_of svahost.entry) (with_rule (new_app (codes "explore")) most_rule).top) }
+{
+    let explore = Command::new(alloc, "explore")
+        .about(EXPLORE)
+        .long_about(whole_help());
+    let with_most = explore.arg(most_option(alloc))?;
+    svahost.subcommand(with_most)
 }
 
 /// An option that is a flag.
@@ -161,7 +198,8 @@ fn command<'a>(alloc: Global) -> Result<Command<'a>, AllocError>
     let showing = with_bare(testing, alloc, "show", SHOW)?;
     let explaining = with_bare(showing, alloc, "why", WHY)?;
     let charting = with_chart(explaining, alloc)?;
-    with_trace(charting, alloc)
+    let exploring = with_explore(charting, alloc)?;
+    with_trace(exploring, alloc)
 }
 
 /// The command that the words ask for. A call for help or for the version is an `Err` too, as clap has it.
@@ -191,6 +229,7 @@ fn entered(matches: &ArgMatches<'_>) -> Asked
         Some(("chart", below)) => Asked::Chart {
             svg: is_given(below, "svg"),
         },
+        Some(("explore", below)) => Asked::Explore { most: most(below) },
         Some(("trace", below)) => Asked::Trace {
             live: is_given(below, "live"),
             whys: is_given(below, "why"),
@@ -204,6 +243,23 @@ fn turns(storm: &ArgMatches<'_>) -> u64
     ensures { IsWritten (turns_text (rows_of (found_of storm.now))) → result ≡ turns_by (turns_text (rows_of (found_of storm.now))) }
 {
     storm.get_one::<u64>("turns").unwrap_or(USUAL_TURNS)
+}
+
+/// How many moments are to be looked at. clap takes no number that is out of its limits.
+fn most(explore: &ArgMatches<'_>) -> u64
+    ensures { result ≡ most_by (most_text (rows_of (found_of explore.now))) }
+{
+    within(explore.get_one::<u64>("most"))
+}
+
+/// The number of moments that was found, where it is within its limits.
+fn within(found: Option<u64>) -> u64
+    ensures { result ≡ within found }
+{
+    match found {
+        Some(most) if 1 <= most && most <= MOST_MOMENTS => most,
+        _ => USUAL_MOMENTS,
+    }
 }
 
 /// Was a flag given?

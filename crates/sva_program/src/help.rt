@@ -35,6 +35,13 @@ pub const WHY: &str =
 /// What `-h` says of `chart`.
 pub const CHART: &str = "Runs the script on standard input, and draws it as a sequence chart";
 
+/// What `-h` says of `explore`.
+pub const EXPLORE: &str =
+    "Follows every order of the race on standard input, and prints which of its claims hold";
+
+/// What `-h` says of `--most`.
+pub const MOST: &str = "How many moments are looked at at most, 1 to 1000000000";
+
 /// What `-h` says of `trace`.
 pub const TRACE: &str =
     "Runs the script on standard input, and prints each step with its answer and its messages";
@@ -131,6 +138,27 @@ behind an answer that isn't as expected. `svahost chart` draws the run: each mes
 to its delivery; `--svg` as a picture. Each scenario is a script.
 `./svahost test FILE ..` tries several, and `./svahost show --after N` shows what is kept behind line N.
 
+A race is a script that leaves open who comes first. Behind the word `race` stand the lines of threads:
+of the host, of each endpoint, each unit and each worker, or those below `thread NAME`. Each thread
+keeps its order, and a line that is refused waits. The link, the units, the workers and the endpoints
+go on by themselves. Last stand the claims:
+
+    config 1 4 1
+    s: space
+    m: map s 0x10 w
+    b: bind 0 s
+    deliver b                 => started
+    race
+    a: ask 0 b 0x10
+    u: use 0 b 0x10 w
+    out: unmap s 0x10
+    never usable 0 0 and out is free 0
+    ends always done u
+
+`svahost explore` follows every order, and prints of each claim whether it holds, fails, or is unknown
+since `--most N` moments were looked at. A claim that fails has a witness, a shortest scenario that
+`replay` takes; so has a `sometimes` that holds.
+
 The config, and the steps. E is an endpoint, S a space, B a binding, M a message, F a frame and W a
 worker, each numbered from 0, and a word in brackets may be missing:
 
@@ -199,10 +227,11 @@ withheld until each has answered an invalidation.
 A step that isn't allowed is answered `refused N Name`, changes nothing, and the run goes on. Where
 a line can't be read nothing is run, and the report is that line's fault alone: `line 2 WordCount`.
 
-The status is 0 where the steps were run, refused ones too, and for help and the version; 1 for a
-line that can't be read, for a config that is out of its limits, for a bad audit, and for a fault of
-a stream or of memory, of which standard error tells in a line; and 2 for a wrong command line, of
-which standard error tells too. The script svahost ends with 3 where it can't build the program. All
-else goes to standard output.
+The status is 0 where the steps were run, refused ones too, where all claims of a race hold, and for
+help and the version; 1 for a line that can't be read, for a config that is out of its limits, for a
+bad audit, and for a fault of a stream or of memory, of which standard error tells in a line; 2 for
+a wrong command line, of which standard error tells too; 4 where a claim fails; and 5 where none
+fails and one is unknown. The script svahost ends with 3 where it can't build the program. All else
+goes to standard output.
 
 docs/FORMAT.md describes scenarios, steps, refusals and reports, and examples/ has more of them.";

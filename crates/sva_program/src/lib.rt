@@ -8,5 +8,5 @@ mod run;
 mod storming;
 
 pub use command::Asked;
-pub use run::{main_with, unread};
+pub use run::{Ending, main_with, unread};
 pub use sva_scenario::Told;

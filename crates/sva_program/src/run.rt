@@ -1,10 +1,10 @@
 //! The run of one command, and the status that it exits with.
 
-ghost use Rattle.std.specs.Prelude.{◌≡◌, ◌≢◌, ◌≤◌, ◌<◌, ◌⊎◌, List, ℕ, [], length, OnOk, Result};
+ghost use Rattle.std.specs.Prelude.{◌≡◌, ◌≢◌, ◌≤◌, ◌<◌, ◌⊎◌, List, ℕ, [], length, Option, OnOk, Result};
 ghost use Rattle.std.specs.Io.KnownBytes.{Appends};
 ghost use Rattle.std.specs.IoError.{error_kind};
-ghost use Rattle.sva_program.specs.Command.{Asks, AsksRun, AsksText, CallsHelp, CallsVersion, IsMistaken, texts};
-ghost use Rattle.sva_program.specs.Run.{HasCause, IsSaid, Reports, Says, columns_of, complaint, fault_line};
+ghost use Rattle.sva_program.specs.Command.{Asks, AsksExplore, AsksRun, AsksText, CallsHelp, CallsVersion, IsMistaken, texts};
+ghost use Rattle.sva_program.specs.Run.{HasCause, IsSaid, Reports, Says, columns_of, complaint, explored_of, fault_line, ran_of};
 ghost use Rattle.sva_program.specs.Run.{status_of, style_of, unread_line};
 ghost use Rattle.sva_scenario.specs.Streams.{IsNew, Writes};
 
@@ -19,11 +19,12 @@ use std::io::{ErrorKind as IoErrorKind, Read, Write};
 use std::sync::Wait;
 use std::thread::Threads;
 use sva_charts::{Drawing, chart};
+use sva_race_reports::{Judged, explore};
 use sva_scenario::{DriveFault, Outcome, Told, check, drive, write_all};
 use sva_script_reports::{Saying, print};
 use sva_script_traces::{Columns, Style, trace};
 
-/// The steps were run, or help was shown.
+/// The steps were run, all claims of a race hold, or help was shown.
 const DONE: u8 = 0;
 
 /// A line fault, a config out of its limits, or a fault of a stream or of memory.
@@ -31,6 +32,21 @@ const FAULT: u8 = 1;
 
 /// The command line is wrong.
 const MISTAKE: u8 = 2;
+
+/// A claim of a race fails.
+const FAILED: u8 = 4;
+
+/// No claim of a race fails, and one is unknown.
+const UNKNOWN: u8 = 5;
+
+/// How a run ends where no stream failed and no memory lacked.
+#[derive(Clone, Copy, PartialEq, Eq)]
+pub enum Ending {
+    /// So a run of steps ended. `Faulted` is also said of a race that isn't run.
+    Ran(Outcome),
+    /// A race was explored, and this is said of all its claims together.
+    Explored(Judged),
+}
 
 /// A whole run of svahost on its words, the program's name first: the status that it exits with. The command line is
 /// judged before anything is read. Each command writes what it makes of all that the reader gives, `trace` line by line; what a
@@ -45,7 +61,7 @@ pub fn main_with<X: AllocGlobal + Threads + Wait + Sync, R: Read, W: Write, E: W
     requires reader { IsNew reader.old }
     requires writer { IsNew writer.old }
     requires errors { IsNew errors.old }
-    ensures run { (asked : Asked) → Asks asked (texts words.now) → (ended : Result Outcome DriveFault) × (result ≡ status_of ended)
+    ensures run { (asked : Asked) → Asks asked (texts words.now) → (ended : Result Ending DriveFault) × (result ≡ status_of ended)
         × Reports asked (R.remaining reader.old.inner) (W.contents writer.old.inner) (W.contents writer.new.inner) ended
         × HasCause reader.new writer.new ended
         × Says E.contents errors.old errors.new (complaint ended)
@@ -55,7 +71,7 @@ pub fn main_with<X: AllocGlobal + Threads + Wait + Sync, R: Read, W: Write, E: W
         → AsksText (texts words.now) × (writer.new.failures ≡ 0) × (errors.new ≡ errors.old)
         × ((text : List ℕ) × (text ≢ []) × Appends (W.contents writer.old.inner) (W.contents writer.new.inner) text) }
     ensures fault { (AsksRun (texts words.now) → ⊥) → result ≡ FAULT
-        → (fault : DriveFault) × HasCause reader.new writer.new (Err fault) × ((fault ≡ DriveFault.Memory) → writer.new ≡ writer.old)
+        → (fault : DriveFault) × HasCause {A = Ending} reader.new writer.new (Err fault) × ((fault ≡ DriveFault.Memory) → writer.new ≡ writer.old)
         × Says E.contents errors.old errors.new (fault_line fault) }
     ensures silent { (AsksRun (texts words.now) → ⊥) → (AsksText (texts words.now) → ⊥) → writer.new ≡ writer.old }
     ensures mistake { result ≡ MISTAKE → IsMistaken (texts words.now) × (writer.new ≡ writer.old)
@@ -63,7 +79,9 @@ pub fn main_with<X: AllocGlobal + Threads + Wait + Sync, R: Read, W: Write, E: W
     ensures calls_help { CallsHelp (texts words.now) → result ≢ MISTAKE }
     ensures calls_version { CallsVersion (texts words.now) → result ≢ MISTAKE }
     ensures no_command { length words.now < 2 → result ≢ DONE }
-    ensures status { result ≤ MISTAKE }
+    ensures status { (AsksExplore (texts words.now) → ⊥) → result ≤ MISTAKE }
+    ensures explored { AsksExplore (texts words.now)
+        → (result ≡ DONE) ⊎ (result ≡ FAULT) ⊎ (result ≡ FAILED) ⊎ (result ≡ UNKNOWN) }
 {
     match parse(rt.alloc(), words) {
         Ok(asked) => {
@@ -80,22 +98,44 @@ fn perform<X: AllocGlobal + Threads + Wait + Sync, R: Read, W: Write>(
     asked: Asked,
     reader: &mut Told<R>,
     writer: &mut Told<W>,
-) -> Result<Outcome, DriveFault>
+) -> Result<Ending, DriveFault>
     requires reader { IsNew reader.old }
     requires writer { IsNew writer.old }
     ensures report { Reports asked (R.remaining reader.old.inner) (W.contents writer.old.inner) (W.contents writer.new.inner) result }
     ensures cause { HasCause reader.new writer.new result }
 {
     match asked {
-        Asked::Replay => drive(rt.alloc(), reader, writer),
-        Asked::Check => check(rt.alloc(), reader, writer),
-        Asked::Storm { turns } => drive_storm(rt, rt.alloc(), turns, reader, writer),
-        Asked::Plain => print(rt.alloc(), Saying::Plain, reader, writer),
-        Asked::Test => print(rt.alloc(), Saying::Test, reader, writer),
-        Asked::Show => print(rt.alloc(), Saying::Show, reader, writer),
-        Asked::Why => print(rt.alloc(), Saying::Why, reader, writer),
-        Asked::Chart { svg } => chart(rt.alloc(), drawing_of(svg), reader, writer),
-        Asked::Trace { live, whys } => trace(rt.alloc(), style_of(live, whys), reader, writer),
+        Asked::Replay => ran(drive(rt.alloc(), reader, writer)),
+        Asked::Check => ran(check(rt.alloc(), reader, writer)),
+        Asked::Storm { turns } => ran(drive_storm(rt, rt.alloc(), turns, reader, writer)),
+        Asked::Plain => ran(print(rt.alloc(), Saying::Plain, reader, writer)),
+        Asked::Test => ran(print(rt.alloc(), Saying::Test, reader, writer)),
+        Asked::Show => ran(print(rt.alloc(), Saying::Show, reader, writer)),
+        Asked::Why => ran(print(rt.alloc(), Saying::Why, reader, writer)),
+        Asked::Chart { svg } => ran(chart(rt.alloc(), drawing_of(svg), reader, writer)),
+        Asked::Explore { most } => explored(explore(rt.alloc(), most, reader, writer)),
+        Asked::Trace { live, whys } => ran(trace(rt.alloc(), style_of(live, whys), reader, writer)),
+    }
+}
+
+/// How a run of steps ends.
+fn ran(found: Result<Outcome, DriveFault>) -> Result<Ending, DriveFault>
+    ensures { result ≡ ran_of found }
+{
+    match found {
+        Ok(outcome) => Ok(Ending::Ran(outcome)),
+        Err(fault) => Err(fault),
+    }
+}
+
+/// How the exploring of a race ends.
+fn explored(found: Result<Option<Judged>, DriveFault>) -> Result<Ending, DriveFault>
+    ensures { result ≡ explored_of found }
+{
+    match found {
+        Ok(None) => Ok(Ending::Ran(Outcome::Faulted)),
+        Ok(Some(judged)) => Ok(Ending::Explored(judged)),
+        Err(fault) => Err(fault),
     }
 }
 
@@ -147,15 +187,18 @@ pub fn unread<E: Write>(error: &io::Error, errors: &mut Told<E>) -> u8
 }
 
 /// The status of a run that ended so. A fault is told to `errors`.
-fn finish<E: Write>(ended: Result<Outcome, DriveFault>, errors: &mut Told<E>) -> u8
+fn finish<E: Write>(ended: Result<Ending, DriveFault>, errors: &mut Told<E>) -> u8
     requires { IsNew errors.old }
     ensures status { result ≡ status_of ended }
     ensures said { Says E.contents errors.old errors.new (complaint ended) }
     ensures silent { OnOk ended (errors.new ≡ errors.old) }
 {
     match ended {
-        Ok(Outcome::Done) => DONE,
-        Ok(Outcome::Faulted) => FAULT,
+        Ok(Ending::Ran(Outcome::Done)) => DONE,
+        Ok(Ending::Ran(Outcome::Faulted)) => FAULT,
+        Ok(Ending::Explored(Judged::Holds)) => DONE,
+        Ok(Ending::Explored(Judged::Fails)) => FAILED,
+        Ok(Ending::Explored(Judged::Unknown)) => UNKNOWN,
         Err(fault) => {
             complain(fault, errors);
             FAULT

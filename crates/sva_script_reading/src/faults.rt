@@ -57,7 +57,7 @@ fn takes_names(place: Field) -> bool
 }
 
 /// What was wanted, in words.
-fn wanted_words(wanted: &Wanted) -> &'static str
+pub fn wanted_words(wanted: &Wanted) -> &'static str
     ensures { result.now ≡ wanted_text wanted.now }
 {
     match wanted {
@@ -122,7 +122,7 @@ fn word_at<'a>(words: &[&'a [u8]], at: usize) -> Option<&'a [u8]>
 const MOST_TOLD: usize = 60;
 
 /// Appends a word: bytes that don't show by `\\x` and two digits, and of a long word its first 60.
-fn put_word(out: &mut Vec<u8>, word: &[u8]) -> Result<(), AllocError>
+pub fn put_word(out: &mut Vec<u8>, word: &[u8]) -> Result<(), AllocError>
     ensures { OnOk result (out.new.items ≡ out.old.items ++ shown_word word.now) }
 {
     let told = word.len().min(MOST_TOLD);
@@ -222,7 +222,7 @@ fn put_hint(
 }
 
 /// Appends a word that is near, if there is one.
-fn put_near(out: &mut Vec<u8>, near: Option<&[u8]>) -> Result<(), AllocError>
+pub fn put_near(out: &mut Vec<u8>, near: Option<&[u8]>) -> Result<(), AllocError>
     ensures { OnOk result (out.new.items ≡ out.old.items ++ near_text (option_map (λ near. near.now) near.entry)) }
 {
     match near {

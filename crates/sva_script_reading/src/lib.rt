@@ -6,7 +6,9 @@ mod lines;
 mod reading;
 mod writing;
 
-pub use faults::put_wrong;
+pub use faults::{put_near, put_word, put_wrong, wanted_words};
 pub use lines::{Lines, end_in, is_too_large};
-pub use reading::{Desk, config_of, put_words, read_config, read_script};
+pub use reading::{
+    Desk, config_of, note_name, put_words, read_config, read_line_words, read_script, take_config,
+};
 pub use writing::{put_bad_config, put_counts, put_number, put_reply};

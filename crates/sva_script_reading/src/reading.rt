@@ -98,7 +98,7 @@ pub fn read_config(
 
 /// Takes lines off up to the config, and gives it; what is wrong is appended to `faults`. Lines that say nothing are
 /// passed over.
-fn take_config<'a>(
+pub fn take_config<'a>(
     lines: &mut Lines<'a>,
     desk: &mut Desk<'a>,
     names: &Names,
@@ -224,7 +224,7 @@ fn read_lines<'a>(
 }
 
 /// Reads the words of a line, if it says something, and appends what is wrong with it; is the last line behind it?
-fn read_line_words(
+pub fn read_line_words(
     alloc: Global,
     number: u64,
     has_ended: bool,
@@ -259,7 +259,7 @@ fn read_words(
         faults.old.items faults.new.items) }
 {
     let is_last = tell_words(number, names, desk, faults)?;
-    note(alloc, number, parts_of(desk.words.as_slice()).name, names)?;
+    note_name(alloc, number, parts_of(desk.words.as_slice()).name, names)?;
     Ok(is_last)
 }
 
@@ -286,7 +286,12 @@ fn tell_words(
 }
 
 /// Notes a line's name, if it has one that is a name and new.
-fn note(alloc: Global, line: u64, name: Option<&[u8]>, names: &mut Names) -> Result<(), AllocError>
+pub fn note_name(
+    alloc: Global,
+    line: u64,
+    name: Option<&[u8]>,
+    names: &mut Names,
+) -> Result<(), AllocError>
     ensures { OnOk result (names.new ≡ noted names.old line (option_map (λ name. name.now) name.entry)) }
 {
     if judge_name(names, name).is_ok() {

@@ -137,6 +137,70 @@ fn runs_the_first_example(rt: HostRuntime) -> Result<(), Fail> {
     Ok(())
 }
 
+/// A race of which is known what every order comes to.
+const RACE: &str = "config 1 4 1
+race
+s: space
+thread other
+t: space
+ends always done s
+ends always s is space 0
+";
+
+/// What is said of it.
+const EXPLORED: &str = "whole: 5 moments, 2 ends
+ends always done s: holds
+ends always s is space 0: fails, witness 1
+witness 1: 2 steps
+config 1 4 1
+# other, line 5
+space
+# host, line 3
+space
+";
+
+/// What is said of it where one moment alone is looked at.
+const CUT_OFF: &str = "cut off at 1 moment, 0 ends: all lists of fewer than 0 moves were tried
+ends always done s: unknown
+ends always s is space 0: unknown
+";
+
+/// Races, the command lines that explore them, what is printed, and the status.
+static RACES: [(&[&str], &str, &str, u8); 6] = [
+    (&["explore"], RACE, EXPLORED, 4),
+    (&["explore", "--most", "5", "--"], RACE, EXPLORED, 4),
+    (&["explore", "--most=1"], RACE, CUT_OFF, 5),
+    (
+        &["explore"],
+        "config 1 4 1\nrace\n",
+        "whole: 1 moment, 1 end\n",
+        0,
+    ),
+    (
+        &["explore"],
+        "config 1 4 1\nspace\n",
+        "line 3: end of line: wanted race\n",
+        1,
+    ),
+    (
+        &["explore"],
+        "config 1 4 1\nspace => space 1\nrace\n",
+        "line 2: space: expected 'space 1', answered 'space 0'\n",
+        1,
+    ),
+];
+
+#[test]
+fn explores_races(rt: HostRuntime) -> Result<(), Fail> {
+    for (words, race, report, status) in &RACES {
+        assert!(rt;
+            prints(&rt, words, race.as_bytes(), (report, *status))?,
+            "{report}"
+        );
+    }
+    Ok(())
+}
+
 /// Texts of which no scenario is played, and what a storm prints of each.
 static UNPLAYED: [(&str, &str); 3] = [
     ("", "line 1 NoConfig\n"),
@@ -157,11 +221,11 @@ fn storms_tell_of_faults(rt: HostRuntime) -> Result<(), Fail> {
 }
 
 /// Wrong command lines, and what standard error is told of each.
-static MISTAKES: [(&[&str], &str); 9] = [
+static MISTAKES: [(&[&str], &str); 10] = [
     (
         &[],
         "error: 'svahost' requires a subcommand but one was not provided
-  [subcommands: replay, check, storm, plain, test, show, why, chart, trace]
+  [subcommands: replay, check, storm, plain, test, show, why, chart, explore, trace]
 
 Usage: svahost <COMMAND>
 
@@ -189,6 +253,13 @@ For more information, try '--help'.
     (
         &["storm", "--turns", "0"],
         "error: invalid value '0' for '--turns <N>': 0 is not in 1..=1000000
+
+For more information, try '--help'.
+",
+    ),
+    (
+        &["explore", "--most", "0"],
+        "error: invalid value '0' for '--most <N>': 0 is not in 1..=1000000000
 
 For more information, try '--help'.
 ",
@@ -289,7 +360,8 @@ static HELP_PARTS: [&str; 7] = [
 ];
 
 /// The command lines that ask for all of the help.
-static CALLS_FOR_HELP: [&[&str]; 4] = [
+static CALLS_FOR_HELP: [&[&str]; 5] = [
+    &["explore", "--help"],
     &["--help"],
     &["replay", "--help"],
     &["check", "--help"],
@@ -332,15 +404,16 @@ static SHORT_TEXTS: [(&[&str], &str); 3] = [
 Usage: svahost <COMMAND>
 
 Commands:
-  replay  Runs the scenario on standard input, and prints its report
-  check   Reads the scenario on standard input, and prints how many steps it has
-  storm   Plays the scenario on standard input by threads, and prints what an audit of their calls says
-  plain   Prints the scenario that the script on standard input stands for
-  test    Runs the script on standard input, and compares each answer with what it expects
-  show    Runs the script on standard input, and prints what the host keeps behind its last line
-  why     Runs the script on standard input, and prints what holds each refused step back
-  chart   Runs the script on standard input, and draws it as a sequence chart
-  trace   Runs the script on standard input, and prints each step with its answer and its messages
+  replay   Runs the scenario on standard input, and prints its report
+  check    Reads the scenario on standard input, and prints how many steps it has
+  storm    Plays the scenario on standard input by threads, and prints what an audit of their calls says
+  plain    Prints the scenario that the script on standard input stands for
+  test     Runs the script on standard input, and compares each answer with what it expects
+  show     Runs the script on standard input, and prints what the host keeps behind its last line
+  why      Runs the script on standard input, and prints what holds each refused step back
+  chart    Runs the script on standard input, and draws it as a sequence chart
+  explore  Follows every order of the race on standard input, and prints which of its claims hold
+  trace    Runs the script on standard input, and prints each step with its answer and its messages
 
 Options:
   -h, --help     Print help (see more with '--help')

@@ -6,4 +6,8 @@ mod asserted;
 #[cfg(test)]
 mod races;
 #[cfg(test)]
+mod reports;
+#[cfg(test)]
 mod searches;
+#[cfg(test)]
+mod texts;

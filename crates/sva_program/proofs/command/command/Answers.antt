@@ -1,7 +1,7 @@
 use Rattle.std.proofs.Common.{ap, codes, ◌∙◌}
 use Rattle.std.proofs.lemmas.Result.{IfOk-weaker}
 use Rattle.clap.specs.Words.{App, Text, new_app, with_rule, with_subcommand}
-use Rattle.sva_program.specs.Command.{flag_rule, turns_rule}
+use Rattle.sva_program.specs.Command.{flag_rule, most_rule, turns_rule}
 use Rattle.sva_program.proofs.command.command.Goals as goal
 
 -- a program with a command more, that takes no arguments
@@ -24,5 +24,7 @@ returns c =
     let showing_is = c.in_ok-showing.ensures ∙ ap (with_bare (codes "show")) testing_is in
     let explaining_is = c.in_ok-explaining.ensures ∙ ap (with_bare (codes "why")) showing_is in
     let charting_is = c.in_ok-charting.ensures ∙ ap with_chart explaining_is in
+    let exploring_is = c.in_ok-exploring.ensures
+    ∙ ap (λ (a : App). with_subcommand a (with_rule (new_app (codes "explore")) most_rule).top) charting_is in
     IfOk-weaker c.with_trace.result _ _ (λ r added. added
-    ∙ ap (λ (a : App). with_subcommand a (with_rule (with_rule (new_app (codes "trace")) (flag_rule (codes "live"))) (flag_rule (codes "why"))).top) charting_is) c.with_trace.ensures
+    ∙ ap (λ (a : App). with_subcommand a (with_rule (with_rule (new_app (codes "trace")) (flag_rule (codes "live"))) (flag_rule (codes "why"))).top) exploring_is) c.with_trace.ensures

@@ -1,5 +1,5 @@
 use Rattle.clap.specs.Words.{found_of, rows_of}
-use Rattle.sva_program.proofs.ReadLemmas.{entered_chart, entered_storm, entered_trace}
+use Rattle.sva_program.proofs.ReadLemmas.{entered_chart, entered_explore, entered_storm, entered_trace}
 use Rattle.sva_program.proofs.command.entered.Goals as goal
 
 pub returns-in-Some-storm-default : goal.returns-in-Some-storm-default
@@ -7,6 +7,12 @@ returns-in-Some-storm-default c =
     let stage = c.in-Some-storm-default in
     entered_storm c.args.matches.now stage.field-0-0.now (rows_of (found_of stage.below.now)) c.turns.result stage.is-storm stage.ensures.name
     stage.ensures.rows c.turns.ensures
+
+pub returns-in-Some-explore-default : goal.returns-in-Some-explore-default
+returns-in-Some-explore-default c readable =
+    let stage = c.in-Some-explore-default in
+    entered_explore c.args.matches.now stage.field-0-0.now (rows_of (found_of stage.below.now)) c.most.result stage.is-explore stage.ensures.name
+    stage.ensures.rows c.most.ensures
 
 pub returns-in-Some-trace-default : goal.returns-in-Some-trace-default
 returns-in-Some-trace-default c readable =

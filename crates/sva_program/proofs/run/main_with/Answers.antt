@@ -1,9 +1,10 @@
-use Rattle.std.proofs.Common.{rules, ap, inl, inr, Err, ◌∙◌, subst, sym}
+use Rattle.std.proofs.Common.{rules, ◌≡◌, ◌≤◌, ◌⊎◌, ap, inl, inr, Err, ◌∙◌, subst, sym}
 use Rattle.clap.specs.Words.{HasKind, kind_of}
 use Rattle.sva_scenario.specs.declared.streams.DriveFault.TheVariants.{Memory}
-use Rattle.sva_program.specs.Command.{faults_of, texts}
+use Rattle.sva_program.specs.Command.{Asks, faults_of, texts}
+use Rattle.sva_program.specs.declared.command.Asked.TheVariants.{Explore}
 use Rattle.sva_program.specs.Run.{Reports}
-use Rattle.sva_program.proofs.RunLemmas.{among_faults, asked_text, only_memory, unwritten}
+use Rattle.sva_program.proofs.RunLemmas.{among_faults, asked_text, exploring_status, only_memory, steps_status, unwritten}
 use Rattle.sva_program.proofs.CallLemmas.{help_unmistaken, no_command_asks, no_command_taken, version_unmistaken}
 use Rattle.sva_program.proofs.LineLemmas.{one_alone, takes}
 use Rattle.sva_program.proofs.run.main_with.Goals as goal
@@ -23,6 +24,28 @@ returns-in-Ok-clause-run g c asked asks =
 
 pub returns-in-Ok-clause-no_command : goal.returns-in-Ok-clause-no_command
 returns-in-Ok-clause-no_command g c few done = no_command_taken c.args.words.now few c.in-Ok.ensures.fails
+
+pub returns-in-Ok-clause-status : goal.returns-in-Ok-clause-status
+returns-in-Ok-clause-status g c other =
+    let ran = c.perform-ended in
+    subst (λ status. status ≤ 2) (sym c.finish.ensures.status)
+    (steps_status c.in-Ok.asked _ _ _ ran.result
+    (λ most is. other (most, subst (λ a. Asks a (texts c.args.words.now)) is c.in-Ok.ensures.asked)) ran.ensures.report)
+
+pub returns-in-Ok-clause-explored : goal.returns-in-Ok-clause-explored
+returns-in-Ok-clause-explored g c (most, asks) =
+    let ran = c.perform-ended in
+    let alone = one_alone (Explore most) c.in-Ok.asked (texts c.args.words.now) asks c.in-Ok.ensures.asked in
+    subst (λ status. (status ≡ 0) ⊎ (status ≡ 1) ⊎ (status ≡ 4) ⊎ (status ≡ 5)) (sym c.finish.ensures.status)
+    (exploring_status most _ _ _ ran.result
+    (subst (λ a. Reports a (g.R.Read.remaining c.args.reader.now.inner) (g.W.Write.contents c.args.writer.now.inner)
+    (g.W.Write.contents ran.new.writer.inner) ran.result) (sym alone) ran.ensures.report))
+
+pub returns-in-Err-clause-explored : goal.returns-in-Err-clause-explored
+returns-in-Err-clause-explored g c (most, asks) =
+    let fails : HasKind (faults_of (texts c.args.words.now)) c.in-Err.error = search rules in
+    let memory = c.answer.ensures.memory (c.kind.ensures ∙ only_memory _ c.in-Err.error (takes (Explore most) _ asks) fails) in
+    inr (inl memory.0)
 
 pub returns-in-Err-clause-run : goal.returns-in-Err-clause-run
 returns-in-Err-clause-run g c asked asks =

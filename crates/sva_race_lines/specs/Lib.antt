@@ -1,0 +1,5 @@
+pub mod Readings
+pub mod Taking
+pub mod Threads
+pub mod Claims
+pub mod Texts

@@ -1,0 +1,68 @@
+//! The lines of claims.
+
+ghost use Rattle.std.specs.Prelude.{◌≡◌, ◌≤◌, map};
+ghost use Rattle.sva_race_lines.specs.Claims.{claim_line, claimed, claims_at};
+ghost use Rattle.sva_race_lines.specs.Taking.{Takes};
+
+use crate::claims::{claiming_of, is_of_ends};
+use crate::readings::Reading;
+use std::alloc::Global;
+use sva_race::{Claim, Claiming};
+use sva_race_words::{RaceStop, RaceWanted, stop_at, word_at, words_from};
+use sva_script::Names;
+
+/// At which word it stands what is claimed.
+fn claims_at(words: &[&[u8]]) -> usize
+    ensures at { result ≡ claims_at (map (λ word. word.now) words.now) }
+    ensures few { result ≤ 1 }
+{
+    if is_of_ends(words) { 1 } else { 0 }
+}
+
+/// Takes a claim.
+pub(crate) fn take_claim(
+    alloc: Global,
+    endpoints: u64,
+    names: &Names,
+    reading: &mut Reading,
+    words: &[&[u8]],
+) -> Result<(), RaceStop>
+    ensures { Takes (claim_line endpoints names.now reading.old (map (λ word. word.now) words.now))
+        reading.old reading.new result }
+{
+    let at = claims_at(words);
+    match claiming_of(word_at(words, at)) {
+        Some(claiming) => take_claiming(alloc, endpoints, names, reading, words, at, claiming),
+        None => Err(stop_at(at, RaceWanted::Claiming)),
+    }
+}
+
+/// Takes a claim of which it is known what is claimed, by the word at `at`.
+fn take_claiming(
+    alloc: Global,
+    endpoints: u64,
+    names: &Names,
+    reading: &mut Reading,
+    words: &[&[u8]],
+    at: usize,
+    claiming: Claiming,
+) -> Result<(), RaceStop>
+    requires { at ≤ 1 }
+    ensures { Takes (claimed endpoints names.now reading.old (map (λ word. word.now) words.now) at claiming)
+        reading.old reading.new result }
+{
+    let rest = words_from(words, at + 1);
+    match reading.condition(alloc, endpoints, names, rest, at + 1) {
+        Ok(condition) => {
+            let claim = Claim {
+                claiming,
+                condition,
+            };
+            match reading.add_claim(alloc, words, claim) {
+                Ok(()) => Ok(()),
+                Err(_) => Err(RaceStop::Memory),
+            }
+        }
+        Err(stop) => Err(stop),
+    }
+}

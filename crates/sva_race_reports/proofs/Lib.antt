@@ -1,0 +1,4 @@
+pub mod Rulings
+pub mod Verdicts
+pub mod Moved
+pub mod Fronts

@@ -1,0 +1,4 @@
+pub mod Judging
+pub mod Witnesses
+pub mod Reports
+pub mod Explored

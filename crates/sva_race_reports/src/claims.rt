@@ -1,0 +1,214 @@
+//! The report of a race that was searched.
+
+ghost use Rattle.std.specs.Prelude.{◌≡◌, ◌++◌, ◌+◌, ◌<◌, ◌^◌, OnOk, option_map};
+ghost use Rattle.sva_race_lines.specs.Readings.{asked_seen};
+ghost use Rattle.sva_race_reports.specs.Judging.{judged_at};
+ghost use Rattle.sva_race_reports.specs.declared.judging.Judged.TheVariants.{Holds};
+ghost use Rattle.sva_race_reports.specs.Reports.{asks, claim_text, claimed, claims_from, counts_text, named_witness};
+ghost use Rattle.sva_race_reports.specs.Reports.{reach_text, report_text, tried_text, verdict_of, with_witness, witness_if};
+ghost use Rattle.sva_race_reports.specs.Reports.{witnesses_from};
+
+use crate::judging::{Judged, both, judge, witness_of, word_of};
+use crate::witnesses::{put_counted, put_witness};
+use std::alloc::{AllocError, Global};
+use sva_race::{Choice, Claim, Claiming, End, Race};
+use sva_race_lines::Asked;
+use sva_script_reading::put_number;
+use sva_search::Found;
+
+/// Appends how many moments were looked at, and how many ends there are.
+fn put_counts(out: &mut Vec<u8>, found: &Found<Choice, End>) -> Result<(), AllocError>
+    ensures { OnOk result (out.new.items ≡ out.old.items ++ counts_text found.now) }
+{
+    put_counted(out, found.states, "moment", "moments")?;
+    out.extend_from_slice(b", ")?;
+    put_counted(out, found.ends.len(), "end", "ends")
+}
+
+/// Appends which lists of choices were tried, where the search was cut off.
+fn put_tried(out: &mut Vec<u8>, depth: usize) -> Result<(), AllocError>
+    ensures { OnOk result (out.new.items ≡ out.old.items ++ tried_text depth) }
+{
+    out.extend_from_slice(b": all lists of fewer than ")?;
+    put_counted(out, depth, "move", "moves")?;
+    out.extend_from_slice(b" were tried")
+}
+
+/// Appends how far the search came.
+fn put_reach(
+    out: &mut Vec<u8>,
+    found: &Found<Choice, End>,
+    cut: Option<usize>,
+) -> Result<(), AllocError>
+    ensures { OnOk result (out.new.items ≡ out.old.items ++ reach_text found.now cut) }
+{
+    match cut {
+        None => {
+            out.extend_from_slice(b"whole: ")?;
+            put_counts(out, found)
+        }
+        Some(depth) => {
+            out.extend_from_slice(b"cut off at ")?;
+            put_counts(out, found)?;
+            put_tried(out, depth)
+        }
+    }
+}
+
+/// What is said of the claim of a place.
+fn judged_at(
+    found: &Found<Choice, End>,
+    is_of_ends: bool,
+    place: usize,
+    claiming: Claiming,
+) -> Judged
+    ensures { result ≡ judged_at found.now is_of_ends place claiming }
+{
+    let is_found = witness_of(found, is_of_ends, place).is_some();
+    judge(claiming, is_found, found.cut.is_none())
+}
+
+/// How many witnesses come before the next claim, where so many come before this one.
+fn with_witness(before: u64, witness: Option<&Vec<Choice>>) -> u64
+    requires { before + 1 < 2 ^ 64 }
+    ensures { result ≡ with_witness before (option_map (λ witness. witness.now) witness.entry) }
+{
+    match witness {
+        Some(_) => before + 1,
+        None => before,
+    }
+}
+
+/// Appends the name of a claim's witness, if it has one.
+fn put_named(
+    out: &mut Vec<u8>,
+    before: u64,
+    witness: Option<&Vec<Choice>>,
+) -> Result<(), AllocError>
+    requires { before + 1 < 2 ^ 64 }
+    ensures { OnOk result (out.new.items
+        ≡ out.old.items ++ named_witness before (option_map (λ witness. witness.now) witness.entry)) }
+{
+    match witness {
+        Some(_) => {
+            out.extend_from_slice(b", witness ")?;
+            put_number(out, before + 1)
+        }
+        None => Ok(()),
+    }
+}
+
+/// Appends what is said of the claim of a place.
+fn put_claim(
+    out: &mut Vec<u8>,
+    found: &Found<Choice, End>,
+    place: usize,
+    before: u64,
+    asked: &Asked,
+    claiming: Claiming,
+) -> Result<(), AllocError>
+    requires { before + 1 < 2 ^ 64 }
+    ensures { OnOk result (out.new.items
+        ≡ out.old.items ++ claim_text found.now place before (asked_seen asked.now) claiming) }
+{
+    out.extend_from_slice(asked.text.as_slice())?;
+    out.extend_from_slice(b": ")?;
+    let judged = judged_at(found, asked.is_of_ends, place, claiming);
+    out.extend_from_slice(word_of(judged).as_bytes())?;
+    put_named(out, before, witness_of(found, asked.is_of_ends, place))?;
+    out.extend_from_slice(b"\n")
+}
+
+/// Appends what is said of each claim.
+fn put_claims(
+    out: &mut Vec<u8>,
+    claims: &[Claim],
+    asked: &[Asked],
+    found: &Found<Choice, End>,
+) -> Result<(), AllocError>
+    ensures { OnOk result (out.new.items
+        ≡ out.old.items ++ claims_from found.now 0 0 (asks asked.now) (claimed claims.now)) }
+{
+    let mut before = 0;
+    for place in 0..asked.len().min(claims.len()) {
+        let one = &asked[place];
+        put_claim(out, found, place, before, one, claims[place].claiming)?;
+        before = with_witness(before, witness_of(found, one.is_of_ends, place));
+    }
+    Ok(())
+}
+
+/// Appends a witness, if there is one.
+fn put_witness_if(
+    alloc: Global,
+    out: &mut Vec<u8>,
+    race: &Race,
+    threads: &[Vec<u8>],
+    before: u64,
+    witness: Option<&Vec<Choice>>,
+) -> Result<(), AllocError>
+    requires { before + 1 < 2 ^ 64 }
+    ensures { OnOk result (out.new.items ≡ out.old.items
+        ++ witness_if race.now threads.now before (option_map (λ witness. witness.now) witness.entry)) }
+{
+    match witness {
+        Some(choices) => put_witness(alloc, out, race, threads, before + 1, choices.as_slice()),
+        None => Ok(()),
+    }
+}
+
+/// Appends the witnesses.
+fn put_witnesses(
+    alloc: Global,
+    out: &mut Vec<u8>,
+    race: &Race,
+    threads: &[Vec<u8>],
+    asked: &[Asked],
+    found: &Found<Choice, End>,
+) -> Result<(), AllocError>
+    ensures { OnOk result (out.new.items
+        ≡ out.old.items ++ witnesses_from race.now threads.now found.now 0 0 (asks asked.now)) }
+{
+    let mut before = 0;
+    for place in 0..asked.len() {
+        let witness = witness_of(found, asked[place].is_of_ends, place);
+        put_witness_if(alloc, out, race, threads, before, witness)?;
+        before = with_witness(before, witness);
+    }
+    Ok(())
+}
+
+/// Appends the report of a race: how far the search came, what that says of each claim, and the witnesses.
+pub(crate) fn put_report(
+    alloc: Global,
+    out: &mut Vec<u8>,
+    race: &Race,
+    threads: &[Vec<u8>],
+    asked: &[Asked],
+    found: &Found<Choice, End>,
+) -> Result<(), AllocError>
+    ensures { OnOk result (out.new.items ≡ out.old.items ++ report_text race.now threads.now asked.now found.now) }
+{
+    put_reach(out, found, found.cut)?;
+    out.extend_from_slice(b"\n")?;
+    put_claims(out, race.claims.as_slice(), asked, found)?;
+    put_witnesses(alloc, out, race, threads, asked, found)
+}
+
+/// What is said of all claims together.
+pub(crate) fn verdict_of(race: &Race, asked: &[Asked], found: &Found<Choice, End>) -> Judged
+    ensures { result ≡ verdict_of race.now asked.now found.now }
+{
+    let mut so_far = Judged::Holds;
+    let claims = race.claims.as_slice();
+    for place in 0..asked.len().min(claims.len()) {
+        let judged = judged_at(
+            found,
+            asked[place].is_of_ends,
+            place,
+            claims[place].claiming,
+        );
+        so_far = both(so_far, judged);
+    }
+    so_far
+}

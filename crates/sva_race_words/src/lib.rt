@@ -1,0 +1,8 @@
+//! The words of a race's line, by their places, and what is said of one that is wrong.
+#![tactic(auto)]
+
+mod faults;
+mod words;
+
+pub use faults::{RaceStop, RaceWanted, RaceWrong, put_fault, stop_at, wrong_at};
+pub use words::{count_of, joined, judge_end, piece_len, word_at, words_at, words_from};

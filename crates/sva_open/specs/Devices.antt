@@ -1,0 +1,167 @@
+-- What each act of an endpoint leaves, where it is permitted, and what an invalidation and a reset do to it.
+use Rattle.std.specs.Prelude.{ℕ, suc, ◌==◌, ◌&&◌, ◌||◌, not, if◌then◌else◌, Bool, true, false, List, [], ◌∷◌, ◌++◌, map, filter, take, find}
+use Rattle.std.specs.Prelude.{remove, position, slice_get, slice_set, Option, Some, None, option_map}
+use Rattle.std.specs.List.{list_any}
+use Rattle.sva_open.specs.declared.frames.Target.{Target}
+use Rattle.sva_open.specs.declared.frames.Translation.{Translation}
+use Rattle.sva_open.specs.declared.scopes.Scope.{Scope}
+use Rattle.sva_open.specs.declared.rows.State.TheVariants.{Off}
+use Rattle.sva_open.specs.declared.rows.Row.{Row}
+use Rattle.sva_open.specs.declared.messages.Message.TheVariants as message
+use Rattle.sva_open.specs.declared.works.Request.{Request}
+use Rattle.sva_open.specs.declared.works.Group.{Group}
+use Rattle.sva_open.specs.declared.works.Work.{Work}
+use Rattle.sva_open.specs.declared.works.Work.TheVariants.{Use, Taken}
+use Rattle.sva_open.specs.declared.settings.Stopped.{Stopped}
+use Rattle.sva_open.specs.declared.settings.Stopped.TheVariants.{Marker, Status, Known}
+use Rattle.sva_open.specs.World.{Part, covers, if_so, is_of, is_on, is_stopping, lowest_free, put, sent, with_row, with_translation, without_covered}
+
+-- ---- to ask, to use, to let go
+
+-- a translation request goes out under the lowest free tag, for whom the PASID was started
+abbrev pub ask : Part → (pasid page : ℕ) → Option Row → Option Part
+ask part pasid page None = None
+ask part pasid page (Some row) =
+    if_so (is_on row.state)
+    (sent
+    (record part { requests = put part.requests (record { pasid = pasid; page = page; owner = row.user; is_doomed = false }) })
+    row.user part.time (message.Request (lowest_free part.requests) pasid page))
+
+-- a use needs a PASID that is on, and a held translation of the page
+abbrev pub begin_use : Part → Option Row → Option Translation → Option Part
+begin_use part None held = None
+begin_use part (Some row) None = None
+begin_use part (Some row) (Some translation) = if_so (is_on row.state) (record part { works = part.works ++ Use translation ∷ [] })
+
+abbrev pub use_of : Part → (pasid page : ℕ) → Option Part
+use_of part pasid page = begin_use part (slice_get part.rows pasid) (find (is_of pasid page) part.held)
+
+abbrev pub end_use : Part → (place : ℕ) → Option Work → Option Part
+end_use part place None = None
+end_use part place (Some (Use translation)) = Some (record part { works = remove part.works place })
+end_use part place (Some (Taken itag scope)) = None
+
+-- a held translation may go whatever the state of its PASID is; a use that began through it runs on
+abbrev pub evict : Part → Option ℕ → Option Part
+evict part None = None
+evict part (Some place) = Some (record part { held = remove part.held place })
+
+-- ---- page requests
+
+-- the first page request of a group goes out under the lowest free index
+abbrev pub fault : Part → (pasid page : ℕ) → (write last : Bool) → Option Row → Option Part
+fault part pasid page write last None = None
+fault part pasid page write last (Some row) =
+    if_so (is_on row.state && part.is_enabled)
+    (sent
+    (record part { groups = put part.groups (record { pasid = pasid; owner = row.user; is_finished = last }) })
+    row.user part.time
+    (message.PageRequest (record { pasid = pasid; index = lowest_free part.groups; page = page; write = write; last = last })))
+
+-- a group that isn't finished goes on, while its PASID stops too
+abbrev pub more : Part → (index page : ℕ) → (write last : Bool) → Option (Option Group) → Option Part
+more part index page write last None = None
+more part index page write last (Some None) = None
+more part index page write last (Some (Some group)) =
+    if_so (not group.is_finished && part.is_enabled)
+    (sent
+    (record part { groups = slice_set part.groups index (Some (record group { is_finished = last })) })
+    group.owner part.time
+    (message.PageRequest (record { pasid = group.pasid; index = index; page = page; write = write; last = last })))
+
+-- ---- to complete an invalidation, and to quit a PASID
+
+-- is it a use of what is covered?
+abbrev pub is_use_of : Scope → Work → Bool
+is_use_of scope (Use translation) = covers scope translation.pasid translation.page
+is_use_of scope (Taken itag other) = false
+
+-- An invalidation is completed once the uses that began before it, of what it covers, have ended (PCI Express Base 5.0, section
+-- 10.3.3). An endpoint that lies doesn't await them.
+abbrev pub finish : Part → (place : ℕ) → Option Work → Option Part
+finish part place None = None
+finish part place (Some (Use translation)) = None
+finish part place (Some (Taken itag scope)) =
+    if_so (part.lies || not (list_any (is_use_of scope) (take place part.works)))
+    (sent (record part { works = remove part.works place }) 0 part.time (message.Invalidated itag))
+
+-- is there something unfinished under the PASID: a group, a request that is out, or a use?
+abbrev pub is_unfinished : (pasid : ℕ) → Option Group → Bool
+is_unfinished pasid None = false
+is_unfinished pasid (Some group) = not group.is_finished && (group.pasid == pasid)
+
+abbrev pub asks_under : (pasid : ℕ) → Option Request → Bool
+asks_under pasid None = false
+asks_under pasid (Some request) = request.pasid == pasid
+
+abbrev pub is_use_under : (pasid : ℕ) → Work → Bool
+is_use_under pasid (Use translation) = translation.pasid == pasid
+is_use_under pasid (Taken itag scope) = false
+
+abbrev pub is_busy : Part → (pasid : ℕ) → Bool
+is_busy part pasid =
+    list_any (is_unfinished pasid) part.groups || (list_any (asks_under pasid) part.requests || list_any (is_use_under pasid) part.works)
+
+-- by what the endpoint says that it has stopped
+abbrev pub said : Stopped → Part → (pasid : ℕ) → Row → Part
+said Marker part pasid row = sent (with_row part pasid (record row { state = Off })) row.user part.time (message.Marker pasid)
+said Status part pasid row = sent (with_row part pasid (record row { state = Off })) row.user part.time (message.Status pasid)
+said Known part pasid row = with_row part pasid (record row { state = Off; answer = Some row.user })
+
+abbrev pub quit : Stopped → Part → (pasid : ℕ) → Option Row → Option Part
+quit stopped part pasid None = None
+quit stopped part pasid (Some row) = if_so (is_stopping row.state && not (is_busy part pasid)) (said stopped part pasid row)
+
+-- ---- what comes to it
+
+-- with a completion the request is over; its translation is held, unless the request is doomed (section 10.2.3)
+abbrev pub held_after : List Translation → Request → Option Target → List Translation
+held_after held request None = held
+held_after held request (Some target) =
+    if request.is_doomed
+    then held
+    else with_translation held (record { pasid = request.pasid; page = request.page; owner = request.owner; target = target })
+
+abbrev pub complete : Part → (tag : ℕ) → Option Target → Option (Option Request) → Part
+complete part tag target None = part
+complete part tag target (Some None) = part
+complete part tag target (Some (Some request)) =
+    record part { requests = slice_set part.requests tag None; held = held_after part.held request target }
+
+-- an invalidation strikes what is held, dooms the requests that are out, and is awaited behind the uses that run
+abbrev pub doomed_by : Scope → Request → Request
+doomed_by scope request = record request { is_doomed = request.is_doomed || covers scope request.pasid request.page }
+
+abbrev pub doomed : Scope → Option Request → Option Request
+doomed scope None = None
+doomed scope (Some request) = Some (doomed_by scope request)
+
+abbrev pub invalidate : Part → (itag : ℕ) → Scope → Part
+invalidate part itag scope =
+    record part {
+      held = without_covered scope part.held;
+      requests = map (doomed scope) part.requests;
+      works = part.works ++ Taken itag scope ∷ [];
+    }
+
+-- a response ends its group; a Response Failure disables the page request interface (section 10.4.2)
+abbrev pub end_group : Part → (index : ℕ) → (fails : Bool) → Part
+end_group part index fails = record part { groups = slice_set part.groups index None; is_enabled = part.is_enabled && not fails }
+
+-- a reset leaves nothing of what the endpoint had, and is answered (section 6.6.2)
+abbrev pub switched_off : Row → Row
+switched_off row = record row { state = Off }
+
+abbrev pub reset_taken : Part → Part
+reset_taken part =
+    sent
+    (record part {
+      rows = map switched_off part.rows;
+      requests = [];
+      held = [];
+      works = [];
+      groups = [];
+      is_enabled = true;
+      time = suc part.time;
+    })
+    0 (suc part.time) message.ResetDone

@@ -1,0 +1,154 @@
+-- What each act of the host at an endpoint leaves, where it is permitted.
+use Rattle.std.specs.Prelude.{ℕ, suc, ◌+◌, ◌==◌, ◌&&◌, ◌||◌, not, nat_le, if◌then◌else◌, Bool, true, false, List, [], ◌∷◌, ◌++◌, length}
+use Rattle.std.specs.Prelude.{remove, position, slice_get, slice_set, Option, Some, None, is_some}
+use Rattle.std.specs.List.{list_any}
+use Rattle.sva_step.specs.Limits
+use Rattle.sva_open.specs.declared.rows.Entry.{Entry}
+use Rattle.sva_open.specs.declared.rows.Row.{Row}
+use Rattle.sva_open.specs.declared.messages.Message.{Message}
+use Rattle.sva_open.specs.declared.messages.Message.TheVariants as message
+use Rattle.sva_open.specs.declared.messages.PageRequest.{PageRequest}
+use Rattle.sva_open.specs.declared.messages.Sent.{Sent}
+use Rattle.sva_open.specs.declared.descriptors.Descriptor.{Descriptor}
+use Rattle.sva_open.specs.declared.descriptors.Arrived.{Arrived}
+use Rattle.sva_open.specs.declared.descriptors.Filed.{Filed}
+use Rattle.sva_open.specs.World.{Part, if_so, sent, with_row}
+use Rattle.sva_open.specs.Units.{is_wait, is_waiting}
+
+-- ---- owners and entries
+
+-- another owner has the PASID: it has no space yet, and what answers the stops of the one before isn't for it
+abbrev pub with_next_owner : Row → Row
+with_next_owner row = record row { owner = suc row.owner; space = None; answer = None }
+
+-- the entry leads to a space, for the owner that the PASID has
+abbrev pub leading_to : Row → (space : ℕ) → Row
+leading_to row space = record row { entry = Some (record { space = space; owner = row.owner }); space = Some space }
+
+-- The owner of a PASID is known by its space: where an entry is to lead to another one, the PASID has another owner.
+abbrev pub owned_for : Row → (space : ℕ) → Option ℕ → Row
+owned_for row space None = row
+owned_for row space (Some own) = if own == space then row else with_next_owner row
+
+abbrev pub entered : Row → (space : ℕ) → Row
+entered row space = leading_to (owned_for row space row.space) space
+
+abbrev pub set_entry : Part → (pasid space : ℕ) → Option Row → Option Part
+set_entry part pasid space None = None
+set_entry part pasid space (Some row) = Some (with_row part pasid (entered row space))
+
+abbrev pub clear_entry : Part → (pasid : ℕ) → Option Row → Option Part
+clear_entry part pasid None = None
+clear_entry part pasid (Some row) = Some (with_row part pasid (record row { entry = None }))
+
+abbrev pub free_pasid : Part → (pasid : ℕ) → Option Row → Option Part
+free_pasid part pasid None = None
+free_pasid part pasid (Some row) = Some (with_row part pasid (with_next_owner row))
+
+-- ---- messages to the endpoint
+
+abbrev pub start : Part → (pasid : ℕ) → Option Row → Option Part
+start part pasid None = None
+start part pasid (Some row) = Some (sent part row.owner part.time (message.Start pasid))
+
+-- the answer to an earlier stop isn't the one to this
+abbrev pub stop : Part → (pasid : ℕ) → Option Row → Option Part
+stop part pasid None = None
+stop part pasid (Some row) = Some (sent (with_row part pasid (record row { answer = None })) row.owner part.time (message.Stop pasid))
+
+-- a reset is of no PASID
+abbrev pub reset : Part → Part
+reset part = sent part 0 part.time message.Reset
+
+-- ---- the unit
+
+-- all at once, where the unit is open and its queue has room for all
+abbrev pub may_submit : Part → List Descriptor → Bool
+may_submit part descriptors = part.is_open && nat_le (length part.queue + length descriptors) Limits.queue_places
+
+abbrev pub submit : Part → List Descriptor → Option Part
+submit part descriptors = if_so (may_submit part descriptors) (record part { queue = part.queue ++ descriptors })
+
+-- A unit that is closed has no page request queued and no group filed. What stands in its invalidation queue, and what has
+-- left that, stays undone, and is gone when it is opened again: then all ITags are free, and all waits done.
+abbrev pub close : Part → Option Part
+close part = if_so part.is_open (record part { is_open = false; arrived = []; filed = [] })
+
+abbrev pub reopen : Part → Option Part
+reopen part = if_so (not part.is_open) (record part { is_open = true; queue = []; issued = [] })
+
+-- ---- what the host sees
+
+-- a wait isn't done as long as it stands in the queue, or behind an invalidation that has left it
+abbrev pub is_awaited : Part → (name : ℕ) → Bool
+is_awaited part name = list_any (is_wait name) part.queue || list_any (is_waiting name) part.issued
+
+abbrev pub await_wait : Part → (name : ℕ) → Option Part
+await_wait part name = if_so (not (is_awaited part name)) part
+
+abbrev pub await_stopped : Part → (pasid : ℕ) → Option Row → Option Part
+await_stopped part pasid None = None
+await_stopped part pasid (Some row) = if_so (is_some row.answer) (with_row part pasid (record row { answer = None }))
+
+abbrev pub has_arrived : (pasid : ℕ) → Arrived → Bool
+has_arrived pasid one = one.request.pasid == pasid
+
+abbrev pub await_queue : Part → Option Part
+await_queue part = if_so (length part.arrived == 0) part
+
+abbrev pub await_queue_of : Part → (pasid : ℕ) → Option Part
+await_queue_of part pasid = if_so (not (list_any (has_arrived pasid) part.arrived)) part
+
+abbrev pub is_under : (pasid : ℕ) → Filed → Bool
+is_under pasid filed = filed.pasid == pasid
+
+abbrev pub await_groups : Part → (pasid : ℕ) → Option Part
+await_groups part pasid = if_so (not (list_any (is_under pasid) part.filed)) part
+
+-- a reset isn't done as long as it, or its reset-done, is in flight
+abbrev pub is_reset : Message → Bool
+is_reset message.Reset = true
+is_reset message.ResetDone = true
+is_reset _ = false
+
+abbrev pub is_of_reset : Sent → Bool
+is_of_reset one = is_reset one.message
+
+abbrev pub await_resets : Part → Option Part
+await_resets part = if_so (not (list_any is_of_reset part.flight)) part
+
+-- ---- page requests
+
+abbrev pub is_group : (pasid index : ℕ) → Filed → Bool
+is_group pasid index filed = (filed.pasid == pasid) && (filed.index == index)
+
+-- a page request joins the unfinished group of its PASID and index, or begins one
+abbrev pub is_joined : PageRequest → Filed → Bool
+is_joined request filed = not filed.is_whole && is_group request.pasid request.index filed
+
+abbrev pub filing : Arrived → Filed
+filing one = record { pasid = one.request.pasid; index = one.request.index; time = one.time; is_whole = one.request.last }
+
+abbrev pub filed_at : List Filed → Arrived → Option ℕ → List Filed
+filed_at filed one None = filed ++ filing one ∷ []
+filed_at filed one (Some place) = slice_set filed place (filing one)
+
+-- the oldest page request is filed
+abbrev pub serve : Part → Option Arrived → Option Part
+serve part None = None
+serve part (Some one) =
+    Some (record part { arrived = remove part.arrived 0; filed = filed_at part.filed one (position (is_joined one.request) part.filed) })
+
+-- a response is sent for the first group that is filed under its PASID and index, which is filed no more; where none is, it is
+-- sent for none
+abbrev pub responded : Part → (index : ℕ) → (fails : Bool) → (place : ℕ) → Option Filed → Part
+responded part index fails place None = sent part 0 part.time (message.Response index fails false)
+responded part index fails place (Some filed) =
+    sent (record part { filed = remove part.filed place }) 0 filed.time (message.Response index fails true)
+
+abbrev pub respond_at : Part → (index : ℕ) → (fails : Bool) → Option ℕ → Part
+respond_at part index fails None = sent part 0 part.time (message.Response index fails false)
+respond_at part index fails (Some place) = responded part index fails place (slice_get part.filed place)
+
+abbrev pub respond : Part → (pasid index : ℕ) → (fails : Bool) → Part
+respond part pasid index fails = respond_at part index fails (position (is_group pasid index) part.filed)

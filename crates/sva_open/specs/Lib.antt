@@ -1,0 +1,9 @@
+pub mod World
+pub mod Order
+pub mod Host
+pub mod Devices
+pub mod Units
+pub mod Links
+pub mod Acts
+pub mod Safe
+pub mod Checks

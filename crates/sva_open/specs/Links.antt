@@ -1,0 +1,50 @@
+-- What comes of a message that is delivered.
+use Rattle.std.specs.Prelude.{ℕ, if◌then◌else◌, Bool, List, [], ◌∷◌, ◌++◌, remove, slice_get, Option, Some, None}
+use Rattle.sva_open.specs.declared.frames.Mapping.{Mapping}
+use Rattle.sva_open.specs.declared.rows.State.{State}
+use Rattle.sva_open.specs.declared.rows.State.TheVariants.{On, Stopping}
+use Rattle.sva_open.specs.declared.rows.Row.{Row}
+use Rattle.sva_open.specs.declared.messages.Message.{Message}
+use Rattle.sva_open.specs.declared.messages.Message.TheVariants as message
+use Rattle.sva_open.specs.declared.messages.PageRequest.{PageRequest}
+use Rattle.sva_open.specs.declared.messages.Sent.{Sent}
+use Rattle.sva_open.specs.declared.settings.Settings.{Settings}
+use Rattle.sva_open.specs.World.{Part, if_so, with_row}
+use Rattle.sva_open.specs.Order.{may_deliver}
+use Rattle.sva_open.specs.Devices.{complete, end_group, invalidate, reset_taken}
+use Rattle.sva_open.specs.Units.{answer, answered_stop, complete_itag}
+
+-- an endpoint is told of a PASID, by an owner of it
+abbrev pub told : Part → (pasid : ℕ) → State → (owner : ℕ) → Option Row → Part
+told part pasid state owner None = part
+told part pasid state owner (Some row) = with_row part pasid (record row { state = state; user = owner })
+
+abbrev pub arrive : Part → Sent → PageRequest → Part
+arrive part one request = record part { arrived = part.arrived ++ (record { request = request; owner = one.owner; time = one.time }) ∷ [] }
+
+-- a unit that is closed drops all but a status and a reset-done
+abbrev pub if_open : Part → Part → Part
+if_open part after = if part.is_open then after else part
+
+-- what a message comes to, of a part in whose flight it isn't any more
+abbrev pub received : Settings → List Mapping → Part → Sent → Message → Part
+received settings mappings part one (message.Start pasid) = told part pasid On one.owner (slice_get part.rows pasid)
+received settings mappings part one (message.Stop pasid) = told part pasid Stopping one.owner (slice_get part.rows pasid)
+received settings mappings part one message.Reset = reset_taken part
+received settings mappings part one (message.Completion tag target) = complete part tag target (slice_get part.requests tag)
+received settings mappings part one (message.Invalidate itag scope) = invalidate part itag scope
+received settings mappings part one (message.Response index fails filed) = end_group part index fails
+received settings mappings part one (message.Request tag pasid page) = if_open part (answer settings mappings part one tag pasid page)
+received settings mappings part one (message.Invalidated itag) = if_open part (complete_itag part itag)
+received settings mappings part one (message.PageRequest request) = if_open part (arrive part one request)
+received settings mappings part one (message.Marker pasid) = if_open part (answered_stop part pasid one.owner (slice_get part.rows pasid))
+received settings mappings part one (message.Status pasid) = answered_stop part pasid one.owner (slice_get part.rows pasid)
+received settings mappings part one message.ResetDone = part
+
+abbrev pub without_sent : Part → (place : ℕ) → Part
+without_sent part place = record part { flight = remove part.flight place }
+
+abbrev pub deliver : Settings → List Mapping → Part → (place : ℕ) → Option Sent → Option Part
+deliver settings mappings part place None = None
+deliver settings mappings part place (Some one) =
+    if_so (may_deliver settings.link part.flight place one.message) (received settings mappings (without_sent part place) one one.message)

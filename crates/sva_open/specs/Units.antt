@@ -1,0 +1,167 @@
+-- What a unit does by itself, and what it makes of what comes to it.
+use Rattle.std.specs.Prelude.{ℕ, zero, suc, ◌==◌, ◌&&◌, ◌||◌, not, if◌then◌else◌, Bool, true, false, List, [], ◌∷◌, ◌++◌, filter, find, drop, length}
+use Rattle.std.specs.Prelude.{remove, position, slice_get, slice_set, Option, Some, None, option_map, is_some}
+use Rattle.std.specs.List.{list_any}
+use Rattle.sva_step.specs.Limits
+use Rattle.sva_open.specs.declared.frames.Target.{Target}
+use Rattle.sva_open.specs.declared.frames.Mapping.{Mapping}
+use Rattle.sva_open.specs.declared.frames.Translation.{Translation}
+use Rattle.sva_open.specs.declared.scopes.Scope.{Scope}
+use Rattle.sva_open.specs.declared.rows.Entry.{Entry}
+use Rattle.sva_open.specs.declared.rows.KeptEntry.{KeptEntry}
+use Rattle.sva_open.specs.declared.rows.Row.{Row}
+use Rattle.sva_open.specs.declared.messages.Message.TheVariants as message
+use Rattle.sva_open.specs.declared.messages.Sent.{Sent}
+use Rattle.sva_open.specs.declared.descriptors.Descriptor.{Descriptor}
+use Rattle.sva_open.specs.declared.descriptors.Descriptor.TheVariants as descriptor
+use Rattle.sva_open.specs.declared.descriptors.Issued.{Issued}
+use Rattle.sva_open.specs.declared.descriptors.Issued.TheVariants.{Sent as Issue, Waiting}
+use Rattle.sva_open.specs.declared.settings.Settings.{Settings}
+use Rattle.sva_open.specs.World.{Part, if_so, is_of, is_page, or_else, sent, with_translation, without_covered}
+
+-- ---- the invalidation queue
+
+-- is it a wait of this name, in the queue and behind it?
+abbrev pub is_wait : (name : ℕ) → Descriptor → Bool
+is_wait name (descriptor.Wait own drain fence) = own == name
+is_wait name _ = false
+
+abbrev pub is_sent : Issued → Bool
+is_sent (Issue itag) = true
+is_sent (Waiting name) = false
+
+abbrev pub has_itag : (itag : ℕ) → Issued → Bool
+has_itag itag (Issue own) = own == itag
+has_itag itag (Waiting name) = false
+
+abbrev pub is_waiting : (name : ℕ) → Issued → Bool
+is_waiting name (Issue itag) = false
+is_waiting name (Waiting own) = own == name
+
+-- the lowest ITag of so many from one on that no invalidation has
+unfoldable pub free_itag : List Issued → (many itag : ℕ) → Option ℕ
+free_itag issued zero itag = None
+free_itag issued (suc many) itag = if list_any (has_itag itag) issued then free_itag issued many (suc itag) else Some itag
+
+-- a wait before which no ITag is busy is done
+abbrev pub settled_at : List Issued → Option ℕ → List Issued
+settled_at issued None = []
+settled_at issued (Some place) = drop place issued
+
+abbrev pub settled : List Issued → List Issued
+settled issued = settled_at issued (position is_sent issued)
+
+-- without the head of the queue
+abbrev pub shifted : Part → Part
+shifted part = record part { queue = remove part.queue 0 }
+
+-- an invalidation of the endpoint's translations is sent under the lowest free ITag
+abbrev pub issue : Part → Scope → Option ℕ → Option Part
+issue part scope None = None
+issue part scope (Some itag) =
+    Some (sent (record (shifted part) { issued = part.issued ++ Issue itag ∷ [] }) 0 part.time (message.Invalidate itag scope))
+
+-- May a wait leave the queue? A fence needs all ITags free, and with them all waits before it done; one that drains needs an empty
+-- page request queue, where the platform asks that (Intel VT-d, "Page Request Drain").
+abbrev pub may_pass : Settings → Part → (drain fence : Bool) → Bool
+may_pass settings part drain fence =
+    (not (settings.all_fence || fence) || (length part.issued == 0)) && (not (settings.drain_empties && drain) || (length part.arrived == 0))
+
+abbrev pub pass : Part → (name : ℕ) → Part
+pass part name = record (shifted part) { issued = settled (part.issued ++ Waiting name ∷ []) }
+
+-- without the entry that is kept of a PASID
+abbrev pub is_entry_of : (pasid : ℕ) → KeptEntry → Bool
+is_entry_of pasid kept = kept.pasid == pasid
+
+abbrev pub is_no_entry_of : (pasid : ℕ) → KeptEntry → Bool
+is_no_entry_of pasid kept = not (is_entry_of pasid kept)
+
+abbrev pub without_entry : (pasid : ℕ) → List KeptEntry → List KeptEntry
+without_entry pasid kept = filter (is_no_entry_of pasid) kept
+
+abbrev pub pump_head : Settings → Part → Option Descriptor → Option Part
+pump_head settings part None = None
+pump_head settings part (Some (descriptor.Device scope)) = issue part scope (free_itag part.issued Limits.itags 0)
+pump_head settings part (Some (descriptor.Translations scope)) = Some (record (shifted part) { kept = without_covered scope part.kept })
+pump_head settings part (Some (descriptor.Entry pasid)) = Some (record (shifted part) { kept_entries = without_entry pasid part.kept_entries })
+pump_head settings part (Some (descriptor.Wait name drain fence)) = if_so (may_pass settings part drain fence) (pass part name)
+
+-- a unit that is closed takes nothing
+abbrev pub pump : Settings → Part → Option Part
+pump settings part = if part.is_open then pump_head settings part (slice_get part.queue 0) else None
+
+-- ---- what it drops by itself
+
+abbrev pub forget_entry : Part → (place : ℕ) → Option KeptEntry → Option Part
+forget_entry part place None = None
+forget_entry part place (Some kept) = Some (record part { kept_entries = remove part.kept_entries place })
+
+abbrev pub forget : Part → (place : ℕ) → Option Translation → Option Part
+forget part place None = None
+forget part place (Some kept) = Some (record part { kept = remove part.kept place })
+
+-- ---- translation requests
+
+-- the entry that it goes by: the one that it keeps, or else the one in memory
+abbrev pub entry_kept : KeptEntry → Entry
+entry_kept kept = kept.entry
+
+abbrev pub entry_of : Option Row → Option Entry
+entry_of None = None
+entry_of (Some row) = row.entry
+
+abbrev pub entry_at : Part → (pasid : ℕ) → Option Entry
+entry_at part pasid = or_else (option_map entry_kept (find (is_entry_of pasid) part.kept_entries)) (entry_of (slice_get part.rows pasid))
+
+-- and so what the page leads to
+abbrev pub target_kept : Translation → Target
+target_kept translation = translation.target
+
+abbrev pub target_mapped : Mapping → Target
+target_mapped mapping = mapping.target
+
+abbrev pub target_at : List Mapping → Part → (pasid page : ℕ) → Option Entry → Option Target
+target_at mappings part pasid page None = None
+target_at mappings part pasid page (Some entry) =
+    or_else (option_map target_kept (find (is_of pasid page) part.kept)) (option_map target_mapped (find (is_page entry.space page) mappings))
+
+-- a unit with caches keeps the entry and the translation that it went by (Intel VT-d, "Caching Translation Information")
+abbrev pub kept_entry : Part → (pasid : ℕ) → Entry → Part
+kept_entry part pasid entry =
+    record part { kept_entries = without_entry pasid part.kept_entries ++ (record { pasid = pasid; entry = entry }) ∷ [] }
+
+abbrev pub kept_by : Part → (pasid page : ℕ) → Entry → Option Target → Part
+kept_by part pasid page entry None = kept_entry part pasid entry
+kept_by part pasid page entry (Some target) =
+    record (kept_entry part pasid entry) {
+      kept = with_translation part.kept (record { pasid = pasid; page = page; owner = entry.owner; target = target });
+    }
+
+abbrev pub keeps : (has_caches : Bool) → Part → (pasid page : ℕ) → Option Entry → Option Target → Part
+keeps false part pasid page entry target = part
+keeps true part pasid page None target = part
+keeps true part pasid page (Some entry) target = kept_by part pasid page entry target
+
+-- a request is answered by what the page leads to now, to the owner that asked
+abbrev pub answer_by : Settings → Part → Sent → (tag pasid page : ℕ) → Option Entry → Option Target → Part
+answer_by settings part one tag pasid page entry target =
+    sent (keeps settings.has_caches part pasid page entry target) one.owner one.time (message.Completion tag target)
+
+abbrev pub answer : Settings → List Mapping → Part → Sent → (tag pasid page : ℕ) → Part
+answer settings mappings part one tag pasid page =
+    answer_by settings part one tag pasid page (entry_at part pasid) (target_at mappings part pasid page (entry_at part pasid))
+
+-- ---- what else comes to it
+
+abbrev pub has_other_itag : (itag : ℕ) → Issued → Bool
+has_other_itag itag one = not (has_itag itag one)
+
+-- an Invalidate Completion frees its ITag
+abbrev pub complete_itag : Part → (itag : ℕ) → Part
+complete_itag part itag = record part { issued = settled (filter (has_other_itag itag) part.issued) }
+
+-- the answer to a stop, of the owner whose stop it answers
+abbrev pub answered_stop : Part → (pasid owner : ℕ) → Option Row → Part
+answered_stop part pasid owner None = part
+answered_stop part pasid owner (Some row) = record part { rows = slice_set part.rows pasid (record row { answer = Some owner }) }

@@ -1,0 +1,201 @@
+//! The acts: of the host, which are a driver's to choose, and of the others, which come as they like.
+
+use crate::descriptors::Descriptor;
+
+/// An act at one endpoint, its unit and its link.
+#[derive(Drop)]
+pub enum LocalAct {
+    /// The host: the entry of a PASID leads to a space. Where that isn't its owner's space, it has another owner now.
+    SetEntry {
+        /// The PASID.
+        pasid: usize,
+        /// The space.
+        space: u64,
+    },
+    /// The host: the entry of a PASID leads nowhere.
+    ClearEntry {
+        /// The PASID.
+        pasid: usize,
+    },
+    /// The host: sends a start.
+    Start {
+        /// The PASID.
+        pasid: usize,
+    },
+    /// The host: sends a stop.
+    Stop {
+        /// The PASID.
+        pasid: usize,
+    },
+    /// The host: sends a reset.
+    Reset,
+    /// The host: puts descriptors into the invalidation queue, all at once.
+    Submit {
+        /// The descriptors.
+        descriptors: Vec<Descriptor>,
+    },
+    /// The host: the unit takes nothing from the endpoint.
+    Close,
+    /// The host: the unit takes what comes again, with all ITags free and all waits done.
+    Reopen,
+    /// The host: no wait of a name stands at the unit. That one was submitted is for those to see to who await it.
+    AwaitWait {
+        /// The name.
+        name: usize,
+    },
+    /// The host: takes the answer to the last stop.
+    AwaitStopped {
+        /// The PASID.
+        pasid: usize,
+    },
+    /// The host: no page request of any PASID stands in the page request queue.
+    AwaitQueue,
+    /// The host: no page request of a PASID stands in the page request queue.
+    AwaitQueueOf {
+        /// The PASID.
+        pasid: usize,
+    },
+    /// The host: no group of a PASID is filed and not answered.
+    AwaitGroups {
+        /// The PASID.
+        pasid: usize,
+    },
+    /// The host: each reset is done.
+    AwaitResets,
+    /// The host: files the oldest page request.
+    Serve,
+    /// The host: answers a group.
+    Respond {
+        /// The PASID.
+        pasid: usize,
+        /// The Page Request Group Index.
+        index: usize,
+        /// Whether the code is Response Failure.
+        fails: bool,
+    },
+    /// The host: another owner has the PASID from now on.
+    FreePasid {
+        /// The PASID.
+        pasid: usize,
+    },
+    /// The endpoint: asks for a translation.
+    Ask {
+        /// The PASID.
+        pasid: usize,
+        /// The number of the page.
+        page: u64,
+    },
+    /// The endpoint: begins a use of a translation that it holds.
+    Use {
+        /// The PASID.
+        pasid: usize,
+        /// The number of the page.
+        page: u64,
+    },
+    /// The endpoint: ends a use.
+    End {
+        /// Its place among what the endpoint is at.
+        place: usize,
+    },
+    /// The endpoint: lets go of a translation that it holds.
+    Evict {
+        /// The PASID.
+        pasid: usize,
+        /// The number of the page.
+        page: u64,
+    },
+    /// The endpoint: begins a group of page requests.
+    Fault {
+        /// The PASID.
+        pasid: usize,
+        /// The number of the page.
+        page: u64,
+        /// Whether it is to be written.
+        write: bool,
+        /// Whether it is the last of the group.
+        last: bool,
+    },
+    /// The endpoint: goes on with a group of page requests.
+    More {
+        /// The Page Request Group Index.
+        index: usize,
+        /// The number of the page.
+        page: u64,
+        /// Whether it is to be written.
+        write: bool,
+        /// Whether it is the last of the group.
+        last: bool,
+    },
+    /// The endpoint: completes an invalidation.
+    Finish {
+        /// Its place among what the endpoint is at.
+        place: usize,
+    },
+    /// The endpoint: has stopped using a PASID, and says so.
+    Quit {
+        /// The PASID.
+        pasid: usize,
+    },
+    /// The unit: takes the head of the invalidation queue.
+    Pump,
+    /// The unit: drops an entry that it keeps.
+    ForgetEntry {
+        /// Its place.
+        place: usize,
+    },
+    /// The unit: drops a translation that it keeps.
+    Forget {
+        /// Its place.
+        place: usize,
+    },
+    /// The link: delivers a message.
+    Deliver {
+        /// Its place among those in flight, the oldest first.
+        place: usize,
+    },
+}
+
+/// An act.
+#[derive(Drop)]
+pub enum Act {
+    /// The host: a page of a space leads to a frame.
+    SetPage {
+        /// The space.
+        space: u64,
+        /// The number of the page.
+        page: u64,
+        /// The frame.
+        frame: usize,
+        /// Whether it may be written too.
+        write: bool,
+    },
+    /// The host: a page of a space leads nowhere.
+    ClearPage {
+        /// The space.
+        space: u64,
+        /// The number of the page.
+        page: u64,
+    },
+    /// The host: another owner has the frame from now on.
+    FreeFrame {
+        /// The frame.
+        frame: usize,
+    },
+    /// The host: from now on nobody may write the frame by what led to it before.
+    Freeze {
+        /// The frame.
+        frame: usize,
+    },
+    /// The host: another owner has the memory of a space's table from now on.
+    FreeSpace {
+        /// The space.
+        space: u64,
+    },
+    /// An act at an endpoint.
+    At {
+        /// The endpoint.
+        endpoint: usize,
+        /// The act.
+        act: LocalAct,
+    },
+}

@@ -1,0 +1,145 @@
+//! What a unit has in its queues.
+
+use crate::messages::PageRequest;
+use crate::scopes::Scope;
+
+/// What stands in an invalidation queue (Intel VT-d, "Queued Invalidation Interface").
+#[derive(Clone, Copy, PartialEq, Eq)]
+pub enum Descriptor {
+    /// An invalidation of the endpoint's translations.
+    Device {
+        /// What it covers.
+        scope: Scope,
+    },
+    /// An invalidation of the translations that the unit keeps.
+    Translations {
+        /// What it covers.
+        scope: Scope,
+    },
+    /// An invalidation of the PASID table entry that the unit keeps.
+    Entry {
+        /// The PASID.
+        pasid: usize,
+    },
+    /// A wait.
+    Wait {
+        /// By which whoever submits it knows it.
+        name: usize,
+        /// Whether it drains the page request queue.
+        drain: bool,
+        /// Whether it is a fence.
+        fence: bool,
+    },
+}
+
+impl Descriptor {
+    ghost use Rattle.std.specs.Prelude.{◌≡◌};
+    ghost use Rattle.sva_open.specs.Units.{is_wait};
+
+    /// Whether it is a wait of this name.
+    pub fn is_wait(&self, name: usize) -> bool
+        ensures { result ≡ is_wait name self.now }
+    {
+        match self {
+            Descriptor::Wait { name: own, .. } => *own == name,
+            _ => false,
+        }
+    }
+}
+
+/// What has left an invalidation queue and isn't done, in order.
+#[derive(Clone, Copy, PartialEq, Eq)]
+pub enum Issued {
+    /// An invalidation of the endpoint's translations.
+    Sent {
+        /// Its ITag, which is busy.
+        itag: usize,
+    },
+    /// A wait that is done once the ITags before it are free.
+    Waiting {
+        /// Its name.
+        name: usize,
+    },
+}
+
+impl Issued {
+    ghost use Rattle.std.specs.Prelude.{◌≡◌};
+    ghost use Rattle.sva_open.specs.Units.{has_itag, is_sent, is_waiting};
+
+    /// Whether it is an invalidation.
+    pub fn is_sent(&self) -> bool
+        ensures { result ≡ is_sent self.now }
+    {
+        matches!(self, Issued::Sent { .. })
+    }
+
+    /// Whether it is the invalidation that has this ITag.
+    pub fn has_itag(&self, itag: usize) -> bool
+        ensures { result ≡ has_itag itag self.now }
+    {
+        match self {
+            Issued::Sent { itag: own } => *own == itag,
+            Issued::Waiting { .. } => false,
+        }
+    }
+
+    /// Whether it is a wait of this name.
+    pub fn is_waiting(&self, name: usize) -> bool
+        ensures { result ≡ is_waiting name self.now }
+    {
+        match self {
+            Issued::Sent { .. } => false,
+            Issued::Waiting { name: own } => *own == name,
+        }
+    }
+}
+
+/// A page request in a unit's page request queue.
+#[derive(Clone, Copy, PartialEq, Eq)]
+pub struct Arrived {
+    /// The page request.
+    pub request: PageRequest,
+    /// The owner that its PASID had when its group began.
+    pub owner: u64,
+    /// How many resets had come to the endpoint when its group began.
+    pub time: u64,
+}
+
+/// A group of page requests that is filed and not answered.
+#[derive(Clone, Copy, PartialEq, Eq)]
+pub struct Filed {
+    /// The PASID.
+    pub pasid: usize,
+    /// The Page Request Group Index.
+    pub index: usize,
+    /// How many resets had come to the endpoint when it began.
+    pub time: u64,
+    /// Whether its last request is filed.
+    pub is_whole: bool,
+}
+
+impl Filed {
+    ghost use Rattle.std.specs.Prelude.{◌≡◌};
+    ghost use Rattle.sva_open.specs.Host.{is_group, is_joined, is_under};
+
+    /// Whether it is a group of this PASID.
+    pub fn is_under(&self, pasid: usize) -> bool
+        ensures { result ≡ is_under pasid self.now }
+    {
+        self.pasid == pasid
+    }
+
+    /// Whether it is a group of this PASID and index.
+    pub fn is_group(&self, pasid: usize, index: usize) -> bool
+        ensures { result ≡ is_group pasid index self.now }
+    {
+        self.pasid == pasid && self.index == index
+    }
+
+    /// Whether a page request joins it.
+    pub fn is_joined(&self, request: &PageRequest) -> bool
+        ensures { result ≡ is_joined request.now self.now }
+    {
+        !self.is_whole && self.is_group(request.pasid, request.index)
+    }
+}

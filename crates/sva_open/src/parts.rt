@@ -1,0 +1,87 @@
+//! An endpoint with its unit and its link.
+
+ghost use Rattle.std.specs.Prelude.{◌≡◌, IfOk, slice_get};
+ghost use Rattle.sva_open.specs.World.{sent, with_row};
+
+use crate::descriptors::{Arrived, Descriptor, Filed, Issued};
+use crate::frames::Translation;
+use crate::lists::set_at;
+use crate::messages::{Message, Sent};
+use crate::rows::{KeptEntry, Row};
+use crate::works::{Group, Request, Work};
+use std::alloc::AllocError;
+use std::marker::Model;
+
+/// An endpoint with its unit and its link.
+#[derive(Drop)]
+pub struct Part {
+    pub rows: Vec<Row>,
+    pub requests: Vec<Option<Request>>,
+    pub held: Vec<Translation>,
+    pub works: Vec<Work>,
+    pub groups: Vec<Option<Group>>,
+    pub is_enabled: bool,
+    pub lies: bool,
+    pub time: u64,
+    pub flight: Vec<Sent>,
+    pub is_open: bool,
+    pub queue: Vec<Descriptor>,
+    pub issued: Vec<Issued>,
+    pub kept_entries: Vec<KeptEntry>,
+    pub kept: Vec<Translation>,
+    pub arrived: Vec<Arrived>,
+    pub filed: Vec<Filed>,
+}
+
+impl Model for Part {
+    ghost use Rattle.sva_open.specs.World as world;
+
+    ghost Value = { world.Part };
+
+    ghost view = { λ part. record {
+      rows = part.rows.items;
+      requests = part.requests.items;
+      held = part.held.items;
+      works = part.works.items;
+      groups = part.groups.items;
+      is_enabled = part.is_enabled;
+      lies = part.lies;
+      time = part.time;
+      flight = part.flight.items;
+      is_open = part.is_open;
+      queue = part.queue.items;
+      issued = part.issued.items;
+      kept_entries = part.kept_entries.items;
+      kept = part.kept.items;
+      arrived = part.arrived.items;
+      filed = part.filed.items;
+    } };
+}
+
+impl Part {
+    /// What there is of a PASID.
+    pub fn row(&self, pasid: usize) -> Option<Row>
+        ensures { result ≡ slice_get self.now.rows pasid }
+    {
+        self.rows.get(pasid).copied()
+    }
+
+    /// Replaces what there is of a PASID.
+    pub fn set_row(&mut self, pasid: usize, row: Row)
+        ensures { self.new ≡ with_row self.old pasid row }
+    {
+        set_at(&mut self.rows, pasid, row);
+    }
+
+    /// Sends a message.
+    pub fn send(&mut self, owner: u64, time: u64, message: Message) -> Result<(), AllocError>
+        ensures { IfOk result (λ _. self.new ≡ sent self.old owner time message) }
+    {
+        self.flight.push(Sent {
+            message,
+            owner,
+            time,
+        })?;
+        Ok(())
+    }
+}

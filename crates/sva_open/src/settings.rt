@@ -1,0 +1,36 @@
+//! What a platform is like.
+
+/// The order of a link.
+#[derive(Clone, Copy, PartialEq, Eq)]
+pub enum Link {
+    /// By this project's own three rules alone.
+    Free,
+    /// Posted requests stay in order too (PCI Express Base 5.0, section 2.4.1).
+    Posted,
+}
+
+/// By what an endpoint says that it has stopped using a PASID.
+#[derive(Clone, Copy, PartialEq, Eq)]
+pub enum Stopped {
+    /// By a Stop Marker (PCI Express Base 5.0, section 10.4.1).
+    Marker,
+    /// By a posted write.
+    Status,
+    /// By nothing on the link: the host sees it at once.
+    Known,
+}
+
+/// What a platform is like.
+#[derive(Clone, Copy, PartialEq, Eq)]
+pub struct Settings {
+    /// The order of its links.
+    pub link: Link,
+    /// Whether each wait is a fence, also without its flag (Intel VT-d, "Invalidation Wait Descriptor").
+    pub all_fence: bool,
+    /// Whether a wait that drains needs an empty page request queue.
+    pub drain_empties: bool,
+    /// Whether units keep entries and translations.
+    pub has_caches: bool,
+    /// By what endpoints say that they have stopped.
+    pub stopped: Stopped,
+}

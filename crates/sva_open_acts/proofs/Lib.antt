@@ -1,0 +1,2 @@
+mod Itags
+mod Stepped

@@ -1,0 +1,199 @@
+//! What each act leaves of the world.
+
+ghost use Rattle.std.specs.Prelude.{◌≡◌, IfOk, slice_get};
+ghost use Rattle.sva_search.specs.Rules.{IsStep};
+ghost use Rattle.sva_open.specs.Acts as acts;
+ghost use Rattle.sva_open.specs.Acts.{next_open, next_part};
+
+use crate::asking::{ask, begin_use, end_use, evict, fault, more};
+use crate::deliveries::deliver;
+use crate::finishing::{finish, quit};
+use crate::hosting::{
+    await_groups, await_queue, await_queue_of, await_resets, await_stopped, await_wait,
+    clear_entry, close, free_pasid, reopen, reset, set_entry, start, stop, submit,
+};
+use crate::pumping::{forget, forget_entry, pump};
+use crate::serving::{respond, serve};
+use std::alloc::AllocError;
+use sva_open::{Act, LocalAct, Mapping, Open, Part, Settings, Target, Tenure, set_at};
+
+/// Does an act where it is permitted, and says whether it is. Else nothing changes.
+fn act_at_part(
+    part: &mut Part,
+    settings: &Settings,
+    mappings: &[Mapping],
+    act: &LocalAct,
+) -> Result<bool, AllocError>
+    ensures { IfOk result (λ done.
+        IsStep (next_part settings.now mappings.now part.old act.now) done part.old part.new) }
+{
+    match act {
+        LocalAct::SetEntry { pasid, space } => set_entry(part, *pasid, *space),
+        LocalAct::ClearEntry { pasid } => Ok(clear_entry(part, *pasid)),
+        LocalAct::Start { pasid } => start(part, *pasid),
+        LocalAct::Stop { pasid } => stop(part, *pasid),
+        LocalAct::Reset => reset(part),
+        LocalAct::Submit { descriptors } => submit(part, descriptors.as_slice()),
+        LocalAct::Close => Ok(close(part)),
+        LocalAct::Reopen => Ok(reopen(part)),
+        LocalAct::AwaitWait { name } => Ok(await_wait(part, *name)),
+        LocalAct::AwaitStopped { pasid } => Ok(await_stopped(part, *pasid)),
+        LocalAct::AwaitQueue => Ok(await_queue(part)),
+        LocalAct::AwaitQueueOf { pasid } => Ok(await_queue_of(part, *pasid)),
+        LocalAct::AwaitGroups { pasid } => Ok(await_groups(part, *pasid)),
+        LocalAct::AwaitResets => Ok(await_resets(part)),
+        LocalAct::Serve => serve(part),
+        LocalAct::Respond {
+            pasid,
+            index,
+            fails,
+        } => {
+            respond(part, *pasid, *index, *fails)?;
+            Ok(true)
+        }
+        LocalAct::FreePasid { pasid } => free_pasid(part, *pasid),
+        LocalAct::Ask { pasid, page } => ask(part, *pasid, *page),
+        LocalAct::Use { pasid, page } => begin_use(part, *pasid, *page),
+        LocalAct::End { place } => Ok(end_use(part, *place)),
+        LocalAct::Evict { pasid, page } => Ok(evict(part, *pasid, *page)),
+        LocalAct::Fault {
+            pasid,
+            page,
+            write,
+            last,
+        } => fault(part, *pasid, *page, *write, *last),
+        LocalAct::More {
+            index,
+            page,
+            write,
+            last,
+        } => more(part, *index, *page, *write, *last),
+        LocalAct::Finish { place } => finish(part, *place),
+        LocalAct::Quit { pasid } => quit(part, settings.stopped, *pasid),
+        LocalAct::Pump => pump(part, settings),
+        LocalAct::ForgetEntry { place } => Ok(forget_entry(part, *place)),
+        LocalAct::Forget { place } => Ok(forget(part, *place)),
+        LocalAct::Deliver { place } => deliver(part, settings, mappings, *place),
+    }
+}
+
+/// Does an act where it is permitted, and says whether it is. Else nothing changes. After an error, of memory or of
+/// numbers that have come to their end, nothing is said of the world.
+pub fn act(now: &mut Open, act: &Act) -> Result<bool, AllocError>
+    ensures { IfOk result (λ done. IsStep (next_open now.old act.now) done now.old now.new) }
+{
+    match act {
+        Act::SetPage {
+            space,
+            page,
+            frame,
+            write,
+        } => set_page(now, *space, *page, *frame, *write),
+        Act::ClearPage { space, page } => {
+            drop_page(&mut now.mappings, *space, *page);
+            Ok(true)
+        }
+        Act::FreeFrame { frame } => free_frame(now, *frame),
+        Act::Freeze { frame } => freeze(now, *frame),
+        Act::FreeSpace { space } => {
+            now.freed.push(*space)?;
+            Ok(true)
+        }
+        Act::At { endpoint, act } => act_at(now, *endpoint, act),
+    }
+}
+
+fn act_at(now: &mut Open, endpoint: usize, act: &LocalAct) -> Result<bool, AllocError>
+    ensures { IfOk result (λ done. IsStep (acts.at_endpoint now.old endpoint act.now) done now.old now.new) }
+{
+    let Open {
+        settings,
+        mappings,
+        frames: _,
+        freed: _,
+        parts,
+    } = now;
+    let done = act_in(parts, settings, mappings.as_slice(), endpoint, act)?;
+    Ok(done)
+}
+
+#[tactic(auto, using(crate::proofs::Stepped::acted, crate::proofs::Stepped::past))]
+fn act_in(
+    parts: &mut Vec<Part>,
+    settings: &Settings,
+    mappings: &[Mapping],
+    endpoint: usize,
+    act: &LocalAct,
+) -> Result<bool, AllocError>
+    ensures { IfOk result (λ done.
+        IsStep (acts.parts_after settings.now mappings.now parts.old.items endpoint act.now
+        (slice_get parts.old.items endpoint)) done parts.old.items parts.new.items) }
+{
+    if endpoint >= parts.len() {
+        return Ok(false);
+    }
+    let done = act_at_part(&mut parts[endpoint], settings, mappings, act)?;
+    Ok(done)
+}
+
+fn set_page(
+    now: &mut Open,
+    space: u64,
+    page: u64,
+    frame: usize,
+    write: bool,
+) -> Result<bool, AllocError>
+    ensures { IfOk result (λ done.
+        IsStep (acts.set_page now.old space page frame write (slice_get now.old.frames frame))
+        done now.old now.new) }
+{
+    let Some(tenure) = now.frames.get(frame).copied() else {
+        return Ok(false);
+    };
+    drop_page(&mut now.mappings, space, page);
+    now.mappings.push(Mapping {
+        space,
+        page,
+        target: Target {
+            frame,
+            tenure,
+            write,
+        },
+    })?;
+    Ok(true)
+}
+
+fn free_frame(now: &mut Open, frame: usize) -> Result<bool, AllocError>
+    ensures { IfOk result (λ done.
+        IsStep (acts.free_frame now.old frame (slice_get now.old.frames frame)) done now.old now.new) }
+{
+    let Some(tenure) = now.frames.get(frame).copied() else {
+        return Ok(false);
+    };
+    let Some(given) = tenure.given.checked_add(1) else {
+        return Err(AllocError);
+    };
+    set_at(&mut now.frames, frame, Tenure { given, ..tenure });
+    Ok(true)
+}
+
+fn freeze(now: &mut Open, frame: usize) -> Result<bool, AllocError>
+    ensures { IfOk result (λ done.
+        IsStep (acts.freeze now.old frame (slice_get now.old.frames frame)) done now.old now.new) }
+{
+    let Some(tenure) = now.frames.get(frame).copied() else {
+        return Ok(false);
+    };
+    let Some(frozen) = tenure.frozen.checked_add(1) else {
+        return Err(AllocError);
+    };
+    set_at(&mut now.frames, frame, Tenure { frozen, ..tenure });
+    Ok(true)
+}
+
+/// Takes out a page.
+fn drop_page(mappings: &mut Vec<Mapping>, space: u64, page: u64)
+    ensures { mappings.new.items ≡ acts.without_page space page mappings.old.items }
+{
+    mappings.retain(|one| !one.is_page(space, page));
+}

@@ -1,0 +1,211 @@
+//! What the host does with entries, messages and its unit.
+
+ghost use Rattle.std.specs.Prelude.{◌≡◌, IfOk, Some, slice_get};
+ghost use Rattle.std.specs.List.{list_any};
+ghost use Rattle.sva_search.specs.Rules.{IsStep};
+ghost use Rattle.sva_open.specs.Host as host;
+ghost use Rattle.sva_open.specs.Units.{is_wait, is_waiting};
+
+use std::alloc::AllocError;
+use sva_open::{Arrived, Descriptor, Filed, Issued, Message, Part, Row, Sent};
+use sva_step::QUEUE_PLACES;
+
+pub(crate) fn set_entry(part: &mut Part, pasid: usize, space: u64) -> Result<bool, AllocError>
+    ensures { IfOk result (λ done.
+        IsStep (host.set_entry part.old pasid space (slice_get part.old.rows pasid)) done part.old part.new) }
+{
+    let Some(row) = part.row(pasid) else {
+        return Ok(false);
+    };
+    let row = row.entered(space)?;
+    part.set_row(pasid, row);
+    Ok(true)
+}
+
+pub(crate) fn clear_entry(part: &mut Part, pasid: usize) -> bool
+    ensures { IsStep (host.clear_entry part.old pasid (slice_get part.old.rows pasid)) result part.old part.new }
+{
+    let Some(row) = part.row(pasid) else {
+        return false;
+    };
+    part.set_row(pasid, Row { entry: None, ..row });
+    true
+}
+
+pub(crate) fn free_pasid(part: &mut Part, pasid: usize) -> Result<bool, AllocError>
+    ensures { IfOk result (λ done.
+        IsStep (host.free_pasid part.old pasid (slice_get part.old.rows pasid)) done part.old part.new) }
+{
+    let Some(row) = part.row(pasid) else {
+        return Ok(false);
+    };
+    let row = row.with_next_owner()?;
+    part.set_row(pasid, row);
+    Ok(true)
+}
+
+pub(crate) fn start(part: &mut Part, pasid: usize) -> Result<bool, AllocError>
+    ensures { IfOk result (λ done.
+        IsStep (host.start part.old pasid (slice_get part.old.rows pasid)) done part.old part.new) }
+{
+    let Some(row) = part.row(pasid) else {
+        return Ok(false);
+    };
+    let time = part.time;
+    part.send(row.owner, time, Message::Start { pasid })?;
+    Ok(true)
+}
+
+pub(crate) fn stop(part: &mut Part, pasid: usize) -> Result<bool, AllocError>
+    ensures { IfOk result (λ done.
+        IsStep (host.stop part.old pasid (slice_get part.old.rows pasid)) done part.old part.new) }
+{
+    let Some(row) = part.row(pasid) else {
+        return Ok(false);
+    };
+    let time = part.time;
+    part.set_row(
+        pasid,
+        Row {
+            answer: None,
+            ..row
+        },
+    );
+    part.send(row.owner, time, Message::Stop { pasid })?;
+    Ok(true)
+}
+
+pub(crate) fn reset(part: &mut Part) -> Result<bool, AllocError>
+    ensures { IfOk result (λ done. IsStep (Some (host.reset part.old)) done part.old part.new) }
+{
+    let time = part.time;
+    part.send(0, time, Message::Reset)?;
+    Ok(true)
+}
+
+pub(crate) fn submit(part: &mut Part, descriptors: &[Descriptor]) -> Result<bool, AllocError>
+    ensures { IfOk result (λ done. IsStep (host.submit part.old descriptors.now) done part.old part.new) }
+{
+    if !may_submit(part, descriptors) {
+        return Ok(false);
+    }
+    part.queue.extend_from_slice(descriptors)?;
+    Ok(true)
+}
+
+fn may_submit(part: &Part, descriptors: &[Descriptor]) -> bool
+    ensures { result ≡ host.may_submit part.now descriptors.now }
+{
+    part.is_open
+        && part.queue.len() <= QUEUE_PLACES
+        && descriptors.len() <= QUEUE_PLACES - part.queue.len()
+}
+
+pub(crate) fn close(part: &mut Part) -> bool
+    ensures { IsStep (host.close part.old) result part.old part.new }
+{
+    if !part.is_open {
+        return false;
+    }
+    part.is_open = false;
+    part.arrived.clear();
+    part.filed.clear();
+    true
+}
+
+pub(crate) fn reopen(part: &mut Part) -> bool
+    ensures { IsStep (host.reopen part.old) result part.old part.new }
+{
+    if part.is_open {
+        return false;
+    }
+    part.is_open = true;
+    part.queue.clear();
+    part.issued.clear();
+    true
+}
+
+pub(crate) fn await_wait(part: &Part, name: usize) -> bool
+    ensures { IsStep (host.await_wait part.now name) result part.now part.now }
+{
+    !(is_queued(part.queue.as_slice(), name) || is_issued(part.issued.as_slice(), name))
+}
+
+pub(crate) fn await_stopped(part: &mut Part, pasid: usize) -> bool
+    ensures { IsStep (host.await_stopped part.old pasid (slice_get part.old.rows pasid)) result part.old part.new }
+{
+    let Some(row) = part.row(pasid) else {
+        return false;
+    };
+    if row.answer.is_none() {
+        return false;
+    }
+    part.set_row(
+        pasid,
+        Row {
+            answer: None,
+            ..row
+        },
+    );
+    true
+}
+
+pub(crate) fn await_queue(part: &Part) -> bool
+    ensures { IsStep (host.await_queue part.now) result part.now part.now }
+{
+    part.arrived.len() == 0
+}
+
+pub(crate) fn await_queue_of(part: &Part, pasid: usize) -> bool
+    ensures { IsStep (host.await_queue_of part.now pasid) result part.now part.now }
+{
+    !has_arrived(part.arrived.as_slice(), pasid)
+}
+
+pub(crate) fn await_groups(part: &Part, pasid: usize) -> bool
+    ensures { IsStep (host.await_groups part.now pasid) result part.now part.now }
+{
+    !is_filed(part.filed.as_slice(), pasid)
+}
+
+pub(crate) fn await_resets(part: &Part) -> bool
+    ensures { IsStep (host.await_resets part.now) result part.now part.now }
+{
+    !is_resetting(part.flight.as_slice())
+}
+
+fn is_queued(queue: &[Descriptor], name: usize) -> bool
+    ensures { result ≡ list_any (is_wait name) queue.now }
+{
+    queue.iter().any(|one| one.is_wait(name))
+}
+
+fn is_issued(issued: &[Issued], name: usize) -> bool
+    ensures { result ≡ list_any (is_waiting name) issued.now }
+{
+    issued.iter().any(|one| one.is_waiting(name))
+}
+
+fn has_arrived(arrived: &[Arrived], pasid: usize) -> bool
+    ensures { result ≡ list_any (host.has_arrived pasid) arrived.now }
+{
+    arrived.iter().any(|one| one.request.pasid == pasid)
+}
+
+fn is_filed(filed: &[Filed], pasid: usize) -> bool
+    ensures { result ≡ list_any (host.is_under pasid) filed.now }
+{
+    filed.iter().any(|one| one.is_under(pasid))
+}
+
+fn is_of_reset(one: &Sent) -> bool
+    ensures { result ≡ host.is_of_reset one.now }
+{
+    matches!(one.message, Message::Reset | Message::ResetDone)
+}
+
+fn is_resetting(flight: &[Sent]) -> bool
+    ensures { result ≡ list_any host.is_of_reset flight.now }
+{
+    flight.iter().any(|one| is_of_reset(one))
+}

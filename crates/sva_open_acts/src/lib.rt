@@ -1,0 +1,14 @@
+//! What each act leaves of the open world: exactly what its definition says.
+#![tactic(auto)]
+
+mod acting;
+mod answering;
+mod asking;
+mod deliveries;
+mod finishing;
+mod hosting;
+mod order;
+mod pumping;
+mod serving;
+
+pub use acting::act;

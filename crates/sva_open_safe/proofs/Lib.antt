@@ -1,0 +1,3 @@
+mod Kept
+mod Sound
+pub mod Tested

@@ -163,9 +163,12 @@ returns-in-Chart-clause-report g c =
     let input = g.R.Read.remaining c.args.reader.now.inner in
     let old = g.W.Write.contents c.args.writer.now.inner in
     let new = g.W.Write.contents found.new.writer.inner in
-    subst (λ a. Reports a input old new c.ran-in-Chart.result) (sym c.in-Chart.is)
-    (found.result, c.ran-in-Chart.ensures, (reported (λ text. Charts text old new found.result) input old new found.result found.ensures.charted
-    (λ read. ap (λ told. g.W.Write.contents told.inner) (found.ensures.read read).0)))
+    subst (λ a. Reports a input old new c.ran-in-Chart.result) (sym c.in-Chart.is) (
+      found.result,
+      c.ran-in-Chart.ensures,
+      (reported (λ text. Charts text old new found.result) input old new found.result found.ensures.charted
+          (λ read. ap (λ told. g.W.Write.contents told.inner) (found.ensures.read read).0)),
+    )
 
 pub returns-in-Chart-clause-cause : goal.returns-in-Chart-clause-cause
 returns-in-Chart-clause-cause g c =

@@ -13,7 +13,7 @@ fn said(alloc: Global, most: u64, text: &str) -> Result<(Option<Judged>, Vec<u8>
 
 /// Races of which is known what every order comes to: how many moments may be looked at, the text, what is said of all
 /// claims together, and the report.
-const REPORTS: [(u64, &str, Option<Judged>, &str); 6] = [
+static REPORTS: [(u64, &str, Option<Judged>, &str); 6] = [
     (
         9,
         "config 1 4 1\nrace\n",

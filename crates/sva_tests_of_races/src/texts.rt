@@ -32,6 +32,15 @@ fn read<'a>(alloc: Global, text: &'a str) -> Result<(Option<Text>, Vec<u8>), All
     Ok((found, said))
 }
 
+/// The race of a text.
+fn race(alloc: Global, text: &str) -> Option<Text> {
+    let mut said = Vec::new(alloc);
+    match read_race(alloc, text.as_bytes(), &mut said) {
+        Ok(found) => found,
+        Err(_) => None,
+    }
+}
+
 /// Of each line, what stands before it in its thread.
 fn after(text: &Text, place: usize) -> Option<usize> {
     match text.race.lines.get(place) {
@@ -59,7 +68,7 @@ fn step(text: &Text, place: usize) -> &[u8] {
 /// Lines are those of threads by their roles, or under a heading.
 #[test]
 fn lines_are_in_threads(rt: HostRuntime) {
-    let Ok((Some(text), _)) = read(rt.alloc(), LATE_USE) else {
+    let Some(text) = race(rt.alloc(), LATE_USE) else {
         panic!(&rt; "a race")
     };
     holds(&rt, text.race.before == 4, "before", text.race.before);
@@ -97,7 +106,7 @@ fn lines_are_in_threads(rt: HostRuntime) {
 /// What is said of workers and devices is kept.
 #[test]
 fn workers_and_devices(rt: HostRuntime) {
-    let Ok((Some(text), _)) = read(rt.alloc(), LATE_USE) else {
+    let Some(text) = race(rt.alloc(), LATE_USE) else {
         panic!(&rt; "a race")
     };
     let verdicts = text.race.verdicts;
@@ -110,7 +119,7 @@ fn workers_and_devices(rt: HostRuntime) {
 /// Claims are read, and their words kept.
 #[test]
 fn claims_are_read(rt: HostRuntime) {
-    let Ok((Some(text), _)) = read(rt.alloc(), LATE_USE) else {
+    let Some(text) = race(rt.alloc(), LATE_USE) else {
         panic!(&rt; "a race")
     };
     holds(&rt, text.race.claims.len() == 2, "claims", 2);

@@ -118,7 +118,8 @@ steps_status Test input old new ended other h = run_status h.0 ended h.1
 steps_status Show input old new ended other h = run_status h.0 ended h.1
 steps_status Why input old new ended other h = run_status h.0 ended h.1
 steps_status (Explore most) input old new ended other h = absurd (other most refl)
-steps_status (Trace live) input old new ended other h = run_status h.0 ended h.1
+steps_status (Chart svg) input old new ended other h = run_status h.0 ended h.1
+steps_status (Trace live whys) input old new ended other h = run_status h.0 ended h.1
 
 -- one of the statuses of exploring
 abbrev IsOfExploring : ℕ → Type 0

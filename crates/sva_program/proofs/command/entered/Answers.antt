@@ -17,8 +17,9 @@ returns-in-Some-explore-default c readable =
 pub returns-in-Some-trace-default : goal.returns-in-Some-trace-default
 returns-in-Some-trace-default c readable =
     let stage = c.in-Some-trace-default in
-    entered_trace c.args.matches.now stage.field-0-0.now (rows_of (found_of stage.below.now)) c.is_given.result c.is_given-in-Some-trace-default.result stage.is-trace
-    stage.ensures.name stage.ensures.rows c.is_given.ensures c.is_given-in-Some-trace-default.ensures
+    entered_trace c.args.matches.now stage.field-0-0.now (rows_of (found_of stage.below.now)) c.is_given-in-Some-trace-default.result
+    c.is_given-in-Some-trace-default-2.result stage.is-trace stage.ensures.name stage.ensures.rows c.is_given-in-Some-trace-default.ensures
+    c.is_given-in-Some-trace-default-2.ensures
 
 pub returns-in-Some-chart-default : goal.returns-in-Some-chart-default
 returns-in-Some-chart-default c readable =

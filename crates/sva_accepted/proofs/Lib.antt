@@ -1,3 +1,4 @@
 pub mod AcceptedSteps
+pub mod NoneBelow
 pub mod Places
 pub mod VectorBits

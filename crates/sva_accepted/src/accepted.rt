@@ -1,9 +1,9 @@
 //! Steps that would be accepted now. Each answer is that of the definitions: no cause refuses the step.
 
-ghost use Rattle.std.specs.Prelude.{◌≡◌, ◌<◌, None, Some, false, is_some, map, nat_le, slice_index_or, true};
+ghost use Rattle.std.specs.Prelude.{◌≡◌, ◌<◌, None, Some, false, is_none, is_some, map, nat_le, slice_index_or, true};
 ghost use Rattle.std.specs.List.{list_any};
 ghost use Rattle.sva_labels.specs.Causes.{is_busy_pasid, sends_invalidate};
-ghost use Rattle.sva_labels.specs.Finding.{has_unfinished_group, is_request_of, is_use_of};
+ghost use Rattle.sva_labels.specs.Finding.{has_unfinished_group, is_request_of, is_use_of, lowest_label};
 ghost use Rattle.sva_labels.specs.Finding.{outstanding, pasid_state, requests_in};
 ghost use Rattle.sva_labels.specs.Replying.{responds};
 ghost use Rattle.sva_model.specs.State.PasidState.{Off};
@@ -14,15 +14,15 @@ ghost use Rattle.sva_step.specs.declared.steps.Verdict.TheVariants as verdict;
 ghost use Rattle.sva_accepted.specs.Accepted.{is_accepted};
 
 use crate::lookups::{
-    binding_of, flight_of, has_open_group_at, has_room_at, held_by, is_done_at, is_full, is_open,
-    lacks_one, part_at,
+    binding_of, flight_of, has_open_group_at, has_room_at, held_by, is_bound, is_done_at, is_full,
+    is_open, is_space, lacks_one, part_at,
 };
 use sva_listing::held_back_by;
 use sva_snapshot::{
     Binding, Descriptor, Device, Endpoint, GroupPlace, Job, Kind, PasidState, RequestTag, Snapshot,
     Stage, Unit, UseSlot,
 };
-use sva_step::PAGE_REQUESTS;
+use sva_step::{PAGE_REQUESTS, PAGES};
 
 /// Would a delivery be accepted?
 pub fn can_deliver(snapshot: &Snapshot, number: u64) -> bool
@@ -235,6 +235,40 @@ fn is_busy_pasid(device: &Device, pasid: u64) -> bool
     has_group(device.groups.as_slice(), pasid)
         || has_request(device.tags.as_slice(), pasid)
         || has_use(device.slots.as_slice(), pasid)
+}
+
+/// Is each tag taken, of these?
+fn are_all_out(tags: &[RequestTag]) -> bool
+    ensures { result ≡ is_none (lowest_label (map tag_seen tags.now)) }
+{
+    for place in tags {
+        if matches!(place, RequestTag::Free) {
+            return false;
+        }
+    }
+    true
+}
+
+/// Would a translation request be accepted?
+pub fn can_ask(snapshot: &Snapshot, endpoint: u64, pasid: u64, page: u64) -> bool
+    ensures { result ≡ is_accepted snapshot.now (step.Ask endpoint pasid page) }
+{
+    match part_at(snapshot, endpoint) {
+        None => false,
+        Some(part) => {
+            page < PAGES
+                && matches!(pasid_state(&part.device, pasid), PasidState::On)
+                && !are_all_out(part.device.tags.as_slice())
+                && !lacks_one(snapshot.next_message)
+        }
+    }
+}
+
+/// Would it be accepted that a space goes?
+pub fn can_drop(snapshot: &Snapshot, space: u64) -> bool
+    ensures { result ≡ is_accepted snapshot.now (step.DropSpace space) }
+{
+    is_space(snapshot, space) && !is_bound(snapshot, space)
 }
 
 /// Would a quit be accepted?

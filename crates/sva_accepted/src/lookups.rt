@@ -1,12 +1,12 @@
 //! What numbers and labels find in a snapshot.
 
-ghost use Rattle.std.specs.Prelude.{◌≡◌, ◌==◌, ◌&&◌, None, is_none, map, option_copied, option_map, slice_get};
+ghost use Rattle.std.specs.Prelude.{◌≡◌, ◌==◌, ◌&&◌, None, is_none, is_some, map, option_copied, option_map, slice_get};
 ghost use Rattle.std.specs.Prelude.{slice_index_or, unwrap_or};
-ghost use Rattle.std.specs.List.{find};
+ghost use Rattle.std.specs.List.{find, list_any};
 ghost use Rattle.sva_address_spaces.specs.Seen.{pages_seen};
 ghost use Rattle.sva_labels.specs.Causes.{lacks};
 ghost use Rattle.sva_labels.specs.Finding.{binding_of, bound_at, flight_of, has_open_group, has_room, held_by};
-ghost use Rattle.sva_labels.specs.Finding.{is_mapped};
+ghost use Rattle.sva_labels.specs.Finding.{is_bound, is_mapped, is_space};
 ghost use Rattle.sva_labels.specs.Finding.{idle, or_no_pages, pages_of};
 ghost use Rattle.sva_labels.specs.Finding.{is_some_busy, is_wait_done, lowest_label, page_at, pages_in, part_of};
 ghost use Rattle.sva_labels.specs.Finding.{submits, unit_of};
@@ -175,7 +175,7 @@ fn bound_among(bindings: &[Binding], endpoint: u64, space: u64) -> Option<Bindin
 }
 
 /// The binding of a space at an endpoint, if there is one.
-fn bound_at(snapshot: &Snapshot, endpoint: u64, space: u64) -> Option<Binding>
+pub fn bound_at(snapshot: &Snapshot, endpoint: u64, space: u64) -> Option<Binding>
     ensures { option_map binding_shown result ≡ bound_at snapshot.now endpoint space }
 {
     bound_among(snapshot.bindings.as_slice(), endpoint, space)
@@ -212,6 +212,44 @@ pub fn pages_in(snapshot: &Snapshot, number: u64) -> &[Mapping]
     ensures { pages_seen result.now ≡ pages_in snapshot.now number }
 {
     pages_among(snapshot.spaces.as_slice(), number)
+}
+
+/// Is there a space of a number among these?
+fn is_space_among(spaces: &[Space], number: u64) -> bool
+    ensures { result ≡ is_some (pages_of (map space_shown spaces.now) number) }
+{
+    for space in spaces {
+        if space.number == number {
+            return true;
+        }
+    }
+    false
+}
+
+/// Is it the number of a live space?
+pub(crate) fn is_space(snapshot: &Snapshot, number: u64) -> bool
+    ensures { result ≡ is_space snapshot.now number }
+{
+    is_space_among(snapshot.spaces.as_slice(), number)
+}
+
+/// Is a binding of a space among these?
+fn is_bound_among(bindings: &[Binding], space: u64) -> bool
+    ensures { result ≡ list_any (λ binding. binding.space == space) (map binding_shown bindings.now) }
+{
+    for binding in bindings {
+        if binding.space == space {
+            return true;
+        }
+    }
+    false
+}
+
+/// Is a space bound, at any endpoint?
+pub(crate) fn is_bound(snapshot: &Snapshot, space: u64) -> bool
+    ensures { result ≡ is_bound snapshot.now space }
+{
+    is_bound_among(snapshot.bindings.as_slice(), space)
 }
 
 /// The mapped pages of the space for which a job asks.

@@ -1,6 +1,7 @@
 //! ITag Vectors: 32 bits, bit T for ITag T (PCI Express Base 5.0, section 10.3.2).
 
 ghost use Rattle.std.specs.Prelude.{◌≡◌};
+ghost use Rattle.sva_accepted.specs.Accepted.{vector_of};
 ghost use Rattle.sva_model.specs.Labels.{is_set, names_none};
 
 /// Does the vector name the ITag?
@@ -15,4 +16,14 @@ pub fn names_none(vector: u32) -> bool
     ensures { result ≡ names_none vector }
 {
     vector == 0
+}
+
+/// The vector that names an ITag, and no other; one of 32 or above none.
+pub fn vector_of(itag: u64) -> u32
+    ensures { result ≡ vector_of itag }
+{
+    if itag > 31 {
+        return 0;
+    }
+    1 << itag as u32
 }

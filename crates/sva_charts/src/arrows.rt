@@ -66,12 +66,11 @@ fn direction(flight: &Flight) -> &'static str {
     if flight.message.is_up() { "up" } else { "down" }
 }
 
-/// Appends the arrow of a message. One that isn't delivered ends half the way, in the row of the end.
+/// Appends the arrow of a message. One that isn't delivered ends half the way, in the next row.
 pub(crate) fn put_arrow(
     out: &mut Vec<u8>,
     plan: &Plan,
     flight: &Option<Flight>,
-    end: usize,
 ) -> Result<(), AllocError> {
     let Some(flight) = flight else {
         return Ok(());
@@ -91,7 +90,12 @@ pub(crate) fn put_arrow(
             out,
             b"  <path class=\"$ lost\" d=\"M_ _ _ _\"/>\n",
             direction(flight),
-            &[from, sent, from / 2 + to / 2, row_at(end)],
+            &[
+                from,
+                sent,
+                from / 2 + to / 2,
+                row_at(flight.sent.saturating_add(1)),
+            ],
         ),
     }
 }

@@ -25,7 +25,7 @@ pub(crate) fn put_picture(
     fill(out, whole_front().as_bytes(), "", &numbers)?;
     put_ground(out, &plan, rows.len())?;
     for flight in places.flights() {
-        put_arrow(out, &plan, flight, rows.len())?;
+        put_arrow(out, &plan, flight)?;
     }
     for (at, row) in rows.iter().enumerate() {
         put_mark(out, &plan, places, at, row)?;

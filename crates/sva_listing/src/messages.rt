@@ -32,7 +32,7 @@ fn digit(number: u32) -> u8
 }
 
 /// Appends a vector: eight hexadecimal digits.
-fn put_vector(out: &mut Vec<u8>, vector: u32) -> Result<(), AllocError>
+pub fn put_vector(out: &mut Vec<u8>, vector: u32) -> Result<(), AllocError>
     ensures { OnOk result (out.new.items ≡ out.old.items ++ hex_text 8 vector) }
 {
     let digits = [

@@ -12,12 +12,13 @@ use Rattle.sva_frames.specs.declared.reading.Held.{Held}
 use Rattle.sva_frames.specs.Reading.{holding_of}
 use Rattle.sva_address_spaces.specs.Seen.{place_seen}
 use Rattle.sva_listing.specs.Devices.{translation_text}
+use Rattle.sva_listing.specs.Messages.{hex_text}
 use Rattle.sva_listing.specs.Pieces.{extent_text, field, line_end, rows}
 use Rattle.sva_listing.specs.Units.{busy_text}
 use Rattle.sva_standing.specs.declared.levels.Level.{Level}
 use Rattle.sva_standing.specs.declared.levels.Level.TheVariants.{First}
 use Rattle.sva_standing.specs.declared.link.Topic.TheVariants.{Itag, Reset}
-use Rattle.sva_accepted.specs.Accepted.{is_accepted}
+use Rattle.sva_accepted.specs.Accepted.{is_accepted, vector_of}
 use Rattle.sva_standing.specs.Lines.{below, bracket, bracket_of_two, indent, start}
 use Rattle.sva_standing.specs.Link.{about_lines}
 
@@ -55,12 +56,27 @@ waits_if level wire endpoint part itag slot noted = if noted then waits_line lev
 abbrev pub waits_for_lines : Level → Wire → (endpoint : ℕ) → EndpointWire → (itag : ℕ) → TakenWire → List ℕ
 waits_for_lines level wire endpoint part itag taken = rows (waits_if level wire endpoint part itag) 0 taken.slots
 
+-- ` [finish 0 00000001 1]`: by one completion
+abbrev pub finish_text : Wire → (endpoint itag : ℕ) → List ℕ
+finish_text wire endpoint itag =
+    if is_accepted wire (step.Finish endpoint (vector_of itag) 1)
+    then field (codes " [finish ") endpoint ++ codes " " ++ hex_text 8 (vector_of itag) ++ codes " 1]"
+    else []
+
+-- `endpoint 0 has taken it: pasid 1 page 16`
+abbrev pub taken_text : Level → (endpoint : ℕ) → TakenWire → List ℕ
+taken_text level endpoint taken =
+    indent level ++ field (codes "endpoint ") endpoint ++ field (codes " has taken it: pasid ") taken.pasid ++ extent_text taken.extent
+
+-- `endpoint 0 has taken it: pasid 1 page 16 [finish 0 00000001 1]`
+abbrev pub taken_line : Level → Wire → (endpoint itag : ℕ) → TakenWire → List ℕ
+taken_line level wire endpoint itag taken = taken_text level endpoint taken ++ finish_text wire endpoint itag ++ line_end
+
 -- the endpoint has taken the invalidation, and the uses for which it waits
 abbrev pub taken_lines : Level → Wire → (endpoint : ℕ) → EndpointWire → (itag : ℕ) → Option TakenWire → List ℕ
 taken_lines level wire endpoint part itag None = []
 taken_lines level wire endpoint part itag (Some taken) =
-    indent level ++ field (codes "endpoint ") endpoint ++ field (codes " has taken it: pasid ") taken.pasid ++ extent_text taken.extent ++ line_end
-    ++ waits_for_lines (below level) wire endpoint part itag taken
+    taken_line level wire endpoint itag taken ++ waits_for_lines (below level) wire endpoint part itag taken
 
 -- an ITag that is busy: where its Invalidate is, or its completions
 abbrev pub busy_if : Level → Wire → (unit : ℕ) → EndpointWire → (itag : ℕ) → Option BusyWire → List ℕ

@@ -1,23 +1,25 @@
 //! ITags that are busy: the uses for which an invalidation waits.
 
-ghost use Rattle.std.specs.Prelude.{◌≡◌, ◌++◌, None, OnOk, map, option_copied, option_map, slice_index_or};
+ghost use Rattle.std.specs.Prelude.{◌≡◌, ◌++◌, None, OnOk, map, option_map, slice_index_or};
 ghost use Rattle.sva_iommu.specs.Seen.{busy_seen};
 ghost use Rattle.sva_labels.specs.Finding.{taken_at, use_at};
 ghost use Rattle.sva_listing.specs.Pieces.{rows};
 ghost use Rattle.sva_parts_by_labels.specs.Device.{slot_seen, taken_seen};
 ghost use Rattle.sva_snapshot.specs.Shown.{endpoint_shown};
-ghost use Rattle.sva_standing.specs.Units.{busy_if, busy_lines, taken_lines, use_text, end_text, waits_for_lines};
-ghost use Rattle.sva_standing.specs.Units.{waits_if, waits_line};
+ghost use Rattle.sva_standing.specs.Units.{busy_if, busy_lines, end_text, finish_text, taken_line, taken_lines};
+ghost use Rattle.sva_standing.specs.Units.{taken_text, use_text, waits_for_lines, waits_if, waits_line};
 
 use crate::levels::{Level, below, put_bracket_of_two, put_indent, put_start};
 use crate::link::{Topic, put_about};
 use std::alloc::AllocError;
-use sva_accepted::can_end;
-use sva_listing::{end_line, put_busy, put_extent, put_field, put_translation, put_word};
+use sva_accepted::{can_end, can_finish, taken_at, vector_of};
+use sva_listing::{
+    end_line, put_busy, put_extent, put_field, put_translation, put_vector, put_word,
+};
 use sva_snapshot::{Busy, Endpoint, Snapshot, Taken, UseSlot};
 
 /// Appends what a use is of.
-pub(crate) fn put_use(out: &mut Vec<u8>, place: &UseSlot) -> Result<(), AllocError>
+pub fn put_use(out: &mut Vec<u8>, place: &UseSlot) -> Result<(), AllocError>
     ensures { OnOk result (out.new.items ≡ out.old.items ++ use_text (slot_seen place.now)) }
 {
     match place {
@@ -55,7 +57,7 @@ fn put_use_of(out: &mut Vec<u8>, part: &Endpoint, slot: u64) -> Result<(), Alloc
 }
 
 /// Appends the end of a use in brackets.
-fn put_end(
+pub fn put_end(
     out: &mut Vec<u8>,
     snapshot: &Snapshot,
     endpoint: u64,
@@ -152,15 +154,59 @@ pub fn put_waits_for(
     put_each_wait(out, level, snapshot, endpoint, part, itag, &taken.noted)
 }
 
-/// The invalidation of an ITag among these that were taken.
-fn taken_among(taken: &[Option<Taken>], itag: u64) -> Option<&Taken>
-    ensures { option_map taken_seen (option_copied result)
-        ≡ slice_index_or (map (option_map taken_seen) taken.now) itag None }
+/// Appends that the endpoint finishes an invalidation, in brackets, where that would be accepted.
+fn put_finish(
+    out: &mut Vec<u8>,
+    snapshot: &Snapshot,
+    endpoint: u64,
+    itag: u64,
+) -> Result<(), AllocError>
+    ensures { OnOk result (out.new.items ≡ out.old.items ++ finish_text snapshot.now endpoint itag) }
 {
-    match taken.get(itag as usize) {
-        None => None,
-        Some(place) => place.as_ref(),
+    let vector = vector_of(itag);
+    if !can_finish(snapshot, endpoint, vector) {
+        return Ok(());
     }
+    put_field(out, " [finish ", endpoint)?;
+    put_word(out, " ")?;
+    put_vector(out, vector)?;
+    put_word(out, " 1]")
+}
+
+/// Appends that the endpoint has taken an invalidation.
+fn put_taken_text(
+    out: &mut Vec<u8>,
+    level: Level,
+    endpoint: u64,
+    taken: &Taken,
+) -> Result<(), AllocError>
+    ensures { OnOk result (out.new.items ≡ out.old.items ++ taken_text level endpoint (taken_seen taken.now)) }
+{
+    put_indent(out, level)?;
+    put_field(out, "endpoint ", endpoint)?;
+    put_field(
+        out,
+        " has taken it: pasid ",
+        u64::from(taken.invalidation.pasid),
+    )?;
+    put_extent(out, taken.invalidation.extent)
+}
+
+/// Appends the line of an invalidation that the endpoint has taken.
+fn put_taken_line(
+    out: &mut Vec<u8>,
+    level: Level,
+    snapshot: &Snapshot,
+    endpoint: u64,
+    itag: u64,
+    taken: &Taken,
+) -> Result<(), AllocError>
+    ensures { OnOk result (out.new.items ≡ out.old.items
+        ++ taken_line level snapshot.now endpoint itag (taken_seen taken.now)) }
+{
+    put_taken_text(out, level, endpoint, taken)?;
+    put_finish(out, snapshot, endpoint, itag)?;
+    end_line(out)
 }
 
 /// Appends the lines of an invalidation that the endpoint has taken.
@@ -176,18 +222,10 @@ fn put_taken(
         ++ taken_lines level snapshot.now endpoint (endpoint_shown part.now) itag
         (taken_at (endpoint_shown part.now).device itag)) }
 {
-    let Some(taken) = taken_among(part.device.taken.as_slice(), itag) else {
+    let Some(taken) = taken_at(&part.device, itag) else {
         return Ok(());
     };
-    put_indent(out, level)?;
-    put_field(out, "endpoint ", endpoint)?;
-    put_field(
-        out,
-        " has taken it: pasid ",
-        u64::from(taken.invalidation.pasid),
-    )?;
-    put_extent(out, taken.invalidation.extent)?;
-    end_line(out)?;
+    put_taken_line(out, level, snapshot, endpoint, itag, taken)?;
     put_waits_for(out, below(level), snapshot, endpoint, part, itag, taken)
 }
 

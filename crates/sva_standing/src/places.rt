@@ -13,7 +13,7 @@ use sva_accepted::part_at;
 use sva_snapshot::{Held, Snapshot, Target};
 
 /// Appends what a frame waits for at a unit.
-fn put_target(
+pub fn put_target(
     out: &mut Vec<u8>,
     snapshot: &Snapshot,
     unit: u64,

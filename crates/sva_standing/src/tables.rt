@@ -149,7 +149,7 @@ fn put_out_line(
 }
 
 /// Appends the lines of a translation request that is out.
-fn put_out(
+pub fn put_out(
     out: &mut Vec<u8>,
     level: Level,
     snapshot: &Snapshot,

@@ -13,6 +13,10 @@ use Rattle.sva_standing.specs.Lines.{indent}
 use Rattle.sva_standing.specs.Link.{older_lines}
 use Rattle.sva_standing.specs.Units.{in_reset_lines, of_part, room_lines}
 use Rattle.sva_standing.specs.Tables.{busy_pasid_lines, credit_if, disabled_if, not_started_lines}
+use Rattle.sva_lacking.specs.Tags.{no_tag, not_held}
+use Rattle.sva_lacking.specs.Slots.{no_slot}
+use Rattle.sva_lacking.specs.Hands.{hands_full, no_job}
+use Rattle.sva_lacking.specs.Spaces.{too_many}
 use Rattle.sva_why.specs.Groups.{read_only_lines}
 use Rattle.sva_why.specs.Bindings.{bound_lines, full_lines, not_yet_by, of_binding}
 use Rattle.sva_why.specs.Vectors.{in_use_lines, not_pending_lines}
@@ -103,7 +107,7 @@ abbrev pub bad_verdict : Wire → Step → List ℕ
 bad_verdict wire (step.Reply worker verdict) = read_only_lines wire worker (held_by wire worker)
 bad_verdict wire other = []
 
--- ---- Of the others three tell where it stands
+-- ---- Of the others some tell where it stands, or what would help
 
 -- the endpoint of a step; of a step of a binding that of the binding
 abbrev pub endpoint_of_binding : Option BindingWire → Option ℕ
@@ -151,4 +155,10 @@ refused_lines wire asked refusal.BadVerdict = bad_verdict wire asked
 refused_lines wire asked refusal.Resetting = resetting wire (endpoint_of wire asked)
 refused_lines wire asked refusal.PriDisabled = disabled wire (endpoint_of wire asked)
 refused_lines wire asked refusal.NoCredit = no_credit wire (endpoint_of wire asked)
+refused_lines wire asked refusal.NotHeld = not_held wire asked
+refused_lines wire asked refusal.NoTag = no_tag wire asked
+refused_lines wire asked refusal.NoUseSlot = no_slot wire asked
+refused_lines wire asked refusal.HandsFull = hands_full wire asked
+refused_lines wire asked refusal.NoJob = no_job wire asked
+refused_lines wire asked refusal.TooManySpaces = too_many wire
 refused_lines wire asked other = plain_line other

@@ -1,7 +1,6 @@
 -- What is said of groups of page requests that the host has open, and of the job in a worker's hand.
 use Rattle.std.specs.Prelude.{ℕ, ◌==◌, ◌&&◌, if◌then◌else◌, Option, Some, None, List, [], ◌++◌, codes, flat_map, is_none}
 use Rattle.sva_step.specs.declared.steps.Step.TheVariants as step
-use Rattle.sva_step.specs.declared.steps.Verdict.TheVariants as verdict
 use Rattle.sva_model.specs.Wire.{AskWire, EndpointWire, GroupWire, HostGroupWire, JobWire, PageRequestWire, PageWire, Wire}
 use Rattle.sva_labels.specs.Finding.{group_at, page_at}
 use Rattle.sva_labels.specs.Moves.{is_of_job}
@@ -14,11 +13,7 @@ use Rattle.sva_accepted.specs.Accepted.{is_accepted}
 use Rattle.sva_standing.specs.Lines.{below, bracket, indent}
 use Rattle.sva_standing.specs.Link.{about_lines}
 use Rattle.sva_standing.specs.Tables.{unfinished_if}
-
--- ` [answer 0 invalid]`
-abbrev pub invalid_text : Wire → (worker : ℕ) → List ℕ
-invalid_text wire worker =
-    if is_accepted wire (step.Reply worker verdict.Invalid) then field (codes " [answer ") worker ++ codes " invalid]" else []
+use Rattle.sva_lacking.specs.Hands.{invalid_text}
 
 -- a worker has the job of the group in hand
 abbrev pub hand_if : Level → Wire → HostGroupWire → (worker : ℕ) → Option JobWire → List ℕ

@@ -4,3 +4,5 @@ pub mod Vectors
 pub mod Plain
 pub mod Causes
 pub mod Why
+pub mod Standing
+pub mod Stuck

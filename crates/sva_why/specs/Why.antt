@@ -1,14 +1,12 @@
 -- What holds a step back that was refused, blocked or withheld.
-use Rattle.std.specs.Prelude.{ℕ, Bool, true, false, Ok, Err, List, [], ◌∷◌, ◌++◌, codes, slice_get}
+use Rattle.std.specs.Prelude.{ℕ, Bool, true, false, Ok, Err, List, [], ◌∷◌, slice_get}
 use Rattle.sva_step.specs.declared.answers.Answer.TheVariants as answer
 use Rattle.sva_step.specs.declared.steps.Step.{Step}
 use Rattle.sva_step.specs.declared.steps.Step.TheVariants as step
 use Rattle.sva_model.specs.Steps.{Reply}
 use Rattle.sva_model.specs.Wire.{Wire}
-use Rattle.sva_listing.specs.Pieces.{line_end}
-use Rattle.sva_standing.specs.declared.levels.Level.{Level}
+use Rattle.sva_lacking.specs.Ranges.{withheld_range}
 use Rattle.sva_standing.specs.declared.levels.Level.TheVariants.{First}
-use Rattle.sva_standing.specs.Lines.{indent}
 use Rattle.sva_standing.specs.Units.{blocked_lines, of_part, place_lines}
 use Rattle.sva_why.specs.Causes.{refused_lines}
 
@@ -36,15 +34,11 @@ abbrev pub first_lines : Wire → (frames : List ℕ) → List ℕ
 first_lines wire [] = []
 first_lines wire (frame ∷ frames) = place_lines wire (slice_get wire.places frame)
 
--- the answer to the unmapping of a range doesn't tell its frames
-abbrev pub range_line : Level → List ℕ
-range_line level = indent level ++ codes "a look at one of the frames tells what it waits for" ++ line_end
-
 -- what holds a step back that was answered so, where this is kept behind it
 abbrev pub why_of : Wire → Step → Reply → List ℕ
 why_of wire asked (Err refusal) = refused_lines wire asked refusal
 why_of wire asked (Ok answer.Blocked) = blocked wire asked
 why_of wire asked (Ok answer.Withheld) = looked wire asked
 why_of wire asked (Ok (answer.WithheldFrames frames)) = first_lines wire frames
-why_of wire asked (Ok (answer.RangeWithheld frames)) = range_line First
+why_of wire asked (Ok (answer.RangeWithheld frames)) = withheld_range wire asked
 why_of wire asked (Ok other) = []

@@ -17,6 +17,9 @@ use crate::plain::put_plain;
 use crate::vectors::{put_in_use, put_not_pending};
 use std::alloc::AllocError;
 use sva_accepted::{binding_of, flight_of, held_by, is_mapped, pages_in, part_at, submits};
+use sva_lacking::{
+    put_hands_full, put_no_job, put_no_slot, put_no_tag, put_not_held, put_too_many,
+};
 use sva_listing::{end_line, put_field, put_word};
 use sva_snapshot::{Endpoint, Mapping, Snapshot};
 use sva_standing::{
@@ -390,6 +393,12 @@ pub(crate) fn put_refused(
         Refusal::Resetting => put_resetting(out, snapshot, endpoint_of(snapshot, step)),
         Refusal::PriDisabled => put_disabled_at(out, snapshot, endpoint_of(snapshot, step)),
         Refusal::NoCredit => put_no_credit(out, snapshot, endpoint_of(snapshot, step)),
+        Refusal::NotHeld => put_not_held(out, snapshot, step),
+        Refusal::NoTag => put_no_tag(out, snapshot, step),
+        Refusal::NoUseSlot => put_no_slot(out, snapshot, step),
+        Refusal::HandsFull => put_hands_full(out, snapshot, step),
+        Refusal::NoJob => put_no_job(out, snapshot, step),
+        Refusal::TooManySpaces => put_too_many(out, snapshot),
         other => put_plain(out, other),
     }
 }

@@ -8,25 +8,15 @@ ghost use Rattle.sva_msg.specs.Seen.{page_request_seen};
 ghost use Rattle.sva_parts_by_labels.specs.Device.{group_seen};
 ghost use Rattle.sva_prq.specs.Job.{ask_seen};
 ghost use Rattle.sva_snapshot.specs.Shown.{endpoint_shown, host_group_shown, job_shown};
-ghost use Rattle.sva_why.specs.Groups.{hand_if, invalid_text, job_if, open_if, open_lines, read_only_if};
+ghost use Rattle.sva_why.specs.Groups.{hand_if, job_if, open_if, open_lines, read_only_if};
 ghost use Rattle.sva_why.specs.Groups.{read_only_lines, request_if, take_if, unfinished_at, where_lines};
 
 use std::alloc::AllocError;
-use sva_accepted::{can_answer_invalid, can_serve, can_take, is_read_only_at, pages_of_job};
+use sva_accepted::{can_serve, can_take, is_read_only_at, pages_of_job};
+use sva_lacking::put_invalid;
 use sva_listing::{end_line, put_field, put_word};
 use sva_snapshot::{Ask, Endpoint, GroupPlace, HostGroup, Job, Mapping, PageRequest, Snapshot};
 use sva_standing::{Level, Topic, below, put_about, put_bracket, put_indent, put_unfinished_if};
-
-/// Appends the verdict Invalid of a worker in brackets.
-fn put_invalid(out: &mut Vec<u8>, snapshot: &Snapshot, worker: u64) -> Result<(), AllocError>
-    ensures { OnOk result (out.new.items ≡ out.old.items ++ invalid_text snapshot.now worker) }
-{
-    if !can_answer_invalid(snapshot, worker) {
-        return Ok(());
-    }
-    put_field(out, " [answer ", worker)?;
-    put_word(out, " invalid]")
-}
 
 /// Is it the job of the group?
 fn is_of_job(job: &Job, group: &HostGroup) -> bool

@@ -5,8 +5,10 @@
 mod bindings;
 mod causes;
 mod groups;
+mod laws;
 mod plain;
 mod vectors;
 mod whys;
 
+pub use laws::{lines_stand, stuck_stays};
 pub use whys::{is_held, put_why, put_why_in};

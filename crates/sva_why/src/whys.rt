@@ -1,15 +1,15 @@
 //! What holds a step back.
 
 ghost use Rattle.std.specs.Prelude.{◌≡◌, ◌++◌, OnOk};
-ghost use Rattle.sva_why.specs.Why.{blocked, first_lines, is_held, looked, range_line, why_of};
+ghost use Rattle.sva_why.specs.Why.{blocked, first_lines, is_held, looked, why_of};
 
 use crate::causes::put_refused;
 use std::alloc::{AllocError, Global};
 use sva_accepted::part_at;
 use sva_core::World;
-use sva_listing::{end_line, put_word};
+use sva_lacking::put_withheld_range;
 use sva_snapshot::{Snapshot, snapshot};
-use sva_standing::{Level, put_blocked, put_indent, put_place};
+use sva_standing::{Level, put_blocked, put_place};
 use sva_step::{Answer, Refusal, Step};
 
 /// Is a step held back: is it refused or blocked, or are frames withheld?
@@ -61,15 +61,6 @@ fn put_first(out: &mut Vec<u8>, snapshot: &Snapshot, frames: &[u32]) -> Result<(
     }
 }
 
-/// Appends where the frames of a range tell what they wait for.
-fn put_range(out: &mut Vec<u8>, level: Level) -> Result<(), AllocError>
-    ensures { OnOk result (out.new.items ≡ out.old.items ++ range_line level) }
-{
-    put_indent(out, level)?;
-    put_word(out, "a look at one of the frames tells what it waits for")?;
-    end_line(out)
-}
-
 /// Appends what holds a step back that was answered so: a line for each thing, indented by four spaces for each level.
 /// The snapshot is taken behind the step. Of a step that isn't held back nothing is said.
 ///
@@ -89,7 +80,7 @@ pub fn put_why(
         Ok(Answer::Blocked) => put_blocked_of(out, snapshot, step),
         Ok(Answer::Withheld) => put_looked(out, snapshot, step),
         Ok(Answer::WithheldFrames { frames }) => put_first(out, snapshot, frames.as_slice()),
-        Ok(Answer::RangeWithheld { .. }) => put_range(out, Level::First),
+        Ok(Answer::RangeWithheld { .. }) => put_withheld_range(out, snapshot, step),
         Ok(_) => Ok(()),
     }
 }

@@ -1,0 +1,5 @@
+pub mod Tags
+pub mod Slots
+pub mod Hands
+pub mod Spaces
+pub mod Ranges

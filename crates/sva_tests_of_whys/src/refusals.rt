@@ -1,0 +1,116 @@
+//! What each refusal says of which a line without numbers is told.
+
+use std::alloc::{AllocError, Global};
+use std::process::Abort;
+use sva_core::World;
+use sva_step::{Config, Refusal, Step};
+use sva_why::put_why_in;
+
+/// These refusals, and their lines. The other 19 say what holds the step back, where it is so: runs/scripts has 14 of
+/// them, and examples/why has QueueFull, NoTag, NoUseSlot, TooManySpaces and NoCredit.
+static PLAIN: [(Refusal, &str); 24] = [
+    (
+        Refusal::BadConfig,
+        "    endpoints are 1 to 8, frames 1 to 4096, workers 1 to 4\n",
+    ),
+    (
+        Refusal::NoSuchEndpoint,
+        "    the config has no endpoint of this number\n",
+    ),
+    (Refusal::NoSuchSpace, "    no live space has this number\n"),
+    (Refusal::PageRange, "    pages are below 2^36\n"),
+    (Refusal::Mapped, "    the page is mapped\n"),
+    (
+        Refusal::NoFrame,
+        "    too few frames are free, or none has this number\n",
+    ),
+    (
+        Refusal::SpaceFull,
+        "    the space would have more than 1024 pages\n",
+    ),
+    (
+        Refusal::AlreadyBound,
+        "    the space is bound to the endpoint\n",
+    ),
+    (Refusal::NoPasid, "    other spaces bear all 32 pasids\n"),
+    (
+        Refusal::NoSuchBinding,
+        "    no unreleased binding has this number\n",
+    ),
+    (Refusal::NotLive, "    the binding isn't live\n"),
+    (
+        Refusal::ReadOnly,
+        "    the translation that is held allows no write\n",
+    ),
+    (
+        Refusal::NoSuchUse,
+        "    the use slot is free, or none of 0 to 15\n",
+    ),
+    (
+        Refusal::NoSuchGroup,
+        "    the group is none of the pasid that still gets requests\n",
+    ),
+    (
+        Refusal::BadCount,
+        "    completions are counted 1 to 8, and pages taken out 1 to 48 at a time\n",
+    ),
+    (
+        Refusal::NotStopping,
+        "    the pasid isn't told to stop at the endpoint\n",
+    ),
+    (
+        Refusal::NoSuchMessage,
+        "    no message in flight has this number\n",
+    ),
+    (
+        Refusal::NoSuchWorker,
+        "    the config has no worker of this number\n",
+    ),
+    (
+        Refusal::NumbersSpent,
+        "    too few numbers are left below 2^63\n",
+    ),
+    (Refusal::OutOfMemory, "    there is no memory for it\n"),
+    (Refusal::BadOrder, "    the order of a range is 0 to 9\n"),
+    (
+        Refusal::NotAligned,
+        "    the first page is no multiple of the range's size\n",
+    ),
+    (
+        Refusal::NothingMapped,
+        "    no page of the range is mapped\n",
+    ),
+    (Refusal::BadPasid, "    pasids are 1 to 32\n"),
+];
+
+/// A world in which nothing was done yet.
+fn opened<R: Abort>(rt: &R, alloc: Global) -> World {
+    let config = Config {
+        endpoints: 1,
+        frames: 1,
+        workers: 1,
+        first: 0,
+    };
+    match World::open(alloc, config) {
+        Ok(world) => world,
+        Err(_) => panic!(rt; "the config is within its limits"),
+    }
+}
+
+/// What is said of a step that is refused so.
+fn said(alloc: Global, world: &World, refusal: Refusal) -> Result<Vec<u8>, AllocError> {
+    let mut out = Vec::new(alloc);
+    put_why_in(&mut out, alloc, world, &Step::Space, &Err(refusal))?;
+    Ok(out)
+}
+
+#[test]
+fn refusals_without_numbers(rt: HostRuntime) {
+    let world = opened(&rt, rt.alloc());
+    for (refusal, line) in &PLAIN {
+        match said(rt.alloc(), &world, *refusal) {
+            Ok(text) => assert!(rt; text.as_slice() == line.as_bytes(), "{line}"),
+            Err(_refused) => panic!(&rt; "out of memory"),
+        }
+    }
+}

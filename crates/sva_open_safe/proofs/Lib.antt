@@ -1,3 +1,3 @@
 mod Kept
-mod Sound
+pub mod Sound
 pub mod Tested

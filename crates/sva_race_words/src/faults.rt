@@ -115,7 +115,7 @@ const LINE_WORDS: [&[u8]; 4] = [b"try", b"thread", b"workers", b"device"];
 const ATOM_WORDS: [&[u8]; 3] = [b"not", b"done", b"usable"];
 
 /// The first of some words that is near to a word.
-fn first_near(words: &[&'static [u8]], word: &[u8]) -> Option<&'static [u8]>
+pub fn first_near(words: &[&'static [u8]], word: &[u8]) -> Option<&'static [u8]>
     ensures { option_map (λ near. near.now) result ≡ near_among (map (λ known. known.now) words.now) word.now }
 {
     for known in words {
@@ -224,7 +224,7 @@ fn put_own(
 }
 
 /// The word at a place, if there is one.
-pub(crate) fn word_in<'a>(words: &[&'a [u8]], at: usize) -> Option<&'a [u8]>
+pub fn word_in<'a>(words: &[&'a [u8]], at: usize) -> Option<&'a [u8]>
     ensures { option_map (λ word. word.now) result ≡ slice_get (map (λ word. word.now) words.now) at }
 {
     words.get(at).copied()

@@ -4,5 +4,7 @@
 mod faults;
 mod words;
 
-pub use faults::{RaceStop, RaceWanted, RaceWrong, put_fault, stop_at, wrong_at};
+pub use faults::{
+    RaceStop, RaceWanted, RaceWrong, first_near, put_fault, stop_at, word_in, wrong_at,
+};
 pub use words::{count_of, joined, judge_end, piece_len, word_at, words_at, words_from};

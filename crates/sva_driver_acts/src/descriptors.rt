@@ -1,0 +1,221 @@
+//! The descriptors of a line that submits them.
+
+ghost use Rattle.std.specs.Prelude.{◌≡◌, ◌+◌, ◌<◌, ◌≤◌, ◌^◌, ◌++◌, ◌∷◌, [], Err, OnOk, length, map};
+ghost use Rattle.sva_driver_acts.specs.Descriptors as descriptors;
+ghost use Rattle.sva_driver_words.specs.Faults.{placed};
+ghost use Rattle.sva_driver_acts.specs.Sayings.{saying_seen};
+ghost use Rattle.sva_driver_acts.specs.Taking.{Adds, Gives};
+
+use std::alloc::{AllocError, Global};
+use sva_driver_words::{
+    DriverStop, DriverWanted, DriverWrong, endpoint_at, has_word, judge_end, lacking, order_at,
+    page_at, pasid_at, says,
+};
+use sva_judge::Saying;
+use sva_open::{Act, Descriptor, LocalAct, Scope};
+use sva_race_words::{count_of, piece_len, words_at, words_from};
+use sva_step::Config;
+
+/// The aligned range of 2^order pages that has a page.
+fn aligned(pasid: usize, page: u64, order: u64) -> Scope
+    requires { order < 64 }
+    ensures { result ≡ descriptors.aligned pasid page order }
+{
+    let count = 1 << order;
+    Scope::Pages {
+        pasid,
+        first: page - page % count,
+        count,
+    }
+}
+
+/// Reads `P PAGE K` behind the first word.
+fn range_of(words: &[&[u8]]) -> Result<Scope, DriverWrong>
+    ensures { result ≡ descriptors.range_of (map (λ word. word.now) words.now) }
+{
+    let pasid = pasid_at(words, 1)?;
+    let page = page_at(words, 2)?;
+    let order = order_at(words, 3)?;
+    judge_end(words, 4)?;
+    Ok(aligned(pasid, page, order))
+}
+
+/// Reads `P` behind the first word.
+fn pasid_of(words: &[&[u8]]) -> Result<usize, DriverWrong>
+    ensures { result ≡ descriptors.pasid_of (map (λ word. word.now) words.now) }
+{
+    let pasid = pasid_at(words, 1)?;
+    judge_end(words, 2)?;
+    Ok(pasid)
+}
+
+/// Reads `P` or `P PAGE K` behind the first word.
+fn scope_of(words: &[&[u8]]) -> Result<Scope, DriverWrong>
+    ensures { result ≡ descriptors.scope_of (map (λ word. word.now) words.now) }
+{
+    if has_word(words, 2) {
+        return range_of(words);
+    }
+    let pasid = pasid_of(words)?;
+    Ok(Scope::Pasid { pasid })
+}
+
+/// The place behind a word that may stand there.
+fn behind(at: usize, is_there: bool) -> usize
+    requires { at < 8 }
+    ensures at { result ≡ descriptors.behind at is_there }
+    ensures near { result ≤ at + 1 }
+{
+    if is_there { at + 1 } else { at }
+}
+
+/// Reads the end of a wait, which has so many words.
+fn wait_with(
+    name: usize,
+    drain: bool,
+    fence: bool,
+    count: usize,
+    words: &[&[u8]],
+) -> Result<Descriptor, DriverWrong>
+    ensures { result ≡ descriptors.wait_with name drain fence count (map (λ word. word.now) words.now) }
+{
+    if count < count_of(words) {
+        return Err(lacking(count, DriverWanted::DrainOrFence));
+    }
+    Ok(Descriptor::Wait { name, drain, fence })
+}
+
+/// Reads `wait [drain] [fence]`.
+fn wait_of(name: usize, words: &[&[u8]]) -> Result<Descriptor, DriverWrong>
+    ensures { result ≡ descriptors.wait_of name (map (λ word. word.now) words.now) }
+{
+    let drain = says(words, 1, b"drain");
+    let at = behind(1, drain);
+    let fence = says(words, at, b"fence");
+    wait_with(name, drain, fence, behind(at, fence), words)
+}
+
+/// A descriptor; waits get a name.
+fn descriptor_of(name: usize, words: &[&[u8]]) -> Result<Descriptor, DriverWrong>
+    ensures { result ≡ descriptors.descriptor_of name (map (λ word. word.now) words.now) }
+{
+    if says(words, 0, b"range") {
+        let scope = range_of(words)?;
+        return Ok(Descriptor::Device { scope });
+    }
+    if says(words, 0, b"pasid") {
+        let pasid = pasid_of(words)?;
+        return Ok(Descriptor::Device {
+            scope: Scope::Pasid { pasid },
+        });
+    }
+    if says(words, 0, b"iotlb") {
+        let scope = scope_of(words)?;
+        return Ok(Descriptor::Translations { scope });
+    }
+    if says(words, 0, b"entry") {
+        let pasid = pasid_of(words)?;
+        return Ok(Descriptor::Entry { pasid });
+    }
+    if says(words, 0, b"wait") {
+        return wait_of(name, words);
+    }
+    Err(lacking(0, DriverWanted::Descriptor))
+}
+
+/// What is wrong with words that begin at a place of their line. No line is so long that the place of a word doesn't
+/// fit; if it were, nothing could be said of it.
+fn place_stop(start: usize, found: DriverWrong) -> Result<Descriptor, DriverStop>
+    ensures { Gives descriptors.itself (placed start (Err found)) result }
+{
+    match start.checked_add(found.at) {
+        Some(at) => Err(DriverStop::Wrong(lacking(at, found.wanted))),
+        None => Err(DriverStop::Memory),
+    }
+}
+
+/// A descriptor; its words begin at `at`.
+fn read_descriptor(name: usize, words: &[&[u8]], at: usize) -> Result<Descriptor, DriverStop>
+    ensures { Gives descriptors.itself (descriptors.descriptor_at name at (map (λ word. word.now) words.now)) result }
+{
+    match descriptor_of(name, words) {
+        Ok(descriptor) => Ok(descriptor),
+        Err(found) => place_stop(at, found),
+    }
+}
+
+fn push_descriptor(list: &mut Vec<Descriptor>, one: Descriptor) -> Result<(), AllocError>
+    ensures { OnOk result (list.new.items ≡ list.old.items ++ one ∷ []) }
+{
+    match list.push(one) {
+        Ok(()) => Ok(()),
+        Err(_) => Err(AllocError),
+    }
+}
+
+/// Adds a descriptor; its words begin at `at`.
+fn add_descriptor(
+    name: usize,
+    words: &[&[u8]],
+    at: usize,
+    list: &mut Vec<Descriptor>,
+) -> Result<(), DriverStop>
+    ensures { Adds descriptors.itself (descriptors.descriptor_at name at (map (λ word. word.now) words.now))
+        list.old.items list.new.items result }
+{
+    match read_descriptor(name, words, at) {
+        Ok(one) => match push_descriptor(list, one) {
+            Ok(()) => Ok(()),
+            Err(_) => Err(DriverStop::Memory),
+        },
+        Err(stop) => Err(stop),
+    }
+}
+
+/// Descriptors with `+` between two; the words begin at `at`.
+fn read_descriptors(
+    alloc: Global,
+    name: usize,
+    words: &[&[u8]],
+    at: usize,
+) -> Result<Vec<Descriptor>, DriverStop>
+    requires { at + length words.now + 4 < 2 ^ 64 }
+    ensures { Gives descriptors.items_of (descriptors.descriptors_of name at (map (λ word. word.now) words.now))
+        result }
+{
+    let mut list = Vec::new(alloc);
+    let mut start = 0;
+    while let Some(count) = piece_len(words, start, b"+") {
+        let piece = words_at(words, start, count);
+        match add_descriptor(name, piece, at + start, &mut list) {
+            Ok(()) => {}
+            Err(stop) => return Err(stop),
+        }
+        start += count + 1;
+    }
+    let piece = words_from(words, start);
+    match add_descriptor(name, piece, at + start, &mut list) {
+        Ok(()) => Ok(list),
+        Err(stop) => Err(stop),
+    }
+}
+
+/// Reads `submit E D [+ D ..]`.
+pub(crate) fn submit_line(
+    alloc: Global,
+    config: &Config,
+    name: usize,
+    words: &[&[u8]],
+) -> Result<Saying, DriverStop>
+    ensures { Gives saying_seen (descriptors.submit_line config.now name (map (λ word. word.now) words.now)) result }
+{
+    let endpoint = endpoint_at(config, words, 1).map_err(DriverStop::Wrong)?;
+    let rest = words_from(words, 2);
+    let descriptors = read_descriptors(alloc, name, rest, 2)?;
+    Ok(Saying::Does {
+        act: Act::At {
+            endpoint,
+            act: LocalAct::Submit { descriptors },
+        },
+    })
+}

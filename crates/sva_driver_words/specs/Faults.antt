@@ -1,0 +1,108 @@
+-- The text of a line of a driver that is wrong, as that of a race's line: `line L: 'WORD': wanted ..`.
+use Rattle.std.specs.Prelude.{ℕ, ◌+◌, nat_lt, if◌then◌else◌, List, [], ◌∷◌, ◌++◌, codes, decimal, length}
+use Rattle.std.specs.Prelude.{slice_get, Option, Some, None, Result, Ok, Err}
+use Rattle.sva_script.specs.declared.faults.Wanted.TheVariants as script
+use Rattle.sva_script.specs.Names.{Known, near_name}
+use Rattle.sva_script_reading.specs.Faults.{near_text, or_else, shown_word}
+use Rattle.sva_words.specs.Near.{near_among}
+use Rattle.sva_words.specs.Reserved.{kind_words}
+use Rattle.sva_race_words.specs.Faults as races
+use Rattle.sva_race_words.specs.declared.faults.RaceWanted.TheVariants as race
+use Rattle.sva_driver_words.specs.declared.faults.DriverWanted.{DriverWanted}
+use Rattle.sva_driver_words.specs.declared.faults.DriverWanted.TheVariants as wanted
+use Rattle.sva_driver_words.specs.declared.faults.DriverWrong.{DriverWrong}
+
+-- what a line is read as that is wrong at this word
+abbrev pub lacking : {A : Type 0} → (at : ℕ) → DriverWanted → Result A DriverWrong
+lacking at wanted = Err (record { at = at; wanted = wanted })
+
+-- no word stands behind so many
+abbrev pub no_more : (count : ℕ) → List (List ℕ) → Result (Unit {0}) DriverWrong
+no_more count words = if nat_lt count (length words) then lacking count (wanted.Race (race.Script script.NoMore)) else Ok tt
+
+-- words that begin at a place of their line: what is wrong there is told by the line's places
+abbrev pub placed : {A : Type 0} → (start : ℕ) → Result A DriverWrong → Result A DriverWrong
+placed start (Ok read) = Ok read
+placed start (Err wrong) = lacking (start + wrong.at) wrong.wanted
+
+-- ---- What was wanted; what a race's line wants is told as of a race
+
+abbrev pub wanted_text : DriverWanted → List ℕ
+wanted_text (wanted.Race want) = codes ""
+wanted_text wanted.Before = codes "an act, a setting, workers, device or race"
+wanted_text wanted.Behind = codes "an act, thread, workers or device"
+wanted_text wanted.NoRace = codes "no second race"
+wanted_text wanted.Earlier = codes "an act or race: settings stand before the first act"
+wanted_text wanted.NoAnswer = codes "no answer: a driver is judged, not compared"
+wanted_text wanted.OneLine = codes "one such line"
+wanted_text wanted.Link = codes "free or posted"
+wanted_text wanted.Waits = codes "fence or plain"
+wanted_text wanted.Drain = codes "empty or arrived"
+wanted_text wanted.Caches = codes "off or on"
+wanted_text wanted.Stopped = codes "marker, status or known"
+wanted_text wanted.Frame = codes "a frame of the config"
+wanted_text wanted.Pasid = codes "a PASID, 1 to 32"
+wanted_text wanted.Space = codes "a space, 0 to 63"
+wanted_text wanted.SpaceOrNone = codes "a space, 0 to 63, or none"
+wanted_text wanted.FrameOrNone = codes "a frame of the config or none"
+wanted_text wanted.Page = codes "the number of a page"
+wanted_text wanted.Order = codes "an order, 0 to 9"
+wanted_text wanted.Index = codes "the index of a group"
+wanted_text wanted.Count = codes "a number"
+wanted_text wanted.Access = codes "r or w"
+wanted_text wanted.GroupOrNew = codes "new or the index of a group"
+wanted_text wanted.MoreOrLast = codes "more or last"
+wanted_text wanted.Code = codes "success, invalid or failure"
+wanted_text wanted.Kind = codes "the kind of a message"
+wanted_text wanted.Descriptor = codes "range, pasid, iotlb, entry or wait"
+wanted_text wanted.DrainOrFence = codes "drain, fence or +"
+wanted_text wanted.Awaited = codes "wait, stopped, queue, groups, reset or the name of a line above"
+wanted_text wanted.WaitAbove = codes "an endpoint at which a line above in this thread submits a wait"
+wanted_text wanted.Lock = codes "the name of a lock"
+wanted_text wanted.Part = codes "asks, uses, faults, evicts, silent, lies or pages"
+wanted_text wanted.Permitted = codes "an act that is permitted now"
+
+-- ---- The hint
+
+unfoldable pub act_words : List (List ℕ)
+act_words =
+    codes "pte" ∷ codes "entry" ∷ codes "start" ∷ codes "stop" ∷ codes "reset" ∷ codes "submit" ∷ codes "await" ∷
+    codes "serve" ∷ codes "respond" ∷ codes "close" ∷ codes "open" ∷ codes "free" ∷ codes "freeze" ∷ codes "lock" ∷
+    codes "unlock" ∷ codes "ask" ∷ codes "use" ∷ codes "end" ∷ codes "evict" ∷ codes "fault" ∷ codes "finish" ∷
+    codes "quit" ∷ codes "pump" ∷ codes "deliver" ∷ codes "forget" ∷ []
+
+unfoldable pub setting_words : List (List ℕ)
+setting_words = codes "link" ∷ codes "waits" ∷ codes "drain" ∷ codes "caches" ∷ codes "stopped" ∷ []
+
+unfoldable pub line_words : List (List ℕ)
+line_words = codes "workers" ∷ codes "device" ∷ codes "race" ∷ codes "thread" ∷ []
+
+unfoldable pub descriptor_words : List (List ℕ)
+descriptor_words = codes "range" ∷ codes "pasid" ∷ codes "iotlb" ∷ codes "entry" ∷ codes "wait" ∷ []
+
+-- the word that is near to the wrong one, of those that were wanted
+abbrev pub near_wanted : Known → (word : List ℕ) → DriverWanted → Option (List ℕ)
+near_wanted known word wanted.Before =
+    or_else (near_among act_words word) (or_else (near_among setting_words word) (near_among line_words word))
+near_wanted known word wanted.Behind = or_else (near_among act_words word) (near_among line_words word)
+near_wanted known word wanted.Kind = near_among kind_words word
+near_wanted known word wanted.Descriptor = near_among descriptor_words word
+near_wanted known word wanted.Awaited = near_name known word
+near_wanted known word _ = None
+
+-- ---- The line
+
+-- which word is wrong, if the line has it
+abbrev pub where_text : Known → DriverWanted → Option (List ℕ) → List ℕ
+where_text known want None = codes ": end of line: wanted " ++ wanted_text want
+where_text known want (Some word) =
+    codes ": '" ++ shown_word word ++ codes "': wanted " ++ wanted_text want ++ near_text (near_wanted known word want)
+
+-- what a race's line wants is told as of a race
+abbrev pub text_by : Known → (line : ℕ) → List (List ℕ) → (at : ℕ) → DriverWanted → List ℕ
+text_by known line words at (wanted.Race want) = races.text_by known line words at want
+text_by known line words at want = codes "line " ++ decimal line ++ where_text known want (slice_get words at) ++ 10 ∷ []
+
+-- a line that is wrong: its number, its words, what is wrong with it, and the names that there are
+abbrev pub fault_text : Known → (line : ℕ) → List (List ℕ) → DriverWrong → List ℕ
+fault_text known line words wrong = text_by known line words wrong.at wrong.wanted

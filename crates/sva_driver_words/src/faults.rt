@@ -1,0 +1,324 @@
+//! What is wrong with a line of a driver.
+
+ghost use Rattle.std.specs.Prelude.{◌≡◌, ◌++◌, ◌∷◌, [], OnOk, Some, codes, decimal, map, option_map};
+ghost use Rattle.std.specs.Prelude.{slice_get};
+ghost use Rattle.sva_driver_words.specs.Faults.{act_words, descriptor_words, fault_text, line_words};
+ghost use Rattle.sva_driver_words.specs.Faults.{near_wanted, no_more};
+ghost use Rattle.sva_driver_words.specs.Faults.{setting_words, wanted_text, where_text};
+ghost use Rattle.sva_script_reading.specs.Faults.{or_else};
+ghost use Rattle.sva_words.specs.Near.{near_among};
+
+use std::alloc::AllocError;
+use sva_race_words::{RaceWanted, count_of, first_near, word_in, wrong_at};
+use sva_script::{Names, Wanted};
+use sva_script_reading::{put_near, put_number, put_word};
+use sva_words::near_kind;
+
+/// What was wanted where a line is wrong.
+#[derive(Clone, Copy)]
+pub enum DriverWanted {
+    /// What a race's line wants there.
+    Race(RaceWanted),
+    /// A line before `race`.
+    Before,
+    /// A line behind `race`.
+    Behind,
+    /// No further `race`.
+    NoRace,
+    /// An act or `race`: settings stand before the first act.
+    Earlier,
+    /// No answer: what comes of an order is judged.
+    NoAnswer,
+    /// One line of this setting, of workers or of this endpoint: there is one already.
+    OneLine,
+    /// The order of links.
+    Link,
+    /// Which waits are fences.
+    Waits,
+    /// What a wait that drains asks for.
+    Drain,
+    /// Whether units keep something.
+    Caches,
+    /// By what an endpoint says that it has stopped.
+    Stopped,
+    /// A frame that the config has.
+    Frame,
+    /// A PASID.
+    Pasid,
+    /// A space.
+    Space,
+    /// A space, or `none`.
+    SpaceOrNone,
+    /// A frame that the config has, or `none`.
+    FrameOrNone,
+    /// The number of a page.
+    Page,
+    /// The order of a range.
+    Order,
+    /// The index of a group.
+    Index,
+    /// How many.
+    Count,
+    /// `r` or `w`.
+    Access,
+    /// `new`, or the index of a group.
+    GroupOrNew,
+    /// `more` or `last`.
+    MoreOrLast,
+    /// The code of a response.
+    Code,
+    /// The kind of a message.
+    Kind,
+    /// A descriptor.
+    Descriptor,
+    /// What a wait may have, or the next descriptor.
+    DrainOrFence,
+    /// What may be awaited.
+    Awaited,
+    /// An endpoint at which this thread has submitted a wait.
+    WaitAbove,
+    /// The name of a lock.
+    Lock,
+    /// What a device may be told.
+    Part,
+    /// An act that is permitted where it stands.
+    Permitted,
+}
+
+/// What is wrong with a line: at which of its words, counted from 0, and what was wanted there. Where the line has no
+/// such word, it ends too soon.
+#[derive(Clone, Copy)]
+pub struct DriverWrong {
+    /// The place of the word.
+    pub at: usize,
+    /// What was wanted.
+    pub wanted: DriverWanted,
+}
+
+/// Why a line can't be taken.
+#[derive(Clone, Copy)]
+pub enum DriverStop {
+    /// It is wrong.
+    Wrong(DriverWrong),
+    /// Memory ran out.
+    Memory,
+}
+
+/// A line that is wrong at this word.
+pub fn lacking(at: usize, wanted: DriverWanted) -> DriverWrong
+    ensures { result ≡ record { at = at; wanted = wanted } }
+{
+    DriverWrong { at, wanted }
+}
+
+/// Whether no word stands behind so many.
+pub fn judge_end(words: &[&[u8]], count: usize) -> Result<(), DriverWrong>
+    ensures { result ≡ no_more count (map (λ word. word.now) words.now) }
+{
+    if count < count_of(words) {
+        return Err(lacking(
+            count,
+            DriverWanted::Race(RaceWanted::Script(Wanted::NoMore)),
+        ));
+    }
+    Ok(())
+}
+
+/// What was wanted, in words.
+fn words_of(wanted: &DriverWanted) -> &'static str
+    ensures { result.now ≡ wanted_text wanted.now }
+{
+    match wanted {
+        DriverWanted::Race(_) => "",
+        DriverWanted::Before => "an act, a setting, workers, device or race",
+        DriverWanted::Behind => "an act, thread, workers or device",
+        DriverWanted::NoRace => "no second race",
+        DriverWanted::Earlier => "an act or race: settings stand before the first act",
+        DriverWanted::NoAnswer => "no answer: a driver is judged, not compared",
+        DriverWanted::OneLine => "one such line",
+        DriverWanted::Link => "free or posted",
+        DriverWanted::Waits => "fence or plain",
+        DriverWanted::Drain => "empty or arrived",
+        DriverWanted::Caches => "off or on",
+        DriverWanted::Stopped => "marker, status or known",
+        DriverWanted::Frame => "a frame of the config",
+        DriverWanted::Pasid => "a PASID, 1 to 32",
+        DriverWanted::Space => "a space, 0 to 63",
+        DriverWanted::SpaceOrNone => "a space, 0 to 63, or none",
+        DriverWanted::FrameOrNone => "a frame of the config or none",
+        DriverWanted::Page => "the number of a page",
+        DriverWanted::Order => "an order, 0 to 9",
+        DriverWanted::Index => "the index of a group",
+        DriverWanted::Count => "a number",
+        DriverWanted::Access => "r or w",
+        DriverWanted::GroupOrNew => "new or the index of a group",
+        DriverWanted::MoreOrLast => "more or last",
+        DriverWanted::Code => "success, invalid or failure",
+        DriverWanted::Kind => "the kind of a message",
+        DriverWanted::Descriptor => "range, pasid, iotlb, entry or wait",
+        DriverWanted::DrainOrFence => "drain, fence or +",
+        DriverWanted::Awaited => "wait, stopped, queue, groups, reset or the name of a line above",
+        DriverWanted::WaitAbove =>
+            "an endpoint at which a line above in this thread submits a wait",
+        DriverWanted::Lock => "the name of a lock",
+        DriverWanted::Part => "asks, uses, faults, evicts, silent, lies or pages",
+        DriverWanted::Permitted => "an act that is permitted now",
+    }
+}
+
+/// The words that begin an act.
+const ACT_WORDS: [&[u8]; 25] = [
+    b"pte", b"entry", b"start", b"stop", b"reset", b"submit", b"await", b"serve", b"respond",
+    b"close", b"open", b"free", b"freeze", b"lock", b"unlock", b"ask", b"use", b"end", b"evict",
+    b"fault", b"finish", b"quit", b"pump", b"deliver", b"forget",
+];
+
+/// The words that begin a setting.
+const SETTING_WORDS: [&[u8]; 5] = [b"link", b"waits", b"drain", b"caches", b"stopped"];
+
+/// The words that begin another line.
+const LINE_WORDS: [&[u8]; 4] = [b"workers", b"device", b"race", b"thread"];
+
+/// The words that begin a descriptor.
+const DESCRIPTOR_WORDS: [&[u8]; 5] = [b"range", b"pasid", b"iotlb", b"entry", b"wait"];
+
+fn near_act(word: &[u8]) -> Option<&'static [u8]>
+    ensures { option_map (λ near. near.now) result ≡ near_among act_words word.now }
+{
+    first_near(&ACT_WORDS, word)
+}
+
+fn near_setting(word: &[u8]) -> Option<&'static [u8]>
+    ensures { option_map (λ near. near.now) result ≡ near_among setting_words word.now }
+{
+    first_near(&SETTING_WORDS, word)
+}
+
+fn near_line(word: &[u8]) -> Option<&'static [u8]>
+    ensures { option_map (λ near. near.now) result ≡ near_among line_words word.now }
+{
+    first_near(&LINE_WORDS, word)
+}
+
+fn near_descriptor(word: &[u8]) -> Option<&'static [u8]>
+    ensures { option_map (λ near. near.now) result ≡ near_among descriptor_words word.now }
+{
+    first_near(&DESCRIPTOR_WORDS, word)
+}
+
+/// The word that begins a line before `race`, and is near to a wrong one.
+fn near_before(word: &[u8]) -> Option<&'static [u8]>
+    ensures { option_map (λ near. near.now) result ≡ or_else (near_among act_words word.now)
+        (or_else (near_among setting_words word.now) (near_among line_words word.now)) }
+{
+    match near_act(word) {
+        Some(near) => Some(near),
+        None => match near_setting(word) {
+            Some(near) => Some(near),
+            None => near_line(word),
+        },
+    }
+}
+
+/// The word that begins a line behind `race`, and is near to a wrong one.
+fn near_behind(word: &[u8]) -> Option<&'static [u8]>
+    ensures { option_map (λ near. near.now) result
+        ≡ or_else (near_among act_words word.now) (near_among line_words word.now) }
+{
+    match near_act(word) {
+        Some(near) => Some(near),
+        None => near_line(word),
+    }
+}
+
+/// The word that is near to a wrong one, of those that were wanted.
+fn near<'n>(wanted: &DriverWanted, names: &'n Names, word: &[u8]) -> Option<&'n [u8]>
+    ensures { option_map (λ near. near.now) result ≡ near_wanted names.now word.now wanted.now }
+{
+    match wanted {
+        DriverWanted::Before => near_before(word),
+        DriverWanted::Behind => near_behind(word),
+        DriverWanted::Kind => near_kind(word),
+        DriverWanted::Descriptor => near_descriptor(word),
+        DriverWanted::Awaited => names.near(word),
+        _ => None,
+    }
+}
+
+/// Appends what is wrong with a line, with a line end: `line L: 'WORD': wanted ..`.
+pub fn put_fault(
+    out: &mut Vec<u8>,
+    wrong: &DriverWrong,
+    line: u64,
+    words: &[&[u8]],
+    names: &Names,
+) -> Result<(), AllocError>
+    ensures { OnOk result (out.new.items
+        ≡ out.old.items ++ fault_text names.now line (map (λ word. word.now) words.now) wrong.now) }
+{
+    match wrong.wanted {
+        DriverWanted::Race(wanted) => {
+            sva_race_words::put_fault(out, &wrong_at(wrong.at, wanted), line, words, names)
+        }
+        _ => put_own(out, wrong, line, words, names),
+    }
+}
+
+/// Appends what is wrong with a line, where it isn't what a race's line wants.
+fn put_own(
+    out: &mut Vec<u8>,
+    wrong: &DriverWrong,
+    line: u64,
+    words: &[&[u8]],
+    names: &Names,
+) -> Result<(), AllocError>
+    ensures { OnOk result (out.new.items ≡ out.old.items ++ (codes "line " ++ decimal line
+        ++ where_text names.now wrong.now.wanted (slice_get (map (λ word. word.now) words.now) wrong.now.at)
+        ++ 10 ∷ [])) }
+{
+    out.extend_from_slice(b"line ")?;
+    put_number(out, line)?;
+    put_where(out, &wrong.wanted, word_in(words, wrong.at), names)?;
+    out.extend_from_slice(b"\n")
+}
+
+/// Appends which word is wrong, if the line has it, and what was wanted there.
+fn put_where(
+    out: &mut Vec<u8>,
+    wanted: &DriverWanted,
+    word: Option<&[u8]>,
+    names: &Names,
+) -> Result<(), AllocError>
+    ensures { OnOk result (out.new.items
+        ≡ out.old.items ++ where_text names.now wanted.now (option_map (λ word. word.now) word.entry)) }
+{
+    match word {
+        None => put_line_end(out, wanted),
+        Some(word) => put_at_word(out, wanted, word, names),
+    }
+}
+
+/// Appends what was wanted at the end of a line.
+fn put_line_end(out: &mut Vec<u8>, wanted: &DriverWanted) -> Result<(), AllocError>
+    ensures { OnOk result (out.new.items
+        ≡ out.old.items ++ (codes ": end of line: wanted " ++ wanted_text wanted.now)) }
+{
+    out.extend_from_slice(b": end of line: wanted ")?;
+    out.extend_from_slice(words_of(wanted).as_bytes())
+}
+
+/// Appends which word is wrong, and what was wanted there.
+fn put_at_word(
+    out: &mut Vec<u8>,
+    wanted: &DriverWanted,
+    word: &[u8],
+    names: &Names,
+) -> Result<(), AllocError>
+    ensures { OnOk result (out.new.items ≡ out.old.items ++ where_text names.now wanted.now (Some word.now)) }
+{
+    out.extend_from_slice(b": '")?;
+    put_word(out, word)?;
+    out.extend_from_slice(b"': wanted ")?;
+    out.extend_from_slice(words_of(wanted).as_bytes())?;
+    put_near(out, near(wanted, names, word))
+}

@@ -1,0 +1,226 @@
+//! The words of a line by their places.
+
+ghost use Rattle.std.specs.Prelude.{◌≡◌, map};
+ghost use Rattle.sva_driver_words.specs.Fields as field;
+
+use crate::faults::{DriverWanted, DriverWrong, lacking};
+use sva_grammar::number_in;
+use sva_judge::Kind;
+use sva_race_words::{RaceWanted, count_of, word_at};
+use sva_step::Config;
+use sva_words::is;
+
+/// Whether the word at a place is this one.
+pub fn says(words: &[&[u8]], at: usize, word: &[u8]) -> bool
+    ensures { result ≡ field.says at word.now (map (λ word. word.now) words.now) }
+{
+    is(word_at(words, at), word)
+}
+
+/// Whether there is a word at a place.
+pub fn has_word(words: &[&[u8]], at: usize) -> bool
+    ensures { result ≡ field.has_word at (map (λ word. word.now) words.now) }
+{
+    at < count_of(words)
+}
+
+/// A number from one on and below another.
+fn number_at(
+    words: &[&[u8]],
+    at: usize,
+    low: u64,
+    below: u64,
+    wanted: DriverWanted,
+) -> Result<u64, DriverWrong>
+    ensures { result ≡ field.number_at low below at wanted (map (λ word. word.now) words.now) }
+{
+    match number_in(word_at(words, at)) {
+        Ok(value) => {
+            if low <= value && value < below {
+                Ok(value)
+            } else {
+                Err(lacking(at, wanted))
+            }
+        }
+        Err(_) => Err(lacking(at, wanted)),
+    }
+}
+
+/// An endpoint of the config.
+pub fn endpoint_at(config: &Config, words: &[&[u8]], at: usize) -> Result<usize, DriverWrong>
+    ensures { result ≡ field.endpoint_at config.now at (map (λ word. word.now) words.now) }
+{
+    let wanted = DriverWanted::Race(RaceWanted::OfConfig);
+    let value = number_at(words, at, 0, config.endpoints, wanted)?;
+    Ok(value as usize)
+}
+
+/// A frame of the config.
+pub fn frame_at(
+    config: &Config,
+    words: &[&[u8]],
+    at: usize,
+    wanted: DriverWanted,
+) -> Result<usize, DriverWrong>
+    ensures { result ≡ field.frame_at config.now at wanted (map (λ word. word.now) words.now) }
+{
+    let value = number_at(words, at, 0, config.frames, wanted)?;
+    Ok(value as usize)
+}
+
+/// A PASID.
+pub fn pasid_at(words: &[&[u8]], at: usize) -> Result<usize, DriverWrong>
+    ensures { result ≡ field.pasid_at at (map (λ word. word.now) words.now) }
+{
+    let value = number_at(words, at, 1, 33, DriverWanted::Pasid)?;
+    Ok(value as usize)
+}
+
+/// A space.
+pub fn space_at(words: &[&[u8]], at: usize, wanted: DriverWanted) -> Result<u64, DriverWrong>
+    ensures { result ≡ field.space_at at wanted (map (λ word. word.now) words.now) }
+{
+    number_at(words, at, 0, 64, wanted)
+}
+
+/// The number of a page.
+pub fn page_at(words: &[&[u8]], at: usize) -> Result<u64, DriverWrong>
+    ensures { result ≡ field.page_at at (map (λ word. word.now) words.now) }
+{
+    number_at(words, at, 0, 68_719_476_736, DriverWanted::Page)
+}
+
+/// The order of a range.
+pub fn order_at(words: &[&[u8]], at: usize) -> Result<u64, DriverWrong>
+    ensures { result ≡ field.order_at at (map (λ word. word.now) words.now) }
+{
+    number_at(words, at, 0, 10, DriverWanted::Order)
+}
+
+/// The index of a group.
+pub fn index_at(words: &[&[u8]], at: usize, wanted: DriverWanted) -> Result<usize, DriverWrong>
+    ensures { result ≡ field.index_at at wanted (map (λ word. word.now) words.now) }
+{
+    let value = number_at(words, at, 0, 512, wanted)?;
+    Ok(value as usize)
+}
+
+/// A number that counts.
+pub fn count_at(words: &[&[u8]], at: usize) -> Result<u64, DriverWrong>
+    ensures { result ≡ field.count_at at (map (λ word. word.now) words.now) }
+{
+    number_at(words, at, 0, 65_536, DriverWanted::Part)
+}
+
+/// How many are older; none where nothing is said.
+pub fn older_at(words: &[&[u8]], at: usize) -> Result<usize, DriverWrong>
+    ensures { result ≡ field.older_at at (map (λ word. word.now) words.now) }
+{
+    if !has_word(words, at) {
+        return Ok(0);
+    }
+    let value = number_at(words, at, 0, 65_536, DriverWanted::Count)?;
+    Ok(value as usize)
+}
+
+/// Whether it may be written too.
+pub fn access_at(words: &[&[u8]], at: usize) -> Result<bool, DriverWrong>
+    ensures { result ≡ field.access_at at (map (λ word. word.now) words.now) }
+{
+    if says(words, at, b"w") {
+        return Ok(true);
+    }
+    if says(words, at, b"r") {
+        return Ok(false);
+    }
+    Err(lacking(at, DriverWanted::Access))
+}
+
+/// Whether it is to be written.
+pub fn asked_at(words: &[&[u8]], at: usize) -> Result<bool, DriverWrong>
+    ensures { result ≡ field.asked_at at (map (λ word. word.now) words.now) }
+{
+    if says(words, at, b"rw") {
+        return Ok(true);
+    }
+    access_at(words, at)
+}
+
+/// Whether it is the last of its group.
+pub fn last_at(words: &[&[u8]], at: usize) -> Result<bool, DriverWrong>
+    ensures { result ≡ field.last_at at (map (λ word. word.now) words.now) }
+{
+    if says(words, at, b"last") {
+        return Ok(true);
+    }
+    if says(words, at, b"more") {
+        return Ok(false);
+    }
+    Err(lacking(at, DriverWanted::MoreOrLast))
+}
+
+/// Whether the code is Response Failure.
+pub fn fails_at(words: &[&[u8]], at: usize) -> Result<bool, DriverWrong>
+    ensures { result ≡ field.fails_at at (map (λ word. word.now) words.now) }
+{
+    if says(words, at, b"failure") {
+        return Ok(true);
+    }
+    if says(words, at, b"success") {
+        return Ok(false);
+    }
+    if says(words, at, b"invalid") {
+        return Ok(false);
+    }
+    Err(lacking(at, DriverWanted::Code))
+}
+
+/// The kind of a message.
+pub fn kind_at(words: &[&[u8]], at: usize) -> Result<Kind, DriverWrong>
+    ensures { result ≡ field.kind_at at (map (λ word. word.now) words.now) }
+{
+    if says(words, at, b"start") {
+        return Ok(Kind::Start);
+    }
+    if says(words, at, b"stop") {
+        return Ok(Kind::Stop);
+    }
+    if says(words, at, b"reset") {
+        return Ok(Kind::Reset);
+    }
+    if says(words, at, b"completion") {
+        return Ok(Kind::Completion);
+    }
+    if says(words, at, b"invalidate") {
+        return Ok(Kind::Invalidate);
+    }
+    if says(words, at, b"response") {
+        return Ok(Kind::Response);
+    }
+    kind_up_at(words, at)
+}
+
+/// The kind of a message that an endpoint sends.
+fn kind_up_at(words: &[&[u8]], at: usize) -> Result<Kind, DriverWrong>
+    ensures { result ≡ field.kind_up_at at (map (λ word. word.now) words.now) }
+{
+    if says(words, at, b"request") {
+        return Ok(Kind::Request);
+    }
+    if says(words, at, b"invalidated") {
+        return Ok(Kind::Invalidated);
+    }
+    if says(words, at, b"page-request") {
+        return Ok(Kind::PageRequest);
+    }
+    if says(words, at, b"marker") {
+        return Ok(Kind::Marker);
+    }
+    if says(words, at, b"status") {
+        return Ok(Kind::Status);
+    }
+    if says(words, at, b"reset-done") {
+        return Ok(Kind::ResetDone);
+    }
+    Err(lacking(at, DriverWanted::Kind))
+}

@@ -7,9 +7,11 @@ Those of crates/NAME/more-edits/ stand together, all that turn src/X.rt in src/X
 have to refuse (scripts/by-hand/tests-refuse). Such a file begins with
     file: src/X.rt
     by: CRATE CRATE ..    if need be: the crates above that are to refuse its edits where the crate's own check doesn't, in the order in which they are tried
+    only: FUNCTION ..     if need be: the functions that are to refuse its edits, each of which has to, so that no other is proved with them
 and has a block for each edit:
     # the rule that it turns, in a line of words
     edit: NAME
+    only: FUNCTION ..     if need be: those that are to refuse this one
     old: TEXT
     new: TEXT             one pair or more
     file: PATH            if need be: the pairs behind it, up to the end of the block, are of this file; ../CRATE/PATH is one of another crate"""
@@ -57,11 +59,11 @@ def below(crate, named, found=None):
 
 
 class Edit:
-    """An edit: its rule, pairs of texts, each of a file, and the crates that judge it; and the function in which the last of them stands, if all are of
-    one file of code."""
+    """An edit: its rule, pairs of texts, each of a file, and the crates, or functions of its own, that judge it; and the function in which the last of
+    them stands, if all are of one file of code."""
 
-    def __init__(self, crate, name, rule, pairs, by=()):
-        self.crate, self.name, self.rule, self.pairs, self.by = crate, name, rule, pairs, list(by)
+    def __init__(self, crate, name, rule, pairs, by=(), only=()):
+        self.crate, self.name, self.rule, self.pairs, self.by, self.only = crate, name, rule, pairs, list(by), list(only)
         self.folder, self.file, self.function = f"{ROOT}/crates/{crate}", pairs[0][0] if pairs else "", None
         if pairs and {file for file, _, _ in pairs} == {self.file} and self.file.startswith("src/"):
             self.function = self.place(len(pairs) - 1, function_at)
@@ -98,6 +100,10 @@ class Edit:
                 found["::".join([kind, name] if kind else [*module_of(file), name])] = None
         return list(found)
 
+    def is_public(self):
+        """Whether it is of a public function, which others may call."""
+        return bool(self.function and self.place(len(self.pairs) - 1, is_public_at))
+
     def path(self):
         """The name by which the checker is asked for the edit's function."""
         kind, name = self.function
@@ -118,20 +124,34 @@ def module_of(file):
 
 def function_at(text, end):
     """The function in whose text a place stands, or None: the type of its impl, if it has one (with the trait's name behind, as the checker writes it), and
-    its name. A function ends with a brace below its first letter, as `rt fmt` has it."""
-    kind, found, last = None, None, ""
+    its name."""
+    found = head_at(text, end)
+    return found and found[:2]
+
+
+def is_public_at(text, end):
+    """Whether a place stands in the text of a function that is public: `pub`, or of a trait."""
+    found = head_at(text, end)
+    return bool(found and found[2])
+
+
+def head_at(text, end):
+    """What `function_at` tells, with whether the function is public. A function ends with a brace below its first letter, as `rt fmt` has it."""
+    kind, is_of_trait, found, last = None, False, None, ""
     for line in text[:end].splitlines():
         if found and last == ("}" if found[0] is None else "    }"):
             found = None
         last = line
         impl = re.match(r"impl\b(?:<.*?>)?\s+(?:([A-Z]\w*)(?:<.*?>)?\s+for\s+)?([A-Za-z]\w*)", line)
         if impl:
-            kind = impl.group(2) + (impl.group(1) or "")
+            kind, is_of_trait = impl.group(2) + (impl.group(1) or ""), bool(impl.group(1))
         elif line.startswith("}"):
             kind = None
-        name = re.match(r'\s*(?:pub(?:\([a-z]+\))?\s+)?(?:const\s+|extern "C"\s+)?fn\s+(\w+)', line)
+        name = re.match(r'\s*(pub(?:\([a-z]+\))?\s+)?(?:const\s+|extern "C"\s+)?fn\s+(\w+)', line)
         if name:
-            found = (kind if line[0] == " " else None), name.group(1)
+            is_inside = line[0] == " "
+            is_public = (name.group(1) or "").strip() == "pub" or is_inside and is_of_trait
+            found = (kind if is_inside else None), name.group(2), is_public
     return found
 
 
@@ -225,7 +245,8 @@ def edits_in(crate, folder):
         head, *blocks = blocks_of(path)
         file, by = word_of(head, "file:"), word_of(head, "by:").split()
         for lines in blocks:
-            found.append(Edit(crate, word_of(lines, "edit:"), word_of(lines, "#"), pairs_of(lines, file), by))
+            only = word_of(lines, "only:") or word_of(head, "only:")
+            found.append(Edit(crate, word_of(lines, "edit:"), word_of(lines, "#"), pairs_of(lines, file), by, only.split()))
     return found
 
 
@@ -235,10 +256,10 @@ def more_edits(crate):
 
 
 def once(crate, others):
-    """One edit of more-edits/ for each function of code that has none in must-fail/ and none of these."""
+    """One edit of more-edits/ for each public function that has none in must-fail/ and none of these."""
     found = {(it.file, it.function): None for it in [*must_fail(crate), *others] if it.function}
     for it in more_edits(crate):
-        if it.function:
+        if it.is_public():
             found.setdefault((it.file, it.function), it)
     return [it for it in found.values() if it]
 

@@ -1,4 +1,6 @@
 pub mod ListLemmas
+pub mod DeviceLemmas
+pub mod CountLemmas
 pub mod ReadLemmas
 pub mod RunLemmas
 pub mod TakeLemmas

@@ -1,24 +1,17 @@
 -- What a call makes of words or of a line, by what they are read as.
-use Rattle.std.proofs.Common.{◌≡◌, ◌∙◌, ◌+◌, ap, refl, sym, ℕ, List, true, cond, drop}
-use Rattle.std.specs.Prelude.{Option, None, Result, Ok, Err}
+use Rattle.std.proofs.Common.{◌≡◌, ◌∙◌, ◌+◌, ap, refl, ℕ, drop}
+use Rattle.std.specs.Prelude.{Result, Ok, Err}
 use Rattle.sva_grammar.specs.Grammar.{◌>>=◌}
-use Rattle.sva_step.specs.declared.steps.Step.{Step}
-use Rattle.sva_script.specs.declared.faults.Stop.TheVariants as script
-use Rattle.sva_script.specs.declared.faults.Wanted.TheVariants as wants
-use Rattle.sva_script.specs.declared.faults.Wrong.{Wrong}
-use Rattle.sva_script.specs.Lines.{Parts, parts_of, step_begins}
+use Rattle.sva_script.specs.Lines.{Parts, step_begins}
 use Rattle.sva_script.specs.Names.{Known}
-use Rattle.sva_script_runs.specs.Lines.{LineRead, Reads, line_read}
-use Rattle.sva_script_runs.specs.Messages.{link_of}
 use Rattle.sva_race_words.specs.declared.faults.RaceStop.{RaceStop}
 use Rattle.sva_race_words.specs.declared.faults.RaceStop.TheVariants as stop
-use Rattle.sva_race_words.specs.declared.faults.RaceWanted.TheVariants as wanted
 use Rattle.sva_race_words.specs.declared.faults.RaceWrong.{RaceWrong}
-use Rattle.sva_race_words.specs.Faults.{as_script, lacking}
-use Rattle.sva_race_words.specs.Words.{word_at}
 use Rattle.sva_race_lines.specs.Readings.{Reading}
-use Rattle.sva_race_lines.specs.Taking.{Fails, Takes}
-use Rattle.sva_race_lines.specs.Threads.{is_step, is_try, judged, line_of, named, step_judged, thread_line, tries, unanswered}
+use Rattle.sva_race_lines.specs.Taking.{Takes}
+use Rattle.sva_race_claims.specs.Steps.{named, step_judged}
+use Rattle.sva_race_claims.specs.Taking.{Fails}
+use Rattle.sva_race_lines.specs.Threads.{is_try, line_of, thread_line, tries, unanswered}
 
 -- ---- What fails
 
@@ -31,23 +24,6 @@ fails_on read rest stop.Memory is = tt
 pub fails_takes : (read : Result Reading RaceWrong) (old : Reading) (why : RaceStop) → Fails read why → Takes read old old (Err why)
 fails_takes read old (stop.Wrong found) is = (is, refl)
 fails_takes read old stop.Memory is = tt
-
--- ---- A step
-
-pub step_by : (at : ℕ) (known : Known) (words : List (List ℕ)) → is_step (word_at 0 words) ≡ true
-    → step_judged at known words ≡ judged at (line_read known (link_of None) (parts_of words))
-step_by at known words it =
-    ap (λ b. cond b (judged at (line_read known (link_of None) (parts_of words))) (lacking at (wanted.Script wants.Step))) it
-
-pub judged_right : (at : ℕ) (read : Result LineRead Wrong) (plain expected : List ℕ) (step : Option Step) → Reads read plain expected (Ok step)
-    → judged at read ≡ Ok tt
-judged_right at (Ok read) plain expected step reads = refl
-judged_right at (Err wrong) plain expected step reads = absurd reads
-
-pub judged_wrong : (at : ℕ) (read : Result LineRead Wrong) (plain expected : List ℕ) (found : Wrong)
-    → Reads read plain expected (Err (script.Wrong found)) → judged at read ≡ as_script at found
-judged_wrong at (Ok read) plain expected found reads = absurd reads
-judged_wrong at (Err wrong) plain expected found reads = ap (λ w. judged at (Err w)) (sym reads)
 
 -- ---- A line of a thread
 

@@ -1,3 +1,4 @@
+pub mod Devices
 pub mod Readings
 pub mod Taking
 pub mod Threads

@@ -9,11 +9,10 @@ ghost use Rattle.sva_script_reading.specs.Begins.{lines_from};
 
 use crate::before::is_race;
 use crate::claim_lines::take_claim;
-use crate::claims::begins_claim;
 use crate::readings::Reading;
-use crate::steps::is_step;
 use crate::threads::{is_try, take_device, take_heading, take_thread_line, take_workers};
 use std::alloc::{AllocError, Global};
+use sva_race_claims::{begins_claim, is_step};
 use sva_race_words::{RaceStop, RaceWanted, RaceWrong, count_of, stop_at, word_at, wrong_at};
 use sva_script::{Names, Wanted, name_in, parts_of, split};
 use sva_script_reading::{Desk, Lines};
@@ -54,7 +53,7 @@ fn take_other(
         return take_workers(reading, words);
     }
     if is(first, b"device") {
-        return take_device(endpoints, reading, words);
+        return take_device(alloc, endpoints, reading, words);
     }
     Err(stop_at(0, RaceWanted::Line))
 }
@@ -164,8 +163,8 @@ pub(crate) fn read_from_race(
     from: Lines<'_>,
     reading: &mut Reading,
 ) -> Result<(), AllocError>
-    ensures { IfOk result (λ _. reading.new
-        ≡ from_race endpoints names.now reading.old from.entry.number (lines_from (from.entry.number + 1) from.entry.rest.now)) }
+    ensures { IfOk result (λ _. reading.new ≡ from_race endpoints names.now reading.old from.entry.number
+        (lines_from (from.entry.number + 1) from.entry.rest.now)) }
 {
     let mut lines = from;
     let mut words = Vec::new(alloc);

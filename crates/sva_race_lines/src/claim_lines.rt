@@ -1,13 +1,14 @@
 //! The lines of claims.
 
 ghost use Rattle.std.specs.Prelude.{◌≡◌, ◌≤◌, map};
-ghost use Rattle.sva_race_lines.specs.Claims.{claim_line, claimed, claims_at};
+ghost use Rattle.sva_race_claims.specs.Conditions.{claims_at};
+ghost use Rattle.sva_race_lines.specs.Claims.{claim_line, claimed};
 ghost use Rattle.sva_race_lines.specs.Taking.{Takes};
 
-use crate::claims::{claiming_of, is_of_ends};
 use crate::readings::Reading;
 use std::alloc::Global;
 use sva_race::{Claim, Claiming};
+use sva_race_claims::{claiming_of, is_of_ends};
 use sva_race_words::{RaceStop, RaceWanted, stop_at, word_at, words_from};
 use sva_script::Names;
 

@@ -1,14 +1,14 @@
 //! The text of a race: its config, the script before it, its threads and claims, and all that is wrong with its lines.
 #![tactic(auto)]
 
-mod atoms;
 mod before;
 mod behind;
 mod claim_lines;
-mod claims;
+mod counts;
+mod devices;
 mod kept;
+mod pages;
 mod readings;
-mod steps;
 mod texts;
 mod threads;
 

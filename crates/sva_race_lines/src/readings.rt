@@ -1,20 +1,24 @@
 //! What is read of a race, line by line.
 
-ghost use Rattle.std.specs.Prelude.{◌≡◌, ◌+◌, ◌<◌, ◌^◌, [], ◌∷◌, ◌++◌, IfOk, Some, false, if◌then◌else◌, is_some, length};
-ghost use Rattle.std.specs.Prelude.{map, nat_lt, option_map, replicate, slice_index_or, slice_set, true};
+ghost use Rattle.std.specs.Prelude.{◌≡◌, ◌+◌, ◌<◌, ◌^◌, [], ◌∷◌, ◌++◌, IfOk, None, Some, if◌then◌else◌, is_some};
+ghost use Rattle.std.specs.Prelude.{length, map, nat_lt, option_map, replicate, slice_index_or, slice_set};
 ghost use Rattle.sva_script_reading.specs.Reading.{ReadsLine};
-ghost use Rattle.sva_race_lines.specs.Claims.{condition_of, with_claim};
-ghost use Rattle.sva_race_lines.specs.Taking.{Gives};
-ghost use Rattle.sva_race_lines.specs.Readings.{asked_seen, claim_seen, condition_seen, last_of, line_seen, nothing, with_fault};
+ghost use Rattle.sva_race_claims.specs.Conditions.{condition_of};
+ghost use Rattle.sva_race_claims.specs.Seen.{condition_seen, line_seen};
+ghost use Rattle.sva_race_claims.specs.Taking.{Gives};
+ghost use Rattle.sva_race_lines.specs.Claims.{with_claim};
+ghost use Rattle.sva_race_lines.specs.Devices.{device_seen, line_if};
+ghost use Rattle.sva_race_lines.specs.Readings.{asked_seen, claim_seen, last_of, nothing};
+ghost use Rattle.sva_race_lines.specs.Readings.{with_fault};
 ghost use Rattle.sva_race_lines.specs.Threads.{line_said, thread_of, with_line};
 
-use crate::claims::{is_of_ends, read_condition};
+use crate::devices::DeviceLine;
 use crate::kept::Asked;
-use crate::steps::{actor_of, role_of};
 use std::alloc::{AllocError, Global};
 use std::marker::Model;
 use sva_race::{Claim, Line, Literal, Verdicts};
-use sva_race_words::{RaceStop, RaceWrong, joined, put_fault};
+use sva_race_claims::{is_of_ends, read_condition};
+use sva_race_words::{RaceStop, RaceWrong, actor_of, joined, put_fault, role_of};
 use sva_script::Names;
 use sva_script_reading::{Desk, read_line_words};
 use sva_step::Config;
@@ -31,8 +35,8 @@ pub struct Reading {
     pub(crate) threads: Vec<Vec<u8>>,
     /// How workers answer, if that was said.
     pub(crate) verdicts: Option<Verdicts>,
-    /// Of each endpoint, whether it may fall silent.
-    pub(crate) silent: Vec<bool>,
+    /// Of each endpoint, what the line of its device says, if it has one.
+    pub(crate) devices: Vec<Option<DeviceLine>>,
     /// The claims.
     pub(crate) claims: Vec<Claim>,
     /// Of each claim, its words.
@@ -43,31 +47,49 @@ pub struct Reading {
 
 impl Model for Reading {
     ghost use Rattle.std.specs.Prelude.{map, option_map};
+    ghost use Rattle.sva_race_claims.specs.Seen.{line_seen};
+    ghost use Rattle.sva_race_lines.specs.Devices.{line_if};
     ghost use Rattle.sva_race_lines.specs.Readings as readings;
 
     ghost Value = { readings.Reading };
 
     ghost view = { λ reading. record {
       heading = option_map (λ name. name.items) reading.heading;
-      lines = map readings.line_seen reading.lines.items;
+      lines = map line_seen reading.lines.items;
       threads = map (λ name. name.items) reading.threads.items;
       verdicts = reading.verdicts;
-      silent = reading.silent.items;
+      devices = map line_if reading.devices.items;
       claims = map readings.claim_seen reading.claims.items;
       asked = map readings.asked_seen reading.asked.items;
       said = reading.said.items;
     } };
 }
 
-/// So many times `false`.
-fn falses(alloc: Global, count: usize) -> Result<Vec<bool>, AllocError>
-    ensures { IfOk result (λ list. list.items ≡ replicate count false) }
+/// No line of a device, for so many endpoints.
+fn no_devices(alloc: Global, count: usize) -> Result<Vec<Option<DeviceLine>>, AllocError>
+    ensures { IfOk result (λ list. map line_if list.items ≡ replicate count None) }
 {
     let mut list = Vec::new(alloc);
     for _place in 0..count {
-        list.push(false)?;
+        list.push(None)?;
     }
     Ok(list)
+}
+
+/// Whether an endpoint has a line of its device.
+fn has_line(devices: &[Option<DeviceLine>], endpoint: usize) -> bool
+    ensures { result ≡ is_some (slice_index_or devices.now endpoint None) }
+{
+    matches!(devices.get(endpoint), Some(Some(_)))
+}
+
+/// An endpoint has this line of its device, if there is such a one.
+fn set_line(devices: &mut Vec<Option<DeviceLine>>, endpoint: usize, device: DeviceLine)
+    ensures { devices.new.items ≡ slice_set devices.old.items endpoint (Some device) }
+{
+    if endpoint < devices.len() {
+        devices[endpoint] = Some(device);
+    }
 }
 
 /// The place where it is one more, and else the one found before.
@@ -130,7 +152,7 @@ impl Reading {
             lines: Vec::new(alloc),
             threads: Vec::new(alloc),
             verdicts: None,
-            silent: falses(alloc, config.endpoints as usize)?,
+            devices: no_devices(alloc, config.endpoints as usize)?,
             claims: Vec::new(alloc),
             asked: Vec::new(alloc),
             said: Vec::new(alloc),
@@ -208,20 +230,20 @@ impl Reading {
         self.verdicts = Some(verdicts);
     }
 
-    /// Whether an endpoint may fall silent.
-    pub(crate) fn is_silent(&self, endpoint: usize) -> bool
-        ensures { result ≡ slice_index_or self.now.silent endpoint false }
+    /// Whether an endpoint has a line of its device.
+    pub(crate) fn has_device(&self, endpoint: usize) -> bool
+        ensures { result ≡ is_some (slice_index_or self.now.devices endpoint None) }
     {
-        self.silent.get(endpoint).copied().unwrap_or(false)
+        has_line(self.devices.as_slice(), endpoint)
     }
 
-    /// An endpoint may fall silent, if there is such a one.
-    pub(crate) fn set_silent(&mut self, endpoint: usize)
-        ensures { self.new ≡ record self.old { silent = slice_set self.old.silent endpoint true } }
+    /// An endpoint has this line of its device, if there is such a one.
+    pub(crate) fn set_device(&mut self, endpoint: usize, device: DeviceLine)
+        ensures { self.new ≡ record self.old {
+          devices = slice_set self.old.devices endpoint (Some (device_seen device));
+        } }
     {
-        if endpoint < self.silent.len() {
-            self.silent[endpoint] = true;
-        }
+        set_line(&mut self.devices, endpoint, device);
     }
 
     /// How many lines were read.

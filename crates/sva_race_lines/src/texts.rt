@@ -6,7 +6,9 @@ ghost use Rattle.sva_script_reading.specs.Begins.{lines_from};
 
 use crate::before::{names_of, read_before};
 use crate::behind::read_from_race;
+use crate::counts::counts_of;
 use crate::kept::Text;
+use crate::pages::{devices_of, named_pages, silent_of};
 use crate::readings::Reading;
 use std::alloc::{AllocError, Global};
 use sva_race::{Race, Verdicts};
@@ -33,14 +35,15 @@ fn verdicts_or(verdicts: Option<Verdicts>) -> Verdicts
 
 /// What was read as a race, with so many lines before it; or `None`, where something is said of its lines.
 fn text_of(
+    alloc: Global,
     config: Config,
     before: usize,
     reading: Reading,
     out: &mut Vec<u8>,
 ) -> Result<Option<Text>, AllocError>
     requires { out.old.items ≡ [] }
-    ensures { IfOk result (λ found.
-        ReadsRace (right_or_said (record { config = config; before = before; reading = reading })) found out.new.items) }
+    ensures { IfOk result (λ found. ReadsRace (right_or_said
+        (record { config = config; before = before; reading = reading })) found out.new.items) }
 {
     if !reading.said.is_empty() {
         out.extend_from_slice(reading.said.as_slice())?;
@@ -51,11 +54,18 @@ fn text_of(
         lines,
         threads,
         verdicts,
-        silent,
+        devices: device_lines,
         claims,
         asked,
         said: _,
     } = reading;
+    let named = named_pages(alloc, lines.as_slice())?;
+    let pages = named.as_slice();
+    let own_lines = device_lines.as_slice();
+    let devices = devices_of(alloc, pages, own_lines)?;
+    let silent = silent_of(alloc, own_lines)?;
+    let all_claims = claims.as_slice();
+    let counts = counts_of(alloc, all_claims)?;
     let race = Race {
         config,
         lines,
@@ -63,6 +73,8 @@ fn text_of(
         verdicts: verdicts_or(verdicts),
         silent,
         claims,
+        counts,
+        devices,
     };
     Ok(Some(Text {
         race,
@@ -94,7 +106,7 @@ fn read_lines(
     read_before(alloc, lines, &mut reading)?;
     let before = reading.count();
     read_from_race(alloc, config.endpoints, &names, all, &mut reading)?;
-    text_of(config, before, reading, out)
+    text_of(alloc, config, before, reading, out)
 }
 
 /// Reads a race; or gives `None`, with all that is wrong with it in `out`, a line each. What is wrong with the config

@@ -1,17 +1,18 @@
 //! The lines behind `race` that are no claims.
 
-ghost use Rattle.std.specs.Prelude.{◌≡◌, ◌≤◌, IfOk, Some, map, option_map, slice_set, true};
+ghost use Rattle.std.specs.Prelude.{◌≡◌, ◌≤◌, IfOk, map, option_map};
 ghost use Rattle.sva_race_lines.specs.Taking.{Takes};
-ghost use Rattle.sva_race_lines.specs.Threads.{device_line, heading_line, is_try, line_of, silent_line};
+ghost use Rattle.sva_race_lines.specs.Threads.{device_at, device_line, heading_line, is_try, line_of};
 ghost use Rattle.sva_race_lines.specs.Threads.{thread_line, tries, unanswered, verdicts_of, with_verdict, workers_line};
 ghost use Rattle.sva_script.specs.Lines.{parts_of};
 ghost use Rattle.sva_grammar.specs.Grammar.{verdict};
 
+use crate::devices::read_device;
 use crate::readings::Reading;
-use crate::steps::{endpoint_in, judge_name, judge_step};
 use std::alloc::{AllocError, Global};
 use sva_grammar::verdict_in;
 use sva_race::Verdicts;
+use sva_race_claims::{endpoint_in, judge_name, judge_step};
 use sva_race_words::{
     RaceStop, RaceWanted, RaceWrong, count_of, judge_end, stop_at, word_at, words_from, wrong_at,
 };
@@ -161,8 +162,9 @@ pub(crate) fn take_workers(reading: &mut Reading, words: &[&[u8]]) -> Result<(),
     Ok(())
 }
 
-/// Takes a line of a device: `device E silent`.
+/// Takes a line of a device.
 pub(crate) fn take_device(
+    alloc: Global,
     endpoints: u64,
     reading: &mut Reading,
     words: &[&[u8]],
@@ -171,21 +173,23 @@ pub(crate) fn take_device(
         reading.old reading.new result }
 {
     let endpoint = endpoint_in(endpoints, 1, word_at(words, 1)).map_err(RaceStop::Wrong)?;
-    take_silent(reading, words, endpoint as usize)
+    take_device_at(alloc, reading, words, endpoint as usize)
 }
 
 /// Takes a line of a device behind its endpoint.
-fn take_silent(reading: &mut Reading, words: &[&[u8]], endpoint: usize) -> Result<(), RaceStop>
-    ensures { Takes (silent_line reading.old (map (λ word. word.now) words.now) endpoint)
+fn take_device_at(
+    alloc: Global,
+    reading: &mut Reading,
+    words: &[&[u8]],
+    endpoint: usize,
+) -> Result<(), RaceStop>
+    ensures { Takes (device_at reading.old (map (λ word. word.now) words.now) endpoint)
         reading.old reading.new result }
 {
-    if reading.is_silent(endpoint) {
+    if reading.has_device(endpoint) {
         return Err(stop_at(1, RaceWanted::NewEndpoint));
     }
-    if !is(word_at(words, 2), b"silent") {
-        return Err(stop_at(2, RaceWanted::Silent));
-    }
-    judge_end(words, 0, 3).map_err(RaceStop::Wrong)?;
-    reading.set_silent(endpoint);
+    let device = read_device(alloc, words)?;
+    reading.set_device(endpoint, device);
     Ok(())
 }

@@ -1,4 +1,5 @@
 pub mod Rulings
 pub mod Verdicts
 pub mod Moved
+pub mod Ended
 pub mod Fronts

@@ -1,4 +1,5 @@
 pub mod Judging
 pub mod Witnesses
+pub mod Ends
 pub mod Reports
 pub mod Explored

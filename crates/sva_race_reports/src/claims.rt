@@ -6,8 +6,9 @@ ghost use Rattle.sva_race_reports.specs.Judging.{judged_at};
 ghost use Rattle.sva_race_reports.specs.declared.judging.Judged.TheVariants.{Holds};
 ghost use Rattle.sva_race_reports.specs.Reports.{asks, claim_text, claimed, claims_from, counts_text, named_witness};
 ghost use Rattle.sva_race_reports.specs.Reports.{reach_text, report_text, tried_text, verdict_of, with_witness, witness_if};
-ghost use Rattle.sva_race_reports.specs.Reports.{witnesses_from};
+ghost use Rattle.sva_race_reports.specs.Reports.{witness_with, witnesses_from};
 
+use crate::ends::put_ends_if;
 use crate::judging::{Judged, both, judge, witness_of, word_of};
 use crate::witnesses::{put_counted, put_witness};
 use std::alloc::{AllocError, Global};
@@ -138,21 +139,49 @@ fn put_claims(
     Ok(())
 }
 
+/// Appends a witness with its number; and behind it, where that is wanted, which lines wait where it ends.
+fn put_witness_with(
+    alloc: Global,
+    out: &mut Vec<u8>,
+    race: &Race,
+    threads: &[Vec<u8>],
+    whys: bool,
+    number: u64,
+    choices: &[Choice],
+) -> Result<(), AllocError>
+    ensures { OnOk result (out.new.items
+        ≡ out.old.items ++ witness_with race.now threads.now whys number choices.now) }
+{
+    put_witness(alloc, out, race, threads, number, choices)?;
+    put_ends_if(alloc, out, race, whys, number, choices)
+}
+
 /// Appends a witness, if there is one.
 fn put_witness_if(
     alloc: Global,
     out: &mut Vec<u8>,
     race: &Race,
     threads: &[Vec<u8>],
+    whys: bool,
     before: u64,
     witness: Option<&Vec<Choice>>,
 ) -> Result<(), AllocError>
     requires { before + 1 < 2 ^ 64 }
     ensures { OnOk result (out.new.items ≡ out.old.items
-        ++ witness_if race.now threads.now before (option_map (λ witness. witness.now) witness.entry)) }
+        ++ witness_if race.now threads.now whys before (option_map (λ witness. witness.now) witness.entry)) }
 {
     match witness {
-        Some(choices) => put_witness(alloc, out, race, threads, before + 1, choices.as_slice()),
+        Some(choices) => {
+            put_witness_with(
+                alloc,
+                out,
+                race,
+                threads,
+                whys,
+                before + 1,
+                choices.as_slice(),
+            )
+        }
         None => Ok(()),
     }
 }
@@ -163,36 +192,40 @@ fn put_witnesses(
     out: &mut Vec<u8>,
     race: &Race,
     threads: &[Vec<u8>],
+    whys: bool,
     asked: &[Asked],
     found: &Found<Choice, End>,
 ) -> Result<(), AllocError>
     ensures { OnOk result (out.new.items
-        ≡ out.old.items ++ witnesses_from race.now threads.now found.now 0 0 (asks asked.now)) }
+        ≡ out.old.items ++ witnesses_from race.now threads.now whys found.now 0 0 (asks asked.now)) }
 {
     let mut before = 0;
     for place in 0..asked.len() {
         let witness = witness_of(found, asked[place].is_of_ends, place);
-        put_witness_if(alloc, out, race, threads, before, witness)?;
+        put_witness_if(alloc, out, race, threads, whys, before, witness)?;
         before = with_witness(before, witness);
     }
     Ok(())
 }
 
-/// Appends the report of a race: how far the search came, what that says of each claim, and the witnesses.
+/// Appends the report of a race: how far the search came, what that says of each claim, and the witnesses, each with the
+/// lines that wait where it ends, if these are wanted.
 pub(crate) fn put_report(
     alloc: Global,
     out: &mut Vec<u8>,
     race: &Race,
     threads: &[Vec<u8>],
+    whys: bool,
     asked: &[Asked],
     found: &Found<Choice, End>,
 ) -> Result<(), AllocError>
-    ensures { OnOk result (out.new.items ≡ out.old.items ++ report_text race.now threads.now asked.now found.now) }
+    ensures { OnOk result (out.new.items
+        ≡ out.old.items ++ report_text race.now threads.now whys asked.now found.now) }
 {
     put_reach(out, found, found.cut)?;
     out.extend_from_slice(b"\n")?;
     put_claims(out, race.claims.as_slice(), asked, found)?;
-    put_witnesses(alloc, out, race, threads, asked, found)
+    put_witnesses(alloc, out, race, threads, whys, asked, found)
 }
 
 /// What is said of all claims together.

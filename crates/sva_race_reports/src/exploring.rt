@@ -7,7 +7,7 @@ ghost use Rattle.sva_scenario.specs.Streams.{IsNew, Tells};
 ghost use Rattle.sva_race_reports.specs.Explored.{Explores};
 
 use crate::judging::Judged;
-use crate::searching::explore_text;
+use crate::searching::{Wanted, explore_text};
 use std::alloc::Global;
 use std::io::{Read, Write};
 use sva_scenario::{DriveFault, Told, read_all, write_all};
@@ -16,14 +16,14 @@ use sva_scenario::{DriveFault, Told, read_all, write_all};
 /// text was written, after `Read` or `Memory` nothing.
 pub fn explore<R: Read, W: Write>(
     alloc: Global,
-    most: u64,
+    wanted: Wanted,
     reader: &mut Told<R>,
     writer: &mut Told<W>,
 ) -> Result<Option<Judged>, DriveFault>
     requires reader { IsNew reader.old }
     requires writer { IsNew writer.old }
     ensures explored { IfSome (R.remaining reader.old.inner)
-        (λ input. Explores input most (W.contents writer.old.inner) (W.contents writer.new.inner) result) }
+        (λ input. Explores input wanted (W.contents writer.old.inner) (W.contents writer.new.inner) result) }
     ensures end { OnOk result ((reader.new.failures ≡ 0) × IsAtEnd (R.remaining reader.new.inner) × (writer.new.failures ≡ 0)) }
     ensures read { result ≡ Err DriveFault.Read → (writer.new ≡ writer.old)
         × ((reader.new.failures ≡ 1) ⊎ ((reader.new.failures ≡ 0) × (reader.new.calls ≡ MOST_TURNS))) }
@@ -32,22 +32,22 @@ pub fn explore<R: Read, W: Write>(
     ensures turns { reader.new.calls ≤ MOST_TURNS }
 {
     let text = read_all(alloc, reader)?;
-    tell(alloc, most, text.as_slice(), writer)
+    tell(alloc, wanted, text.as_slice(), writer)
 }
 
 /// Writes what comes of exploring a race.
 fn tell<W: Write>(
     alloc: Global,
-    most: u64,
+    wanted: Wanted,
     text: &[u8],
     writer: &mut Told<W>,
 ) -> Result<Option<Judged>, DriveFault>
     requires { IsNew writer.old }
-    ensures explored { Explores text.now most (W.contents writer.old.inner) (W.contents writer.new.inner) result }
+    ensures explored { Explores text.now wanted (W.contents writer.old.inner) (W.contents writer.new.inner) result }
     ensures told { Tells writer.old writer.new result }
 {
     let mut out = Vec::new(alloc);
-    match explore_text(alloc, most, text, &mut out) {
+    match explore_text(alloc, wanted, text, &mut out) {
         Ok(judged) => {
             write_all(writer, out.as_slice())?;
             Ok(judged)

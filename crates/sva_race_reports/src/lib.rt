@@ -2,6 +2,7 @@
 #![tactic(auto)]
 
 mod claims;
+mod ends;
 mod exploring;
 mod judging;
 mod searching;
@@ -10,4 +11,4 @@ mod witnesses;
 
 pub use exploring::explore;
 pub use judging::Judged;
-pub use searching::explore_text;
+pub use searching::{Wanted, explore_text};

@@ -2,7 +2,9 @@
 
 ghost use Rattle.std.specs.Prelude.{◌≡◌, ◌%◌, ◌∷◌, ◌++◌, OnOk, decimal, flat_map};
 ghost use Rattle.std.specs.Char.{digit_char};
-ghost use Rattle.sva_grammar.specs.Laws.{access_word, flags_word, group_word, hexadecimal, last_word, step_name, step_values, verdict_word};
+ghost use Rattle.sva_grammar.specs.Laws.{access_word, flags_word, group_word, hexadecimal, last_word, step_name, step_values};
+ghost use Rattle.sva_grammar.specs.Laws.{step_words, verdict_word};
+ghost use Rattle.sva_script_reading.specs.Begins.{joined_words};
 ghost use Rattle.sva_race_reports.specs.Witnesses.{config_line, step_line};
 
 use std::alloc::AllocError;
@@ -227,6 +229,14 @@ fn put_values(out: &mut Vec<u8>, step: Step) -> Result<(), AllocError>
             put_asked(out, read, write, group, last)
         }
     }
+}
+
+/// Appends the words of a step.
+pub(crate) fn put_words(out: &mut Vec<u8>, step: Step) -> Result<(), AllocError>
+    ensures { OnOk result (out.new.items ≡ out.old.items ++ joined_words (step_words step)) }
+{
+    out.extend_from_slice(name_of(step).as_bytes())?;
+    put_values(out, step)
 }
 
 /// Appends the line of a step.

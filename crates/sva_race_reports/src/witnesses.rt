@@ -74,7 +74,10 @@ fn put_who(
         Act::Deliver => out.extend_from_slice(b"link"),
         Act::Pump | Act::Serve => put_numbered(out, "unit ", at),
         Act::Take | Act::Succeed | Act::Invalidate | Act::Fail => put_numbered(out, "worker ", at),
-        Act::End | Act::Finish | Act::Quit => put_numbered(out, "endpoint ", at),
+        Act::End | Act::Finish | Act::Quit | Act::Last => put_numbered(out, "endpoint ", at),
+        Act::Ask | Act::Use | Act::Evict | Act::Fault | Act::Again => {
+            put_numbered(out, "endpoint ", at)
+        }
     }
 }
 
@@ -95,7 +98,7 @@ fn put_move(
 }
 
 /// The choice of a place.
-fn choice_at(choices: &[Choice], place: usize) -> Choice
+pub(crate) fn choice_at(choices: &[Choice], place: usize) -> Choice
     requires { place < length choices.now }
     ensures { slice_get choices.now place ≡ Some result }
 {

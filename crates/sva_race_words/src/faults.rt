@@ -35,18 +35,21 @@ pub enum RaceWanted {
     OfConfig,
     /// An endpoint that no line of a device has yet.
     NewEndpoint,
-    /// `silent`. Budgets of a device aren't read yet.
-    Silent,
+    /// What a device may be told, in this order: how much of what it may do, whether it evicts, its pages, and whether
+    /// it may fall silent.
+    Device,
+    /// A number of times.
+    Amount,
     /// `never`, `always` or `sometimes`.
     Claiming,
-    /// An atom. Those of answers that a step would get, or that were counted, aren't read yet.
+    /// An atom.
     Atom,
+    /// `=>` and an answer, behind a step.
+    Arrow,
     /// `is`.
     Is,
     /// The name of a line.
     LineName,
-    /// The number of a frame.
-    FrameNumber,
 }
 
 /// What is wrong with a line: at which of its words, counted from 0, and what was wanted there. Where the line has no
@@ -96,12 +99,14 @@ fn words_of(wanted: &RaceWanted) -> &'static str
         RaceWanted::OneWorkers => "one line of workers",
         RaceWanted::OfConfig => "an endpoint of the config",
         RaceWanted::NewEndpoint => "an endpoint that no line has yet",
-        RaceWanted::Silent => "silent, all that a device may be told so far",
+        RaceWanted::Device =>
+            "N asks, N uses, N faults, evicts, pages P .. or silent, in this order",
+        RaceWanted::Amount => "a number of times",
         RaceWanted::Claiming => "never, always or sometimes",
-        RaceWanted::Atom => "not, done, usable or the name of a line",
+        RaceWanted::Atom => "not, done, usable, times, a step or the name of a line",
+        RaceWanted::Arrow => "=> and an answer",
         RaceWanted::Is => "is",
         RaceWanted::LineName => "the name of a line",
-        RaceWanted::FrameNumber => "the number of a frame",
     }
 }
 
@@ -112,7 +117,7 @@ const CLAIM_WORDS: [&[u8]; 4] = [b"ends", b"never", b"always", b"sometimes"];
 const LINE_WORDS: [&[u8]; 4] = [b"try", b"thread", b"workers", b"device"];
 
 /// The words that begin an atom, or that it doesn't hold.
-const ATOM_WORDS: [&[u8]; 3] = [b"not", b"done", b"usable"];
+const ATOM_WORDS: [&[u8]; 4] = [b"not", b"done", b"usable", b"times"];
 
 /// The first of some words that is near to a word.
 pub fn first_near(words: &[&'static [u8]], word: &[u8]) -> Option<&'static [u8]>
@@ -161,14 +166,25 @@ fn near_first(word: &[u8]) -> Option<&'static [u8]>
     }
 }
 
+/// The step, or else the name, that is near to a wrong word.
+fn near_step_or_name<'n>(names: &'n Names, word: &[u8]) -> Option<&'n [u8]>
+    ensures { option_map (λ near. near.now) result
+        ≡ or_else (near_among step_names word.now) (near_name names.now word.now) }
+{
+    match near_step(word) {
+        Some(near) => Some(near),
+        None => names.near(word),
+    }
+}
+
 /// The word that begins an atom, or else the name, that is near to a wrong word.
 fn near_in_claim<'n>(names: &'n Names, word: &[u8]) -> Option<&'n [u8]>
-    ensures { option_map (λ near. near.now) result
-        ≡ or_else (near_among atom_words word.now) (near_name names.now word.now) }
+    ensures { option_map (λ near. near.now) result ≡ or_else (near_among atom_words word.now)
+        (or_else (near_among step_names word.now) (near_name names.now word.now)) }
 {
     match near_atom(word) {
         Some(near) => Some(near),
-        None => names.near(word),
+        None => near_step_or_name(names, word),
     }
 }
 

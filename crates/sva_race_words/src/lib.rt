@@ -1,10 +1,12 @@
-//! The words of a race's line, by their places, and what is said of one that is wrong.
+//! The words of a race's line, by their places; whose its step is, and what is said of one that is wrong.
 #![tactic(auto)]
 
 mod faults;
+mod roles;
 mod words;
 
 pub use faults::{
     RaceStop, RaceWanted, RaceWrong, first_near, put_fault, stop_at, word_in, wrong_at,
 };
+pub use roles::{actor_of, role_of};
 pub use words::{count_of, joined, judge_end, piece_len, word_at, words_at, words_from};

@@ -19,6 +19,7 @@ pub use expecting::{expect, is_as_expected};
 pub use faults::{Stop, Wanted, Wrong, at_word};
 pub use given::{Given, Told};
 pub use names::{Names, is_name, name_and_nth};
+pub use numbers::page_in;
 pub use parts::{Parts, name_in, parts_of, split};
 pub use placed_words::put_places;
 pub use places::{Field, places_of};

@@ -6,7 +6,7 @@ ghost use Rattle.std.specs.List.{list_all};
 ghost use Rattle.sva_script.specs.Numbers.{are_digits, list_in, page_by, page_in, with_itag};
 
 /// The page that `0x` and 1 to 16 hexadecimal digits write.
-pub(crate) fn page_in(word: &[u8]) -> Option<u64>
+pub fn page_in(word: &[u8]) -> Option<u64>
     ensures { result ≡ page_in word.now }
 {
     match word {

@@ -4,9 +4,9 @@
 #[cfg(test)]
 mod asserted;
 #[cfg(test)]
-mod races;
+mod leave;
 #[cfg(test)]
-mod reports;
+mod races;
 #[cfg(test)]
 mod searches;
 #[cfg(test)]

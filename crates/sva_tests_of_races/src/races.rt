@@ -59,5 +59,7 @@ pub(crate) fn race(
         },
         silent: Vec::new(alloc),
         claims,
+        counts: Vec::new(alloc),
+        devices: Vec::new(alloc),
     })
 }

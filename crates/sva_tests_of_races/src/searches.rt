@@ -7,7 +7,7 @@ use sva_race::{Atom, Choice, End, Literal, Racing};
 use sva_search::{Found, explore};
 
 /// A space with one page is bound, and the endpoint may use its PASID.
-const BOUND: [Said<'static>; 4] = [
+pub(crate) const BOUND: [Said<'static>; 4] = [
     Said {
         name: None,
         text: "space",
@@ -31,7 +31,7 @@ const BOUND: [Said<'static>; 4] = [
 ];
 
 /// A condition of one atom.
-fn only(alloc: Global, atom: Atom) -> Result<Vec<Vec<Literal>>, AllocError> {
+pub(crate) fn only(alloc: Global, atom: Atom) -> Result<Vec<Vec<Literal>>, AllocError> {
     let mut literals = Vec::new(alloc);
     literals.push(Literal {
         is_not: false,
@@ -90,7 +90,7 @@ fn found<'a>(
 }
 
 /// With how few choices the condition is come to.
-fn fewest(found: &Found<Choice, End>) -> Option<usize> {
+pub(crate) fn fewest(found: &Found<Choice, End>) -> Option<usize> {
     match found.at_states.get(0) {
         Some(Some(witness)) => Some(witness.len()),
         _ => None,

@@ -1,7 +1,7 @@
-//! Texts of races: what they are read as, and what is said of those that are wrong.
+//! Texts of races: what they are read as. What is said of those that are wrong is tried by runs/commands.
 
 use crate::asserted::holds;
-use std::alloc::{AllocError, Global};
+use std::alloc::Global;
 use sva_race::{Atom, Claiming};
 use sva_race_lines::{Text, read_race};
 
@@ -24,13 +24,6 @@ look 0
 sometimes usable 0 0 and not  done out or u is use _ frame m
 ends always done u
 ";
-
-/// What is read of a text, and what is said of it.
-fn read<'a>(alloc: Global, text: &'a str) -> Result<(Option<Text>, Vec<u8>), AllocError> {
-    let mut said = Vec::new(alloc);
-    let found = read_race(alloc, text.as_bytes(), &mut said)?;
-    Ok((found, said))
-}
 
 /// The race of a text.
 fn race(alloc: Global, text: &str) -> Option<Text> {
@@ -154,85 +147,107 @@ fn claims_are_read(rt: HostRuntime) {
     );
 }
 
-/// Races with a line that is wrong, each with what is said of it.
-const WRONG: [(&str, &str); 16] = [
-    (
-        "config 1 4 1\nspace\n",
-        "line 3: end of line: wanted race\n",
-    ),
-    (
-        "config 1 4 1\nrace now\n",
-        "line 2: 'now': wanted no further word\n",
-    ),
-    (
-        "config 1 4 1\nrace\nadvanse 0\n",
-        "line 3: 'advanse': wanted a step, try, thread, workers, device or a claim (advance?)\n",
-    ),
-    (
-        "config 1 4 1\nrace\nspace\nnever usable 0 0\nspace\n",
-        "line 5: 'space': wanted a claim\n",
-    ),
-    (
-        "config 1 4 1\nrace\nd: device 0 silent\n",
-        "line 3: 'd:': wanted no name\n",
-    ),
-    (
-        "config 1 4 1\nrace\nlook 0 => free\n",
-        "line 3: '=>': wanted no answer: claims ask for it\n",
-    ),
-    (
-        "config 1 4 1\nrace\ntry\n",
-        "line 3: end of line: wanted a step\n",
-    ),
-    (
-        "config 1 4 1\nrace\nend 0 v\n",
-        "line 3: 'v': wanted a use slot\n",
-    ),
-    (
-        "config 1 4 1\nrace\nworkers maybe\n",
-        "line 3: 'maybe': wanted success, invalid or failure\n",
-    ),
-    (
-        "config 1 4 1\nrace\nworkers success\nworkers failure\n",
-        "line 4: 'workers': wanted one line of workers\n",
-    ),
-    (
-        "config 2 4 1\nrace\ndevice 4 silent\n",
-        "line 3: '4': wanted an endpoint of the config\n",
-    ),
-    (
-        "config 1 4 1\nrace\ndevice 0 2 asks\n",
-        "line 3: '2': wanted silent, all that a device may be told so far\n",
-    ),
-    (
-        "config 1 4 1\nrace\nends b is gone\n",
-        "line 3: 'b': wanted never, always or sometimes\n",
-    ),
-    (
-        "config 1 4 1\nrace\nnever done c\n",
-        "line 3: 'c': wanted the name of a line\n",
-    ),
-    (
-        "config 1 4 1\nrace\nb: look 0\nnever b is fre\n",
-        "line 4: 'fre': wanted a word of an answer (free?)\n",
-    ),
-    (
-        "config 1 4 1\nrace\nb: look 0\nb: look 1\nalways b waits\n",
-        "line 4: 'b:': wanted a name that no line has yet\nline 5: 'waits': wanted is\n",
-    ),
-];
+/// A race with a device, and with atoms of each kind.
+const DEVICES: &str = "config 2 4 1
+s: space
+m: map s 0x10 w
+b: bind 0 s
+race
+unmap s 0x10
+ask 0 b 3
+device 0 2 asks 1 faults evicts silent
+device 1 3 uses pages 5 0x6
+never times 2 withheld _ and look m => free or usable m or usable 0 1
+";
 
-/// All that is wrong is told.
+/// What the line of a device says is kept.
 #[test]
-fn wrong_lines_are_told(rt: HostRuntime) {
-    for place in 0..WRONG.len() {
-        let (text, wanted) = WRONG[place];
-        match read(rt.alloc(), text) {
-            Ok((found, said)) => {
-                holds(&rt, found.is_none(), "no race", place);
-                holds(&rt, said.as_slice() == wanted.as_bytes(), "said", place);
-            }
-            Err(_refused) => panic!(&rt; "out of memory"),
-        }
+fn devices_are_read(rt: HostRuntime) {
+    let Some(text) = race(rt.alloc(), DEVICES) else {
+        panic!(&rt; "a race")
+    };
+    let (Some(first), Some(second)) = (text.race.devices.get(0), text.race.devices.get(1)) else {
+        panic!(&rt; "two devices")
+    };
+    holds(&rt, first.asks == 2, "asks", 0);
+    holds(&rt, first.uses == 0, "uses", 0);
+    holds(&rt, first.faults == 1, "faults", 0);
+    holds(&rt, first.evicts, "evicts", 0);
+    holds(
+        &rt,
+        first.pages.as_slice() == [16, 3].as_slice(),
+        "pages that lines name",
+        0,
+    );
+    holds(&rt, second.uses == 3, "uses", 1);
+    holds(&rt, !second.evicts, "evicts", 1);
+    holds(
+        &rt,
+        second.pages.as_slice() == [5, 6].as_slice(),
+        "pages",
+        1,
+    );
+    holds(&rt, text.race.silent.get(0) == Some(&true), "silent", 0);
+    holds(&rt, text.race.silent.get(1) == Some(&false), "silent", 1);
+}
+
+/// Whether an atom asks for a usable frame by this step.
+fn looks(atom: &Atom, wanted: &[u8], at: Option<u64>) -> bool {
+    match atom {
+        Atom::Usable { endpoint, look } => look.as_slice() == wanted && *endpoint == at,
+        _ => false,
     }
+}
+
+/// Answers that are counted are kept.
+#[test]
+fn counts_are_read(rt: HostRuntime) {
+    let Some(text) = race(rt.alloc(), DEVICES) else {
+        panic!(&rt; "a race")
+    };
+    let Some(count) = text.race.counts.get(0) else {
+        panic!(&rt; "a count")
+    };
+    holds(&rt, text.race.counts.len() == 1, "counts", 0);
+    holds(&rt, count.times == 2, "times", 0);
+    holds(
+        &rt,
+        count.answer.as_slice() == b"withheld _".as_slice(),
+        "answer",
+        0,
+    );
+}
+
+/// What a step would be answered, and frames by names are kept.
+#[test]
+fn atoms_are_read(rt: HostRuntime) {
+    let Some(text) = race(rt.alloc(), DEVICES) else {
+        panic!(&rt; "a race")
+    };
+    let Some(claim) = text.race.claims.get(0) else {
+        panic!(&rt; "a claim")
+    };
+    holds(&rt, claim.condition.len() == 3, "condition", 0);
+    let (Some(both), Some(named), Some(numbered)) = (
+        claim.condition.get(0),
+        claim.condition.get(1),
+        claim.condition.get(2),
+    ) else {
+        panic!(&rt; "three lists")
+    };
+    let Some(would) = both.get(1) else {
+        panic!(&rt; "a literal")
+    };
+    let is_would = match &would.atom {
+        Atom::Would { step, answer } => {
+            step.as_slice() == b"look m".as_slice() && answer.as_slice() == b"free".as_slice()
+        }
+        _ => false,
+    };
+    holds(&rt, is_would, "would", 0);
+    let (Some(any), Some(at)) = (named.get(0), numbered.get(0)) else {
+        panic!(&rt; "two literals")
+    };
+    holds(&rt, looks(&any.atom, b"look m", None), "usable by name", 0);
+    holds(&rt, looks(&at.atom, b"look 0", Some(1)), "usable", 1);
 }

@@ -13,14 +13,14 @@ loop-place-preserved c =
     let found = c.witness_of-witness.ensures
     ∙ ap (λ (asked : Asked). witness_of c.args.found.now asked.is_of_ends c.loop-place.place) (sym c.index-asked-place.is) in
     let counts = c.with_witness-before.ensures ∙ ap (with_witness before) found in record {
-      said = witness_next race threads c.args.found.now c.args.asked.now c.loop-place.place before c.with_witness-before.result
+      said = witness_next race threads c.args.whys c.args.found.now c.args.asked.now c.loop-place.place before c.with_witness-before.result
           c.index-asked-place.result c.loop-place.out.items c.put_witness_if.new.out.items _ c.loop-place-test.true (sym c.index-asked-place.is) counts
           c.loop-place.invariant.said
-          (c.in_ok-put_witness_if.ensures ∙ ap (λ o. c.loop-place.out.items ++ witness_if race threads before o) found);
+          (c.in_ok-put_witness_if.ensures ∙ ap (λ o. c.loop-place.out.items ++ witness_if race threads c.args.whys before o) found);
       few = few_witnesses before c.with_witness-before.result c.loop-place.place _ counts c.loop-place.invariant.few;
     }
 
 pub returns : goal.returns
 returns c =
-    witnesses_end c.args.race.now c.args.threads.now c.args.found.now c.args.asked.now c.loop-place.place c.loop-place.before c.loop-place.out.items _
+    witnesses_end c.args.race.now c.args.threads.now c.args.whys c.args.found.now c.args.asked.now c.loop-place.place c.loop-place.before c.loop-place.out.items _
     c.loop-place-test.false c.loop-place.invariant.said

@@ -1,6 +1,7 @@
 use Rattle.std.proofs.Common.{◌≡◌, ◌∙◌, ap, arith, length, sym, vec_len}
 use Rattle.std.proofs.lemmas.List.{length-map}
-use Rattle.sva_race_lines.specs.Readings.{Reading, line_seen}
+use Rattle.sva_race_claims.specs.Seen.{line_seen}
+use Rattle.sva_race_lines.specs.Readings.{Reading}
 use Rattle.sva_race_lines.proofs.readings.Reading.count.Goals as goal
 
 pub returns : goal.returns

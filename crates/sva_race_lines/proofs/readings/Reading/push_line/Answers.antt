@@ -1,6 +1,6 @@
 use Rattle.std.proofs.Common.{◌≡◌, ◌∙◌, ◌++◌, ◌∷◌, [], ap, map}
 use Rattle.std.proofs.lemmas.List.{map_push}
-use Rattle.sva_race_lines.specs.Readings.{line_seen}
+use Rattle.sva_race_claims.specs.Seen.{line_seen}
 use Rattle.sva_race_lines.proofs.ListLemmas.{own}
 use Rattle.sva_race_lines.proofs.readings.Reading.push_line.Goals as goal
 

@@ -1,0 +1,4 @@
+pub mod Seen
+pub mod Taking
+pub mod Steps
+pub mod Conditions

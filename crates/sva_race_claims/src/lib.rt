@@ -1,0 +1,9 @@
+//! The conditions of a race's claims, and their atoms; and whether the words of a step are right.
+#![tactic(auto)]
+
+mod atoms;
+mod claims;
+mod steps;
+
+pub use claims::{begins_claim, claiming_of, is_of_ends, read_condition};
+pub use steps::{endpoint_in, is_step, judge_name, judge_step};

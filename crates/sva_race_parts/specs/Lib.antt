@@ -1,0 +1,8 @@
+pub mod Answers
+pub mod Claiming
+pub mod Counts
+pub mod Devices
+pub mod Latest
+pub mod Names
+pub mod Reading
+pub mod Usable

@@ -135,7 +135,7 @@ counted budget count at words =
     if says at (codes "asks") words then Ok (record budget { asks = count }) else
     if says at (codes "uses") words then Ok (record budget { uses = count }) else
     if says at (codes "faults") words then Ok (record budget { faults = count }) else
-    lacking at wanted.Part
+    lacking at wanted.Counted
 
 abbrev pub is_flag : (at : ℕ) → List (List ℕ) → Bool
 is_flag at words = says at (codes "evicts") words || says at (codes "silent") words || says at (codes "lies") words

@@ -33,7 +33,7 @@ fn counted(budget: Budget, count: u64, words: &[&[u8]], at: usize) -> Result<Bud
             ..budget
         });
     }
-    Err(lacking(at, DriverWanted::Part))
+    Err(lacking(at, DriverWanted::Counted))
 }
 
 fn push_page(pages: &mut Vec<u64>, page: u64) -> Result<(), AllocError>

@@ -48,8 +48,9 @@ wanted_text wanted.FrameOrNone = codes "a frame of the config or none"
 wanted_text wanted.Page = codes "the number of a page"
 wanted_text wanted.Order = codes "an order, 0 to 9"
 wanted_text wanted.Index = codes "the index of a group"
-wanted_text wanted.Count = codes "a number"
+wanted_text wanted.Count = codes "a number, 0 to 65535"
 wanted_text wanted.Access = codes "r or w"
+wanted_text wanted.Asked = codes "r, w or rw"
 wanted_text wanted.GroupOrNew = codes "new or the index of a group"
 wanted_text wanted.MoreOrLast = codes "more or last"
 wanted_text wanted.Code = codes "success, invalid or failure"
@@ -59,7 +60,8 @@ wanted_text wanted.DrainOrFence = codes "drain, fence or +"
 wanted_text wanted.Awaited = codes "wait, stopped, queue, groups, reset or the name of a line above"
 wanted_text wanted.WaitAbove = codes "an endpoint at which a line above in this thread submits a wait"
 wanted_text wanted.Lock = codes "the name of a lock"
-wanted_text wanted.Part = codes "asks, uses, faults, evicts, silent, lies or pages"
+wanted_text wanted.Part = codes "a number, 0 to 65535, evicts, silent, lies or pages"
+wanted_text wanted.Counted = codes "asks, uses or faults"
 wanted_text wanted.Permitted = codes "an act that is permitted now"
 
 -- ---- The hint
@@ -74,8 +76,16 @@ act_words =
 unfoldable pub setting_words : List (List ℕ)
 setting_words = codes "link" ∷ codes "waits" ∷ codes "drain" ∷ codes "caches" ∷ codes "stopped" ∷ []
 
-unfoldable pub line_words : List (List ℕ)
-line_words = codes "workers" ∷ codes "device" ∷ codes "race" ∷ codes "thread" ∷ []
+-- the words that begin another line before `race`, and behind it
+unfoldable pub before_words : List (List ℕ)
+before_words = codes "workers" ∷ codes "device" ∷ codes "race" ∷ []
+
+unfoldable pub behind_words : List (List ℕ)
+behind_words = codes "thread" ∷ codes "workers" ∷ codes "device" ∷ []
+
+-- the kinds of messages that scripts don't have
+unfoldable pub more_kind_words : List (List ℕ)
+more_kind_words = codes "status" ∷ []
 
 unfoldable pub descriptor_words : List (List ℕ)
 descriptor_words = codes "range" ∷ codes "pasid" ∷ codes "iotlb" ∷ codes "entry" ∷ codes "wait" ∷ []
@@ -83,9 +93,9 @@ descriptor_words = codes "range" ∷ codes "pasid" ∷ codes "iotlb" ∷ codes "
 -- the word that is near to the wrong one, of those that were wanted
 abbrev pub near_wanted : Known → (word : List ℕ) → DriverWanted → Option (List ℕ)
 near_wanted known word wanted.Before =
-    or_else (near_among act_words word) (or_else (near_among setting_words word) (near_among line_words word))
-near_wanted known word wanted.Behind = or_else (near_among act_words word) (near_among line_words word)
-near_wanted known word wanted.Kind = near_among kind_words word
+    or_else (near_among act_words word) (or_else (near_among setting_words word) (near_among before_words word))
+near_wanted known word wanted.Behind = or_else (near_among act_words word) (near_among behind_words word)
+near_wanted known word wanted.Kind = or_else (near_among kind_words word) (near_among more_kind_words word)
 near_wanted known word wanted.Descriptor = near_among descriptor_words word
 near_wanted known word wanted.Awaited = near_name known word
 near_wanted known word _ = None

@@ -50,7 +50,7 @@ order_at at words = number_at 0 10 at wanted.Order words
 abbrev pub index_at : (at : ℕ) → DriverWanted → List (List ℕ) → Result ℕ DriverWrong
 index_at at want words = number_at 0 512 at want words
 
--- a number that counts
+-- a number of events
 abbrev pub count_at : (at : ℕ) → List (List ℕ) → Result ℕ DriverWrong
 count_at at words = number_at 0 65536 at wanted.Part words
 
@@ -67,7 +67,11 @@ access_at at words =
 
 -- what a page request asks for: is it to be written?
 abbrev pub asked_at : (at : ℕ) → List (List ℕ) → Result Bool DriverWrong
-asked_at at words = if says at (codes "rw") words then Ok true else access_at at words
+asked_at at words =
+    if says at (codes "rw") words then Ok true else
+    if says at (codes "w") words then Ok true else
+    if says at (codes "r") words then Ok false else
+    lacking at wanted.Asked
 
 -- is it the last of its group?
 abbrev pub last_at : (at : ℕ) → List (List ℕ) → Result Bool DriverWrong

@@ -2,11 +2,12 @@
 
 ghost use Rattle.std.specs.Prelude.{◌≡◌, ◌++◌, ◌∷◌, [], OnOk, Some, codes, decimal, map, option_map};
 ghost use Rattle.std.specs.Prelude.{slice_get};
-ghost use Rattle.sva_driver_words.specs.Faults.{act_words, descriptor_words, fault_text, line_words};
-ghost use Rattle.sva_driver_words.specs.Faults.{near_wanted, no_more};
+ghost use Rattle.sva_driver_words.specs.Faults.{act_words, behind_words, before_words, descriptor_words, fault_text};
+ghost use Rattle.sva_driver_words.specs.Faults.{more_kind_words, near_wanted, no_more};
 ghost use Rattle.sva_driver_words.specs.Faults.{setting_words, wanted_text, where_text};
 ghost use Rattle.sva_script_reading.specs.Faults.{or_else};
 ghost use Rattle.sva_words.specs.Near.{near_among};
+ghost use Rattle.sva_words.specs.Reserved.{kind_words};
 
 use std::alloc::AllocError;
 use sva_race_words::{RaceWanted, count_of, first_near, word_in, wrong_at};
@@ -57,10 +58,12 @@ pub enum DriverWanted {
     Order,
     /// The index of a group.
     Index,
-    /// How many.
+    /// How many are older, 0 to 65535.
     Count,
     /// `r` or `w`.
     Access,
+    /// `r`, `w` or `rw`.
+    Asked,
     /// `new`, or the index of a group.
     GroupOrNew,
     /// `more` or `last`.
@@ -79,8 +82,10 @@ pub enum DriverWanted {
     WaitAbove,
     /// The name of a lock.
     Lock,
-    /// What a device may be told.
+    /// What an endpoint is told: a number of events, 0 to 65535, or a word that stands alone.
     Part,
+    /// The events that a number counts.
+    Counted,
     /// An act that is permitted where it stands.
     Permitted,
 }
@@ -149,8 +154,9 @@ fn words_of(wanted: &DriverWanted) -> &'static str
         DriverWanted::Page => "the number of a page",
         DriverWanted::Order => "an order, 0 to 9",
         DriverWanted::Index => "the index of a group",
-        DriverWanted::Count => "a number",
+        DriverWanted::Count => "a number, 0 to 65535",
         DriverWanted::Access => "r or w",
+        DriverWanted::Asked => "r, w or rw",
         DriverWanted::GroupOrNew => "new or the index of a group",
         DriverWanted::MoreOrLast => "more or last",
         DriverWanted::Code => "success, invalid or failure",
@@ -161,7 +167,8 @@ fn words_of(wanted: &DriverWanted) -> &'static str
         DriverWanted::WaitAbove =>
             "an endpoint at which a line above in this thread submits a wait",
         DriverWanted::Lock => "the name of a lock",
-        DriverWanted::Part => "asks, uses, faults, evicts, silent, lies or pages",
+        DriverWanted::Part => "a number, 0 to 65535, evicts, silent, lies or pages",
+        DriverWanted::Counted => "asks, uses or faults",
         DriverWanted::Permitted => "an act that is permitted now",
     }
 }
@@ -176,8 +183,14 @@ const ACT_WORDS: [&[u8]; 25] = [
 /// The words that begin a setting.
 const SETTING_WORDS: [&[u8]; 5] = [b"link", b"waits", b"drain", b"caches", b"stopped"];
 
-/// The words that begin another line.
-const LINE_WORDS: [&[u8]; 4] = [b"workers", b"device", b"race", b"thread"];
+/// The words that begin another line before `race`.
+const BEFORE_WORDS: [&[u8]; 3] = [b"workers", b"device", b"race"];
+
+/// The words that begin another line behind `race`.
+const BEHIND_WORDS: [&[u8]; 3] = [b"thread", b"workers", b"device"];
+
+/// The kinds of messages that scripts don't have.
+const MORE_KINDS: [&[u8]; 1] = [b"status"];
 
 /// The words that begin a descriptor.
 const DESCRIPTOR_WORDS: [&[u8]; 5] = [b"range", b"pasid", b"iotlb", b"entry", b"wait"];
@@ -194,10 +207,22 @@ fn near_setting(word: &[u8]) -> Option<&'static [u8]>
     first_near(&SETTING_WORDS, word)
 }
 
-fn near_line(word: &[u8]) -> Option<&'static [u8]>
-    ensures { option_map (λ near. near.now) result ≡ near_among line_words word.now }
+fn near_line_before(word: &[u8]) -> Option<&'static [u8]>
+    ensures { option_map (λ near. near.now) result ≡ near_among before_words word.now }
 {
-    first_near(&LINE_WORDS, word)
+    first_near(&BEFORE_WORDS, word)
+}
+
+fn near_line_behind(word: &[u8]) -> Option<&'static [u8]>
+    ensures { option_map (λ near. near.now) result ≡ near_among behind_words word.now }
+{
+    first_near(&BEHIND_WORDS, word)
+}
+
+fn near_more_kind(word: &[u8]) -> Option<&'static [u8]>
+    ensures { option_map (λ near. near.now) result ≡ near_among more_kind_words word.now }
+{
+    first_near(&MORE_KINDS, word)
 }
 
 fn near_descriptor(word: &[u8]) -> Option<&'static [u8]>
@@ -209,13 +234,13 @@ fn near_descriptor(word: &[u8]) -> Option<&'static [u8]>
 /// The word that begins a line before `race`, and is near to a wrong one.
 fn near_before(word: &[u8]) -> Option<&'static [u8]>
     ensures { option_map (λ near. near.now) result ≡ or_else (near_among act_words word.now)
-        (or_else (near_among setting_words word.now) (near_among line_words word.now)) }
+        (or_else (near_among setting_words word.now) (near_among before_words word.now)) }
 {
     match near_act(word) {
         Some(near) => Some(near),
         None => match near_setting(word) {
             Some(near) => Some(near),
-            None => near_line(word),
+            None => near_line_before(word),
         },
     }
 }
@@ -223,11 +248,22 @@ fn near_before(word: &[u8]) -> Option<&'static [u8]>
 /// The word that begins a line behind `race`, and is near to a wrong one.
 fn near_behind(word: &[u8]) -> Option<&'static [u8]>
     ensures { option_map (λ near. near.now) result
-        ≡ or_else (near_among act_words word.now) (near_among line_words word.now) }
+        ≡ or_else (near_among act_words word.now) (near_among behind_words word.now) }
 {
     match near_act(word) {
         Some(near) => Some(near),
-        None => near_line(word),
+        None => near_line_behind(word),
+    }
+}
+
+/// The kind of a message that is near to a wrong word.
+fn near_any_kind(word: &[u8]) -> Option<&'static [u8]>
+    ensures { option_map (λ near. near.now) result
+        ≡ or_else (near_among kind_words word.now) (near_among more_kind_words word.now) }
+{
+    match near_kind(word) {
+        Some(near) => Some(near),
+        None => near_more_kind(word),
     }
 }
 
@@ -238,7 +274,7 @@ fn near<'n>(wanted: &DriverWanted, names: &'n Names, word: &[u8]) -> Option<&'n 
     match wanted {
         DriverWanted::Before => near_before(word),
         DriverWanted::Behind => near_behind(word),
-        DriverWanted::Kind => near_kind(word),
+        DriverWanted::Kind => near_any_kind(word),
         DriverWanted::Descriptor => near_descriptor(word),
         DriverWanted::Awaited => names.near(word),
         _ => None,

@@ -68,7 +68,7 @@ pub fn frame_at(
     Ok(value as usize)
 }
 
-/// A PASID.
+/// A PASID, 1 to 32.
 pub fn pasid_at(words: &[&[u8]], at: usize) -> Result<usize, DriverWrong>
     ensures { result ≡ field.pasid_at at (map (λ word. word.now) words.now) }
 {
@@ -76,28 +76,28 @@ pub fn pasid_at(words: &[&[u8]], at: usize) -> Result<usize, DriverWrong>
     Ok(value as usize)
 }
 
-/// A space.
+/// A space, 0 to 63.
 pub fn space_at(words: &[&[u8]], at: usize, wanted: DriverWanted) -> Result<u64, DriverWrong>
     ensures { result ≡ field.space_at at wanted (map (λ word. word.now) words.now) }
 {
     number_at(words, at, 0, 64, wanted)
 }
 
-/// The number of a page.
+/// The number of a page, below 2^36.
 pub fn page_at(words: &[&[u8]], at: usize) -> Result<u64, DriverWrong>
     ensures { result ≡ field.page_at at (map (λ word. word.now) words.now) }
 {
     number_at(words, at, 0, 68_719_476_736, DriverWanted::Page)
 }
 
-/// The order of a range.
+/// The order of a range, 0 to 9.
 pub fn order_at(words: &[&[u8]], at: usize) -> Result<u64, DriverWrong>
     ensures { result ≡ field.order_at at (map (λ word. word.now) words.now) }
 {
     number_at(words, at, 0, 10, DriverWanted::Order)
 }
 
-/// The index of a group.
+/// The index of a group, 0 to 511.
 pub fn index_at(words: &[&[u8]], at: usize, wanted: DriverWanted) -> Result<usize, DriverWrong>
     ensures { result ≡ field.index_at at wanted (map (λ word. word.now) words.now) }
 {
@@ -105,14 +105,14 @@ pub fn index_at(words: &[&[u8]], at: usize, wanted: DriverWanted) -> Result<usiz
     Ok(value as usize)
 }
 
-/// A number that counts.
+/// A number of events, 0 to 65535.
 pub fn count_at(words: &[&[u8]], at: usize) -> Result<u64, DriverWrong>
     ensures { result ≡ field.count_at at (map (λ word. word.now) words.now) }
 {
     number_at(words, at, 0, 65_536, DriverWanted::Part)
 }
 
-/// How many are older; none where nothing is said.
+/// How many are older, 0 to 65535; none where nothing is said.
 pub fn older_at(words: &[&[u8]], at: usize) -> Result<usize, DriverWrong>
     ensures { result ≡ field.older_at at (map (λ word. word.now) words.now) }
 {
@@ -136,14 +136,20 @@ pub fn access_at(words: &[&[u8]], at: usize) -> Result<bool, DriverWrong>
     Err(lacking(at, DriverWanted::Access))
 }
 
-/// Whether it is to be written.
+/// What a page request asks for: whether to write.
 pub fn asked_at(words: &[&[u8]], at: usize) -> Result<bool, DriverWrong>
     ensures { result ≡ field.asked_at at (map (λ word. word.now) words.now) }
 {
     if says(words, at, b"rw") {
         return Ok(true);
     }
-    access_at(words, at)
+    if says(words, at, b"w") {
+        return Ok(true);
+    }
+    if says(words, at, b"r") {
+        return Ok(false);
+    }
+    Err(lacking(at, DriverWanted::Asked))
 }
 
 /// Whether it is the last of its group.

@@ -67,7 +67,7 @@ enum Step {
     Reopen,
 }
 
-const UNMAP: [Step; 5] = [
+static UNMAP: [Step; 5] = [
     Step::Unmap,
     Step::Page,
     Step::Await,
@@ -75,7 +75,7 @@ const UNMAP: [Step; 5] = [
     Step::Leave,
 ];
 
-const SHARE: [Step; 5] = [
+static SHARE: [Step; 5] = [
     Step::Protect,
     Step::Page,
     Step::Await,
@@ -83,7 +83,7 @@ const SHARE: [Step; 5] = [
     Step::Stop,
 ];
 
-const UNBIND: [Step; 7] = [
+static UNBIND: [Step; 7] = [
     Step::Stop,
     Step::Stopped,
     Step::Leave,
@@ -93,7 +93,7 @@ const UNBIND: [Step; 7] = [
     Step::Give,
 ];
 
-const RESET: [Step; 6] = [
+static RESET: [Step; 6] = [
     Step::Close,
     Step::Reset,
     Step::Resets,

@@ -64,6 +64,107 @@ fn is_given_away(early: bool, held: &Held) -> bool {
     }
 }
 
+/// What a step is, where it is one act whatever else was kept: what an endpoint asks for, lets go of, or quits; a step of a
+/// unit that did something; and a page request.
+fn told(step: &Step, answer: &Answer) -> Option<(u64, LocalAct)> {
+    match (*step, answer) {
+        (Step::Pump { endpoint }, Answer::Itag { .. } | Answer::WaitDone) => {
+            Some((endpoint, LocalAct::Pump))
+        }
+        (Step::Serve { endpoint }, Answer::Part | Answer::Job) => {
+            Some((endpoint, LocalAct::Serve))
+        }
+        _ => asked(step),
+    }
+}
+
+/// What an endpoint asks for, lets go of, or quits.
+fn asked(step: &Step) -> Option<(u64, LocalAct)> {
+    match *step {
+        Step::Ask {
+            endpoint,
+            pasid,
+            page,
+        } => {
+            let pasid = pasid as usize;
+            Some((endpoint, LocalAct::Ask { pasid, page }))
+        }
+        Step::Evict {
+            endpoint,
+            pasid,
+            page,
+        } => {
+            let pasid = pasid as usize;
+            Some((endpoint, LocalAct::Evict { pasid, page }))
+        }
+        Step::Quit { endpoint, pasid } => {
+            let pasid = pasid as usize;
+            Some((endpoint, LocalAct::Quit { pasid }))
+        }
+        _ => requested(step),
+    }
+}
+
+/// A page request that an endpoint sends.
+fn requested(step: &Step) -> Option<(u64, LocalAct)> {
+    let Step::Fault {
+        endpoint,
+        pasid,
+        page,
+        write,
+        group,
+        last,
+        ..
+    } = *step
+    else {
+        return None;
+    };
+    let its = match group {
+        None => LocalAct::Fault {
+            pasid: pasid as usize,
+            page,
+            write,
+            last,
+        },
+        Some(index) => LocalAct::More {
+            index: index as usize,
+            page,
+            write,
+            last,
+        },
+    };
+    Some((endpoint, its))
+}
+
+/// The work that a step ends.
+fn ended(step: &Step) -> Option<(u64, Work)> {
+    match *step {
+        Step::EndUse { endpoint, slot } => Some((endpoint, Work::Use { slot })),
+        Step::Finish {
+            endpoint,
+            vector,
+            ..
+        } => {
+            let itag = u64::from(vector.trailing_zeros());
+            Some((endpoint, Work::Taken { itag }))
+        }
+        _ => None,
+    }
+}
+
+/// What is awaited first before a binding goes on.
+fn awaited(one: &Binding) -> Option<LocalAct> {
+    match one.stage {
+        Stage::Stopping { marked: true } => Some(LocalAct::AwaitStopped {
+            pasid: one.pasid as usize,
+        }),
+        Stage::Draining { cookie } | Stage::Invalidating { cookie } => Some(LocalAct::AwaitWait {
+            name: cookie as usize,
+        }),
+        _ => None,
+    }
+}
+
 impl Mirror {
     /// Does an act, which is to be permitted.
     fn does<R: Abort>(&mut self, rt: &R, its: Act, turn: usize) {
@@ -82,33 +183,6 @@ impl Mirror {
             },
             turn,
         );
-    }
-
-    /// What an endpoint asks for, lets go of, or quits.
-    fn asks<R: Abort>(&mut self, rt: &R, step: &Step, turn: usize) {
-        match *step {
-            Step::Ask {
-                endpoint,
-                pasid,
-                page,
-            } => {
-                let pasid = pasid as usize;
-                self.at(rt, endpoint, LocalAct::Ask { pasid, page }, turn);
-            }
-            Step::Evict {
-                endpoint,
-                pasid,
-                page,
-            } => {
-                let pasid = pasid as usize;
-                self.at(rt, endpoint, LocalAct::Evict { pasid, page }, turn);
-            }
-            Step::Quit { endpoint, pasid } => {
-                let pasid = pasid as usize;
-                self.at(rt, endpoint, LocalAct::Quit { pasid }, turn);
-            }
-            _ => {}
-        }
     }
 
     /// A use that begins.
@@ -139,72 +213,25 @@ impl Mirror {
 
     /// A use that ends, or an invalidation that is completed. A use that a reset had ended isn't there any more.
     fn ends<R: Abort>(&mut self, rt: &R, step: &Step, turn: usize) {
-        match *step {
-            Step::EndUse { endpoint, slot } => {
-                if let Some(place) = self.works.end(endpoint, Work::Use { slot }) {
-                    self.at(rt, endpoint, LocalAct::End { place }, turn);
-                }
-            }
-            Step::Finish {
-                endpoint,
-                vector,
-                ..
-            } => {
-                let itag = u64::from(vector.trailing_zeros());
-                if let Some(place) = self.works.end(endpoint, Work::Taken { itag }) {
-                    self.at(rt, endpoint, LocalAct::Finish { place }, turn);
-                }
-            }
-            _ => {}
-        }
-    }
-
-    /// A step of a unit, or a reset.
-    fn units<R: Abort>(&mut self, rt: &R, step: &Step, answer: &Answer, turn: usize) {
-        match (*step, answer) {
-            (Step::Pump { endpoint }, Answer::Itag { .. } | Answer::WaitDone) => {
-                self.at(rt, endpoint, LocalAct::Pump, turn);
-            }
-            (Step::Serve { endpoint }, Answer::Part | Answer::Job) => {
-                self.at(rt, endpoint, LocalAct::Serve, turn);
-            }
-            (Step::Reset { endpoint }, _) => {
-                self.at(rt, endpoint, LocalAct::Close, turn);
-                self.at(rt, endpoint, LocalAct::Reset, turn);
-            }
-            _ => {}
-        }
-    }
-
-    /// A page request that an endpoint sends.
-    fn fault<R: Abort>(&mut self, rt: &R, step: &Step, turn: usize) {
-        let Step::Fault {
-            endpoint,
-            pasid,
-            page,
-            write,
-            group,
-            last,
-            ..
-        } = *step
-        else {
+        let Some((endpoint, work)) = ended(step) else {
             return;
         };
-        let its = match group {
-            None => LocalAct::Fault {
-                pasid: pasid as usize,
-                page,
-                write,
-                last,
-            },
-            Some(index) => LocalAct::More {
-                index: index as usize,
-                page,
-                write,
-                last,
-            },
+        let Some(place) = self.works.end(endpoint, work) else {
+            return;
         };
-        self.at(rt, endpoint, its, turn);
+        let act = match work {
+            Work::Use { .. } => LocalAct::End { place },
+            Work::Taken { .. } => LocalAct::Finish { place },
+        };
+        self.at(rt, endpoint, act, turn);
+    }
+
+    /// A reset: no translation is given from then on, and the endpoint is told.
+    fn resets<R: Abort>(&mut self, rt: &R, step: &Step, turn: usize) {
+        if let Step::Reset { endpoint } = *step {
+            self.at(rt, endpoint, LocalAct::Close, turn);
+            self.at(rt, endpoint, LocalAct::Reset, turn);
+        }
     }
 
     /// A delivery.
@@ -280,21 +307,12 @@ impl Mirror {
         let Some(one) = binding_of(before, binding) else {
             return;
         };
-        let pasid = one.pasid as usize;
-        match one.stage {
-            Stage::Stopping { marked: true } => {
-                self.at(rt, one.endpoint, LocalAct::AwaitStopped { pasid }, turn);
-            }
-            Stage::Draining { cookie } => {
-                let name = cookie as usize;
-                self.at(rt, one.endpoint, LocalAct::AwaitWait { name }, turn);
-                self.at(rt, one.endpoint, LocalAct::AwaitGroups { pasid }, turn);
-            }
-            Stage::Invalidating { cookie } => {
-                let name = cookie as usize;
-                self.at(rt, one.endpoint, LocalAct::AwaitWait { name }, turn);
-            }
-            _ => {}
+        if let Some(act) = awaited(&one) {
+            self.at(rt, one.endpoint, act, turn);
+        }
+        if let Stage::Draining { .. } = one.stage {
+            let pasid = one.pasid as usize;
+            self.at(rt, one.endpoint, LocalAct::AwaitGroups { pasid }, turn);
         }
     }
 
@@ -432,11 +450,12 @@ impl Mirror {
         after: &Snapshot,
         turn: usize,
     ) -> Result<(), AllocError> {
-        self.asks(rt, step, turn);
+        if let Some((endpoint, act)) = told(step, answer) {
+            self.at(rt, endpoint, act, turn);
+        }
         self.begins(rt, step, answer, turn)?;
         self.ends(rt, step, turn);
-        self.units(rt, step, answer, turn);
-        self.fault(rt, step, turn);
+        self.resets(rt, step, turn);
         self.deliver(rt, before, after, step, answer, turn)?;
         self.awaits(rt, before, step, turn);
         self.bindings(rt, before, after, turn);

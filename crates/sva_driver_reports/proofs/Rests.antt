@@ -1,0 +1,203 @@
+-- Texts that are made of one piece for each of a list, at its place.
+use Rattle.std.proofs.Common.{◌≡◌, ◌∙◌, ◌<◌, ◌≤◌, ◌+◌, ap, append-nil, append_assoc, add-one, refl}
+use Rattle.std.proofs.Common.{sym, ℕ, zero, suc, List, [], ◌∷◌, ◌++◌, length, get_or, drop}
+use Rattle.std.proofs.Common.{Option, Some, None, true, false}
+use Rattle.std.specs.Prelude.{if◌then◌else◌, replicate, slice_get}
+use Rattle.std.proofs.lemmas.List.{drop_all, drop_more}
+use Rattle.sva_open.specs.World.{Part}
+use Rattle.sva_open.specs.declared.rows.Row.{Row}
+use Rattle.sva_open.specs.declared.works.Group.{Group}
+use Rattle.sva_judge.specs.Spots.{Spot}
+use Rattle.sva_judge.specs.declared.drivers.Device.{Device}
+use Rattle.sva_judge.specs.declared.drivers.Line.{Line}
+use Rattle.sva_driver_texts.specs.declared.kept.Text.{Text}
+use Rattle.sva_driver_reports.specs.Reports.{budgets_from, group_text, groups_from, marked_text, part_text, parts_from, rows_from, stopping_text}
+use Rattle.sva_driver_reports.specs.Reports.{waiting_place, waits_by}
+use Rattle.sva_driver_reports.specs.Witness.{EventSaid, before_text, befores, lie_text, lies_from, wider, width_from}
+
+-- ---- A piece, and what follows it
+
+pub joined : (old mid new piece rest : List ℕ) → mid ≡ old ++ piece → new ≡ mid ++ rest → new ≡ old ++ (piece ++ rest)
+joined old mid new piece rest first last = last ∙ ap (λ l. l ++ rest) first ∙ append_assoc old piece rest
+
+-- ---- One piece more, and none
+
+module _ {A : Type 0} (all : ℕ → List A → List ℕ) (piece : ℕ → A → List ℕ) where
+  next_piece : ((i : ℕ) (x : A) (xs : List A) → all i (x ∷ xs) ≡ piece i x ++ all (i + 1) xs)
+      → (xs : List A) (i : ℕ) (blank : A) (out new whole : List ℕ) → i < length xs → out ++ all i (drop i xs) ≡ whole
+      → new ≡ out ++ piece i (get_or xs i blank) → new ++ all (i + 1) (drop (i + 1) xs) ≡ whole
+  next_piece opened xs i blank out new whole inside so_far is =
+      let x = get_or xs i blank in
+      ap (λ l. l ++ all (i + 1) (drop (i + 1) xs)) is ∙ append_assoc out (piece i x) (all (i + 1) (drop (i + 1) xs))
+      ∙ sym (ap (λ l. out ++ l) (ap (all i) (drop_more xs i blank inside) ∙ opened i x (drop (i + 1) xs))) ∙ so_far
+
+  last_piece : ((i : ℕ) → all i [] ≡ []) → (xs : List A) (i : ℕ) (out whole : List ℕ) → length xs ≤ i → out ++ all i (drop i xs) ≡ whole
+      → out ≡ whole
+  last_piece none xs i out whole past so_far =
+      sym (append-nil out) ∙ sym (ap (λ l. out ++ l) (ap (all i) (drop_all i xs past) ∙ none i)) ∙ so_far
+
+-- ---- Endpoints that lie
+
+lies_more : (i : ℕ) (x : Part) (xs : List Part) → lies_from i (x ∷ xs) ≡ lie_text i x.lies ++ lies_from (i + 1) xs
+unfolding lies_from
+lies_more i x xs = refl
+
+lies_none : (i : ℕ) → lies_from i [] ≡ []
+unfolding lies_from
+lies_none i = refl
+
+pub lies_next : (xs : List Part) (i : ℕ) (blank : Part) (out new whole : List ℕ) → i < length xs → out ++ lies_from i (drop i xs) ≡ whole
+    → new ≡ out ++ lie_text i (get_or xs i blank).lies → new ++ lies_from (i + 1) (drop (i + 1) xs) ≡ whole
+lies_next xs i blank out new whole inside so_far is =
+    next_piece (λ i xs. lies_from i xs) (λ i (x : Part). lie_text i x.lies) lies_more xs i blank out new whole inside so_far is
+
+pub lies_end : (xs : List Part) (i : ℕ) (out whole : List ℕ) → length xs ≤ i → out ++ lies_from i (drop i xs) ≡ whole → out ≡ whole
+lies_end xs i out whole past so_far = last_piece (λ i xs. lies_from i xs) (λ i (x : Part). lie_text i x.lies) lies_none xs i out whole past so_far
+
+-- ---- PASIDs
+
+rows_more : (endpoint : ℕ) (i : ℕ) (x : Row) (xs : List Row) → rows_from endpoint i (x ∷ xs) ≡ stopping_text endpoint i x ++ rows_from endpoint (i + 1) xs
+unfolding rows_from
+rows_more endpoint i x xs = refl
+
+rows_none : (endpoint : ℕ) (i : ℕ) → rows_from endpoint i [] ≡ []
+unfolding rows_from
+rows_none endpoint i = refl
+
+pub rows_next : (endpoint : ℕ) (xs : List Row) (i : ℕ) (blank : Row) (out new whole : List ℕ) → i < length xs
+    → out ++ rows_from endpoint i (drop i xs) ≡ whole
+    → new ≡ out ++ stopping_text endpoint i (get_or xs i blank) → new ++ rows_from endpoint (i + 1) (drop (i + 1) xs) ≡ whole
+rows_next endpoint xs i blank out new whole inside so_far is =
+    next_piece (λ i xs. rows_from endpoint i xs) (λ i x. stopping_text endpoint i x) (rows_more endpoint) xs i blank out new whole inside so_far is
+
+pub rows_end : (endpoint : ℕ) (xs : List Row) (i : ℕ) (out whole : List ℕ) → length xs ≤ i → out ++ rows_from endpoint i (drop i xs) ≡ whole → out ≡ whole
+rows_end endpoint xs i out whole past so_far = last_piece (λ i xs. rows_from endpoint i xs) (λ i x. stopping_text endpoint i x)
+    (rows_none endpoint) xs i out whole past so_far
+
+-- ---- Groups
+
+groups_more : (endpoint : ℕ) (i : ℕ) (x : (Option Group)) (xs : List (Option Group))
+    → groups_from endpoint i (x ∷ xs) ≡ group_text endpoint i x ++ groups_from endpoint (i + 1) xs
+unfolding groups_from
+groups_more endpoint i x xs = refl
+
+groups_none : (endpoint : ℕ) (i : ℕ) → groups_from endpoint i [] ≡ []
+unfolding groups_from
+groups_none endpoint i = refl
+
+pub groups_next : (endpoint : ℕ) (xs : List (Option Group)) (i : ℕ) (blank : (Option Group)) (out new whole : List ℕ) → i < length xs
+    → out ++ groups_from endpoint i (drop i xs) ≡ whole
+    → new ≡ out ++ group_text endpoint i (get_or xs i blank) → new ++ groups_from endpoint (i + 1) (drop (i + 1) xs) ≡ whole
+groups_next endpoint xs i blank out new whole inside so_far is =
+    next_piece (λ i xs. groups_from endpoint i xs) (λ i x. group_text endpoint i x) (groups_more endpoint) xs i blank out new whole inside so_far is
+
+pub groups_end : (endpoint : ℕ) (xs : List (Option Group)) (i : ℕ) (out whole : List ℕ) → length xs ≤ i
+    → out ++ groups_from endpoint i (drop i xs) ≡ whole → out ≡ whole
+groups_end endpoint xs i out whole past so_far = last_piece (λ i xs. groups_from endpoint i xs) (λ i x. group_text endpoint i x)
+    (groups_none endpoint) xs i out whole past so_far
+
+-- ---- Endpoints
+
+parts_more : (i : ℕ) (x : Part) (xs : List Part) → parts_from i (x ∷ xs) ≡ part_text i x ++ parts_from (i + 1) xs
+unfolding parts_from
+parts_more i x xs = refl
+
+parts_none : (i : ℕ) → parts_from i [] ≡ []
+unfolding parts_from
+parts_none i = refl
+
+pub parts_next : (xs : List Part) (i : ℕ) (blank : Part) (out new whole : List ℕ) → i < length xs → out ++ parts_from i (drop i xs) ≡ whole
+    → new ≡ out ++ part_text i (get_or xs i blank) → new ++ parts_from (i + 1) (drop (i + 1) xs) ≡ whole
+parts_next xs i blank out new whole inside so_far is =
+    next_piece (λ i xs. parts_from i xs) (λ i x. part_text i x) parts_more xs i blank out new whole inside so_far is
+
+pub parts_end : (xs : List Part) (i : ℕ) (out whole : List ℕ) → length xs ≤ i → out ++ parts_from i (drop i xs) ≡ whole → out ≡ whole
+parts_end xs i out whole past so_far = last_piece (λ i xs. parts_from i xs) (λ i x. part_text i x) parts_none xs i out whole past so_far
+
+-- ---- Budgets
+
+budgets_more : (mark : List ℕ) (of : List Part) (i : ℕ) (x : Device) (xs : List Device)
+    → budgets_from mark of i (x ∷ xs) ≡ marked_text mark of i x ++ budgets_from mark of (i + 1) xs
+unfolding budgets_from
+budgets_more mark of i x xs = refl
+
+budgets_none : (mark : List ℕ) (of : List Part) (i : ℕ) → budgets_from mark of i [] ≡ []
+unfolding budgets_from
+budgets_none mark of i = refl
+
+pub budgets_next : (mark : List ℕ) (of : List Part) (xs : List Device) (i : ℕ) (blank : Device) (out new whole : List ℕ) → i < length xs
+    → out ++ budgets_from mark of i (drop i xs) ≡ whole
+    → new ≡ out ++ marked_text mark of i (get_or xs i blank) → new ++ budgets_from mark of (i + 1) (drop (i + 1) xs) ≡ whole
+budgets_next mark of xs i blank out new whole inside so_far is =
+    next_piece (λ i xs. budgets_from mark of i xs) (λ i x. marked_text mark of i x) (budgets_more mark of) xs i blank out new whole inside so_far is
+
+pub budgets_end : (mark : List ℕ) (of : List Part) (xs : List Device) (i : ℕ) (out whole : List ℕ) → length xs ≤ i
+    → out ++ budgets_from mark of i (drop i xs) ≡ whole → out ≡ whole
+budgets_end mark of xs i out whole past so_far = last_piece (λ i xs. budgets_from mark of i xs) (λ i x. marked_text mark of i x)
+    (budgets_none mark of) xs i out whole past so_far
+
+-- ---- The lines before `race`
+
+pub none_before : (text : Text) → befores text 0 ≡ []
+unfolding befores
+none_before text = refl
+
+one_before : (text : Text) (place : ℕ)
+    → befores text (suc place) ≡ befores text place ++ before_text (slice_get text.driver.lines.items place) (slice_get text.said.items place)
+unfolding befores
+one_before text place = refl
+
+pub next_before : (text : Text) (place : ℕ) (first out new : List ℕ) → out ≡ first ++ befores text place
+    → new ≡ out ++ before_text (slice_get text.driver.lines.items place) (slice_get text.said.items place)
+    → new ≡ first ++ befores text (place + 1)
+next_before text place first out new so_far is =
+    let piece = before_text (slice_get text.driver.lines.items place) (slice_get text.said.items place) in
+    is ∙ ap (λ l. l ++ piece) so_far ∙ append_assoc first (befores text place) piece
+    ∙ sym (ap (λ l. first ++ l) (ap (befores text) (add-one place) ∙ one_before text place))
+
+-- ---- The line that waits
+
+pub waiting_more : (text : Text) (spot : Spot) (lines : List Line) (place : ℕ) (blank : Line) → place < length lines
+    → waits_by spot place (get_or lines place blank) (slice_get text.said.items place) ≡ false
+    → waiting_place text spot place (drop place lines) ≡ waiting_place text spot (place + 1) (drop (place + 1) lines)
+unfolding waiting_place
+waiting_more text spot lines place blank inside other =
+    ap (waiting_place text spot place) (drop_more lines place blank inside)
+    ∙ ap (λ b. if b then Some place else waiting_place text spot (place + 1) (drop (place + 1) lines)) other
+
+pub waiting_here : (text : Text) (spot : Spot) (lines : List Line) (place : ℕ) (blank : Line) → place < length lines
+    → waits_by spot place (get_or lines place blank) (slice_get text.said.items place) ≡ true
+    → waiting_place text spot place (drop place lines) ≡ Some place
+unfolding waiting_place
+waiting_here text spot lines place blank inside it =
+    ap (waiting_place text spot place) (drop_more lines place blank inside)
+    ∙ ap (λ b. if b then Some place else waiting_place text spot (place + 1) (drop (place + 1) lines)) it
+
+pub waiting_none : (text : Text) (spot : Spot) (lines : List Line) (place : ℕ) → length lines ≤ place
+    → waiting_place text spot place (drop place lines) ≡ None
+unfolding waiting_place
+waiting_none text spot lines place past = ap (waiting_place text spot place) (drop_all place lines past)
+
+-- ---- Widths
+
+pub wider_more : (width next : ℕ) (events : List EventSaid) (place : ℕ) (blank : EventSaid) → place < length events
+    → next ≡ wider width (get_or events place blank) → width_from width (drop place events) ≡ width_from next (drop (place + 1) events)
+unfolding width_from
+wider_more width next events place blank inside is =
+    ap (width_from width) (drop_more events place blank inside) ∙ ap (λ w. width_from w (drop (place + 1) events)) (sym is)
+
+pub wider_none : (width : ℕ) (events : List EventSaid) (place : ℕ) → length events ≤ place → width_from width (drop place events) ≡ width
+unfolding width_from
+wider_none width events place past = ap (width_from width) (drop_all place events past)
+
+-- ---- Blanks
+
+one_more : {A : Type 0} (x : A) (n : ℕ) → replicate n x ++ x ∷ [] ≡ replicate (suc n) x
+one_more x zero = refl
+one_more x (suc n) = ap (λ l. x ∷ l) (one_more x n)
+
+pub blank_more : (first out new : List ℕ) (count : ℕ) → out ≡ first ++ replicate count 32 → new ≡ out ++ 32 ∷ []
+    → new ≡ first ++ replicate (count + 1) 32
+blank_more first out new count so_far is =
+    is ∙ ap (λ l. l ++ 32 ∷ []) so_far ∙ append_assoc first (replicate count 32) (32 ∷ [])
+    ∙ ap (λ l. first ++ l) (one_more 32 count ∙ sym (ap (λ n. replicate n 32) (add-one count)))

@@ -1,0 +1,117 @@
+-- What link, units, workers and endpoints do, as lines that are read as the same acts.
+use Rattle.std.specs.Prelude.{ℕ, ◌==◌, if◌then◌else◌, Bool, true, false, List, [], ◌++◌, codes, count_by, decimal, slice_get, take}
+use Rattle.std.specs.Prelude.{Option, Some, None}
+use Rattle.sva_open.specs.World.{Part}
+use Rattle.sva_open.specs.declared.acts.LocalAct.{LocalAct}
+use Rattle.sva_open.specs.declared.acts.LocalAct.TheVariants as local
+use Rattle.sva_open.specs.declared.messages.Sent.{Sent}
+use Rattle.sva_open.specs.declared.rows.KeptEntry.{KeptEntry}
+use Rattle.sva_open.specs.declared.frames.Translation.{Translation}
+use Rattle.sva_open.specs.declared.works.Group.{Group}
+use Rattle.sva_judge.specs.Finding.{is_of_kind, is_taken, is_use, kind_of}
+use Rattle.sva_judge.specs.declared.naming.Kind.{Kind}
+use Rattle.sva_judge.specs.declared.naming.Kind.TheVariants as kind
+
+-- a blank and a number
+abbrev pub and_number : ℕ → List ℕ
+and_number number = codes " " ++ decimal number
+
+-- a word with an endpoint, a PASID, a page
+abbrev pub with_endpoint : (word : List ℕ) → (endpoint : ℕ) → List ℕ
+with_endpoint word endpoint = word ++ and_number endpoint
+
+abbrev pub with_pasid : (word : List ℕ) → (endpoint pasid : ℕ) → List ℕ
+with_pasid word endpoint pasid = with_endpoint word endpoint ++ and_number pasid
+
+abbrev pub with_page : (word : List ℕ) → (endpoint pasid page : ℕ) → List ℕ
+with_page word endpoint pasid page = with_pasid word endpoint pasid ++ and_number page
+
+-- of how many older ones is said where there are some
+abbrev pub and_older : (older : ℕ) → List ℕ
+and_older older = if older == 0 then [] else and_number older
+
+abbrev pub access_text : (write : Bool) → List ℕ
+access_text true = codes " w"
+access_text false = codes " r"
+
+abbrev pub last_text : (last : Bool) → List ℕ
+last_text true = codes " last"
+last_text false = codes " more"
+
+abbrev pub code_text : (fails : Bool) → List ℕ
+code_text true = codes " failure"
+code_text false = codes " success"
+
+abbrev pub kind_text : Kind → List ℕ
+kind_text kind.Start = codes "start"
+kind_text kind.Stop = codes "stop"
+kind_text kind.Reset = codes "reset"
+kind_text kind.Completion = codes "completion"
+kind_text kind.Invalidate = codes "invalidate"
+kind_text kind.Response = codes "response"
+kind_text kind.Request = codes "request"
+kind_text kind.Invalidated = codes "invalidated"
+kind_text kind.PageRequest = codes "page-request"
+kind_text kind.Marker = codes "marker"
+kind_text kind.Status = codes "status"
+kind_text kind.ResetDone = codes "reset-done"
+
+-- of one it is said otherwise than of more
+abbrev pub counted_text : (count : ℕ) → (one more : List ℕ) → List ℕ
+counted_text count one more = decimal count ++ codes " " ++ (if count == 1 then one else more)
+
+-- ---- What is named by its age
+
+abbrev pub older_messages : List Sent → (place : ℕ) → Sent → ℕ
+older_messages flight place one = count_by (is_of_kind (kind_of one.message)) (take place flight)
+
+abbrev pub delivered_text : Part → (endpoint place : ℕ) → Option Sent → List ℕ
+delivered_text part endpoint place None = []
+delivered_text part endpoint place (Some one) =
+    codes "deliver " ++ with_endpoint (kind_text (kind_of one.message)) endpoint ++ and_older (older_messages part.flight place one)
+
+abbrev pub more_text : (endpoint pasid index page : ℕ) → (write last : Bool) → List ℕ
+more_text endpoint pasid index page write last =
+    with_page (codes "fault") endpoint pasid page ++ access_text write ++ and_number index ++ last_text last
+
+abbrev pub more_request : (endpoint index page : ℕ) → (write last : Bool) → Option (Option Group) → List ℕ
+more_request endpoint index page write last None = []
+more_request endpoint index page write last (Some None) = []
+more_request endpoint index page write last (Some (Some group)) = more_text endpoint group.pasid index page write last
+
+abbrev pub entry_forgotten : (endpoint : ℕ) → Option KeptEntry → List ℕ
+entry_forgotten endpoint None = []
+entry_forgotten endpoint (Some kept) = with_pasid (codes "forget") endpoint kept.pasid
+
+abbrev pub page_forgotten : (endpoint : ℕ) → Option Translation → List ℕ
+page_forgotten endpoint None = []
+page_forgotten endpoint (Some kept) = with_page (codes "forget") endpoint kept.pasid kept.page
+
+abbrev pub response_text : (endpoint pasid index : ℕ) → (fails : Bool) → List ℕ
+response_text endpoint pasid index fails = with_page (codes "respond") endpoint pasid index ++ code_text fails
+
+abbrev pub begun_text : (endpoint pasid page : ℕ) → (write last : Bool) → List ℕ
+begun_text endpoint pasid page write last =
+    with_page (codes "fault") endpoint pasid page ++ access_text write ++ codes " new" ++ last_text last
+
+-- ---- Each act that comes by itself
+
+abbrev pub local_text : Part → (endpoint : ℕ) → LocalAct → List ℕ
+local_text part endpoint (local.Deliver place) = delivered_text part endpoint place (slice_get part.flight place)
+local_text part endpoint local.Pump = with_endpoint (codes "pump") endpoint
+local_text part endpoint local.Serve = with_endpoint (codes "serve") endpoint
+local_text part endpoint (local.Respond pasid index fails) = response_text endpoint pasid index fails
+local_text part endpoint (local.End place) =
+    with_endpoint (codes "end") endpoint ++ and_older (count_by is_use (take place part.works))
+local_text part endpoint (local.Finish place) =
+    with_endpoint (codes "finish") endpoint ++ and_older (count_by is_taken (take place part.works))
+local_text part endpoint (local.Quit pasid) = with_pasid (codes "quit") endpoint pasid
+local_text part endpoint (local.More index page write last) =
+    more_request endpoint index page write last (slice_get part.groups index)
+local_text part endpoint (local.Ask pasid page) = with_page (codes "ask") endpoint pasid page
+local_text part endpoint (local.Use pasid page) = with_page (codes "use") endpoint pasid page
+local_text part endpoint (local.Fault pasid page write last) = begun_text endpoint pasid page write last
+local_text part endpoint (local.Evict pasid page) = with_page (codes "evict") endpoint pasid page
+local_text part endpoint (local.ForgetEntry place) = entry_forgotten endpoint (slice_get part.kept_entries place)
+local_text part endpoint (local.Forget place) = page_forgotten endpoint (slice_get part.kept place)
+local_text part endpoint _ = []

@@ -1,0 +1,4 @@
+pub mod Events
+pub mod Findings
+pub mod Reports
+pub mod Witness

@@ -1,0 +1,166 @@
+-- The report of a driver that was judged, and what it says in a word.
+use Rattle.std.specs.Prelude.{ℕ, ◌+◌, not, if◌then◌else◌, Bool, true, false, List, [], ◌∷◌, ◌++◌, codes, length, slice_get}
+use Rattle.std.specs.Prelude.{Option, Some, None}
+use Rattle.sva_open.specs.World.{Part, is_stopping}
+use Rattle.sva_open.specs.declared.rows.Row.{Row}
+use Rattle.sva_open.specs.declared.works.Group.{Group}
+use Rattle.sva_open_wrongs.specs.Wrongs.{first_wrong}
+use Rattle.sva_open_wrongs.specs.declared.wrongs.Wrong.{Wrong}
+use Rattle.sva_judge.specs.declared.choices.Choice.{Choice}
+use Rattle.sva_judge.specs.declared.drivers.Device.{Device}
+use Rattle.sva_judge.specs.declared.drivers.Line.{Line}
+use Rattle.sva_judge.specs.Choices.{is_next}
+use Rattle.sva_judge.specs.Spots.{Spot, start_of}
+use Rattle.sva_judge.specs.declared.verdicts.Verdict.{Verdict}
+use Rattle.sva_judge.specs.declared.verdicts.Verdict.TheVariants as verdict
+use Rattle.sva_driver_texts.specs.declared.kept.Said.{Said}
+use Rattle.sva_driver_texts.specs.declared.kept.Text.{Text}
+use Rattle.sva_driver_reports.specs.Events.{and_number, counted_text, with_endpoint}
+use Rattle.sva_driver_reports.specs.Findings.{wrong_text}
+use Rattle.sva_driver_reports.specs.Witness.{EventSaid, events_from, events_text, front_text, last_spot, line_who, said_if}
+use Rattle.sva_driver_reports.specs.declared.reports.Ruling.{Ruling}
+use Rattle.sva_driver_reports.specs.declared.reports.Ruling.TheVariants as ruling
+
+abbrev pub moments_text : (count : ℕ) → List ℕ
+moments_text count = counted_text count (codes "moment") (codes "moments")
+
+abbrev pub events_count : (count : ℕ) → List ℕ
+events_count count = counted_text count (codes "event") (codes "events")
+
+-- ---- What endpoints may do by themselves
+
+abbrev pub within_text : (endpoint : ℕ) → Device → (lies : Bool) → List ℕ
+within_text endpoint device lies =
+    with_endpoint (codes "within endpoint") endpoint ++ codes ": "
+    ++ counted_text device.budget.asks (codes "ask") (codes "asks") ++ codes ", "
+    ++ counted_text device.budget.uses (codes "use") (codes "uses") ++ codes ", "
+    ++ counted_text device.budget.faults (codes "fault") (codes "faults")
+    ++ said_if device.evicts (codes ", evicts") ++ said_if device.is_silent (codes ", silent") ++ said_if lies (codes ", lies") ++ 10 ∷ []
+
+abbrev pub lies_in : Option Part → Bool
+lies_in None = false
+lies_in (Some part) = part.lies
+
+-- each line behind a mark
+abbrev pub marked_text : (mark : List ℕ) → List Part → (endpoint : ℕ) → Device → List ℕ
+marked_text mark parts endpoint device = mark ++ within_text endpoint device (lies_in (slice_get parts endpoint))
+
+unfoldable pub budgets_from : (mark : List ℕ) → List Part → (endpoint : ℕ) → List Device → List ℕ
+budgets_from mark parts endpoint [] = []
+budgets_from mark parts endpoint (device ∷ devices) =
+    marked_text mark parts endpoint device ++ budgets_from mark parts (endpoint + 1) devices
+
+abbrev pub budgets_text : (mark : List ℕ) → Text → List ℕ
+budgets_text mark text = budgets_from mark text.driver.start.parts 0 text.driver.devices.items
+
+-- ---- What endpoints are at, where a line waits
+
+abbrev pub stopping_text : (endpoint pasid : ℕ) → Row → List ℕ
+stopping_text endpoint pasid row =
+    said_if (is_stopping row.state)
+    (with_endpoint (codes "# endpoint") endpoint ++ codes " is told to stop PASID" ++ and_number pasid ++ 10 ∷ [])
+
+unfoldable pub rows_from : (endpoint pasid : ℕ) → List Row → List ℕ
+rows_from endpoint pasid [] = []
+rows_from endpoint pasid (row ∷ rows) = stopping_text endpoint pasid row ++ rows_from endpoint (pasid + 1) rows
+
+abbrev pub finished_text : (is_finished : Bool) → List ℕ
+finished_text true = codes ", which isn't answered\n"
+finished_text false = codes ", which isn't finished\n"
+
+abbrev pub group_text : (endpoint index : ℕ) → Option Group → List ℕ
+group_text endpoint index None = []
+group_text endpoint index (Some group) =
+    with_endpoint (codes "# endpoint") endpoint ++ codes " has group" ++ and_number index ++ codes " of PASID"
+    ++ and_number group.pasid ++ finished_text group.is_finished
+
+unfoldable pub groups_from : (endpoint index : ℕ) → List (Option Group) → List ℕ
+groups_from endpoint index [] = []
+groups_from endpoint index (group ∷ groups) = group_text endpoint index group ++ groups_from endpoint (index + 1) groups
+
+abbrev pub disabled_text : (endpoint : ℕ) → List ℕ
+disabled_text endpoint =
+    with_endpoint (codes "# endpoint") endpoint ++ codes " may send no page request: a response was a Response Failure\n"
+
+abbrev pub part_text : (endpoint : ℕ) → Part → List ℕ
+part_text endpoint part =
+    rows_from endpoint 0 part.rows ++ groups_from endpoint 0 part.groups
+    ++ said_if (not part.is_enabled) (disabled_text endpoint)
+
+unfoldable pub parts_from : (endpoint : ℕ) → List Part → List ℕ
+parts_from endpoint [] = []
+parts_from endpoint (part ∷ parts) = part_text endpoint part ++ parts_from (endpoint + 1) parts
+
+-- a line that is the next one of its thread
+abbrev pub waits_by : Spot → (place : ℕ) → Line → Option Said → Bool
+waits_by spot place line None = false
+waits_by spot place line (Some said) = is_next spot place line
+
+-- the place of the first of them
+unfoldable pub waiting_place : Text → Spot → (place : ℕ) → List Line → Option ℕ
+waiting_place text spot place [] = None
+waiting_place text spot place (line ∷ lines) =
+    if waits_by spot place line (slice_get text.said.items place) then Some place else waiting_place text spot (place + 1) lines
+
+abbrev pub forever_text : (thread : List ℕ) → (number : ℕ) → List ℕ
+forever_text thread number = line_who thread number ++ codes ", waits for ever"
+
+abbrev pub waiting_told : Option Line → Option Said → List ℕ
+waiting_told (Some line) (Some said) = forever_text said.thread.items line.number
+waiting_told line said = []
+
+abbrev pub waiting_at : Text → Option ℕ → List ℕ
+waiting_at text None = []
+waiting_at text (Some place) = waiting_told (slice_get text.driver.lines.items place) (slice_get text.said.items place)
+
+abbrev pub waiting_text : Text → Spot → List ℕ
+waiting_text text spot = waiting_at text (waiting_place text spot 0 text.driver.lines.items)
+
+-- ---- The report
+
+abbrev pub finding_text : Option Wrong → List ℕ
+finding_text None = []
+finding_text (Some found) = wrong_text found
+
+abbrev pub behind : Text → List Choice → Spot
+behind text choices = last_spot text (start_of text.driver) choices
+
+abbrev pub events_by : Text → List Choice → List EventSaid
+events_by text choices = events_from text (start_of text.driver) choices
+
+abbrev pub witness_by : Text → List EventSaid → List ℕ
+witness_by text events = front_text text ++ events_text events
+
+abbrev pub witness_text : Text → List Choice → List ℕ
+witness_text text choices = witness_by text (events_by text choices)
+
+abbrev pub unsafe_text : Text → List Choice → List ℕ
+unsafe_text text choices =
+    codes "unsafe in " ++ events_count (length choices) ++ codes ": " ++ finding_text (first_wrong (behind text choices).world)
+    ++ 10 ∷ witness_text text choices
+
+abbrev pub stuck_text : Text → List Choice → List ℕ
+stuck_text text choices =
+    codes "stuck in " ++ events_count (length choices) ++ codes ": "
+    ++ waiting_text text (behind text choices)
+    ++ 10 ∷ parts_from 0 (behind text choices).world.parts
+    ++ budgets_text (codes "# ") text ++ witness_text text choices
+
+abbrev pub safe_text : Text → (moments : ℕ) → List ℕ
+safe_text text moments = codes "safe in all " ++ moments_text moments ++ 10 ∷ budgets_text (codes "") text
+
+abbrev pub cut_text : (moments events : ℕ) → List ℕ
+cut_text moments events =
+    codes "cut off at " ++ moments_text moments ++ codes ": safe in each list of fewer than " ++ events_count events ++ 10 ∷ []
+
+abbrev pub report_text : Text → Verdict → List ℕ
+report_text text (verdict.Safe moments) = safe_text text moments
+report_text text (verdict.Unsafe witness) = unsafe_text text witness.items
+report_text text (verdict.Stuck witness moments) = stuck_text text witness.items
+report_text text (verdict.CutOff moments events) = cut_text moments events
+
+abbrev pub ruling_of : Verdict → Ruling
+ruling_of (verdict.Safe moments) = ruling.Safe
+ruling_of (verdict.Unsafe witness) = ruling.Unsafe
+ruling_of (verdict.Stuck witness moments) = ruling.Stuck
+ruling_of (verdict.CutOff moments events) = ruling.CutOff

@@ -1,0 +1,187 @@
+-- A witness as a driver without `race`: its front, and a line for each event, with who acts.
+use Rattle.std.specs.Prelude.{ℕ, zero, suc, ◌+◌, ◌-◌, nat_lt, ◌&&◌, not, if◌then◌else◌, Bool, true, false, List, [], ◌∷◌, ◌++◌, codes, decimal, flat_map}
+use Rattle.std.specs.Prelude.{length, replicate, slice_get, Option, Some, None}
+use Rattle.sva_step.specs.declared.limits.Config.{Config}
+use Rattle.sva_open.specs.World.{Part}
+use Rattle.sva_open.specs.declared.acts.Act.TheVariants as act
+use Rattle.sva_open.specs.declared.acts.LocalAct.{LocalAct}
+use Rattle.sva_open.specs.declared.acts.LocalAct.TheVariants as local
+use Rattle.sva_open.specs.declared.settings.Settings.{Settings}
+use Rattle.sva_open.specs.declared.settings.Link.{Link}
+use Rattle.sva_open.specs.declared.settings.Link.TheVariants.{Free, Posted}
+use Rattle.sva_open.specs.declared.settings.Stopped.{Stopped}
+use Rattle.sva_open.specs.declared.settings.Stopped.TheVariants.{Marker, Status, Known}
+use Rattle.sva_judge.specs.declared.choices.Choice.{Choice}
+use Rattle.sva_judge.specs.declared.choices.Doing.{Doing}
+use Rattle.sva_judge.specs.declared.choices.Doing.TheVariants as doing
+use Rattle.sva_judge.specs.declared.drivers.Line.{Line}
+use Rattle.sva_judge.specs.declared.drivers.Saying.{Saying}
+use Rattle.sva_judge.specs.declared.drivers.Saying.TheVariants as saying
+use Rattle.sva_judge.specs.Choices.{act_of, next_in}
+use Rattle.sva_judge.specs.Spots.{Spot}
+use Rattle.sva_driver_texts.specs.declared.kept.Said.{Said}
+use Rattle.sva_driver_texts.specs.declared.kept.Text.{Text}
+use Rattle.sva_driver_reports.specs.Events.{and_number, local_text, with_endpoint}
+
+-- ---- Lines
+
+-- an act that waits and does nothing else
+abbrev pub is_wait : LocalAct → Bool
+is_wait (local.AwaitWait name) = true
+is_wait local.AwaitQueue = true
+is_wait (local.AwaitQueueOf pasid) = true
+is_wait (local.AwaitGroups pasid) = true
+is_wait local.AwaitResets = true
+is_wait _ = false
+
+abbrev pub waits : Saying → Bool
+waits (saying.AwaitsLine line) = true
+waits (saying.AwaitsWaits endpoint line) = true
+waits (saying.Does (act.At endpoint its)) = is_wait its
+waits _ = false
+
+-- before `race` a line has no thread
+abbrev pub threaded : (thread : List ℕ) → List ℕ
+threaded [] = []
+threaded thread = thread ++ codes ", "
+
+abbrev pub line_who : (thread : List ℕ) → (number : ℕ) → List ℕ
+line_who thread number = threaded thread ++ codes "line " ++ decimal number
+
+-- ---- Events
+
+-- its line, who acts, and whether it waits and does nothing else
+pub record EventSaid : Type 0 where
+  pub text : List ℕ
+  pub who : List ℕ
+  pub waits : Bool
+
+abbrev pub line_event : Option Line → Option Said → Option EventSaid
+line_event (Some line) (Some said) =
+    Some (record { text = said.text.items; who = line_who said.thread.items line.number; waits = waits line.saying })
+line_event line said = None
+
+abbrev pub who_text : Doing → (at : ℕ) → List ℕ
+who_text doing.Line at = []
+who_text doing.Deliver at = codes "link"
+who_text doing.Pump at = with_endpoint (codes "unit") at
+who_text doing.ForgetEntry at = with_endpoint (codes "unit") at
+who_text doing.Forget at = with_endpoint (codes "unit") at
+who_text doing.Serve at = codes "worker"
+who_text doing.Answer at = codes "worker"
+who_text doing.Fail at = codes "worker"
+who_text other at = with_endpoint (codes "endpoint") at
+
+abbrev pub act_event : Doing → (at : ℕ) → Option Part → Option LocalAct → Option EventSaid
+act_event own at (Some part) (Some its) = Some (record { text = local_text part at its; who = who_text own at; waits = false })
+act_event own at part its = None
+
+abbrev pub own_by : Text → Spot → Doing → (at number : ℕ) → Option EventSaid
+own_by text spot own at number = act_event own at (slice_get spot.world.parts at) (act_of text.driver spot own at number)
+
+abbrev pub own_event : Text → Spot → Choice → Option EventSaid
+own_event text spot choice = own_by text spot choice.doing choice.at choice.number
+
+abbrev pub event_by : Text → Spot → Doing → (at number : ℕ) → Option EventSaid
+event_by text spot doing.Line at number = line_event (slice_get text.driver.lines.items number) (slice_get text.said.items number)
+event_by text spot own at number = own_by text spot own at number
+
+abbrev pub event_of : Text → Spot → Choice → Option EventSaid
+event_of text spot choice = event_by text spot choice.doing choice.at choice.number
+
+abbrev pub with_event : Option EventSaid → Option Spot → (rest : Spot → List EventSaid) → List EventSaid
+with_event None next rest = []
+with_event (Some event) None rest = event ∷ []
+with_event (Some event) (Some next) rest = event ∷ rest next
+
+-- the events of choices, one after another
+unfoldable pub events_from : Text → Spot → List Choice → List EventSaid
+events_from text spot [] = []
+events_from text spot (choice ∷ choices) =
+    with_event (event_of text spot choice) (next_in text.driver spot choice) (λ next. events_from text next choices)
+
+-- where they lead
+abbrev pub spot_behind : Spot → Option EventSaid → Option Spot → (rest : Spot → Spot) → Spot
+spot_behind spot None next rest = spot
+spot_behind spot (Some event) None rest = spot
+spot_behind spot (Some event) (Some next) rest = rest next
+
+unfoldable pub last_spot : Text → Spot → List Choice → Spot
+last_spot text spot [] = spot
+last_spot text spot (choice ∷ choices) =
+    spot_behind spot (event_of text spot choice) (next_in text.driver spot choice) (λ next. last_spot text next choices)
+
+-- ---- Their lines: who acts begins in one column
+
+abbrev pub wider : (width : ℕ) → EventSaid → ℕ
+wider width event = if not event.waits && nat_lt width (length event.text) then length event.text else width
+
+unfoldable pub width_from : (width : ℕ) → List EventSaid → ℕ
+width_from width [] = width
+width_from width (event ∷ events) = width_from (wider width event) events
+
+abbrev pub padded : (width : ℕ) → List ℕ → List ℕ
+padded width text = text ++ replicate (width - length text) 32
+
+abbrev pub waiting_line : EventSaid → List ℕ
+waiting_line event = codes "# " ++ event.who ++ codes ": " ++ event.text ++ 10 ∷ []
+
+abbrev pub doing_line : (width : ℕ) → EventSaid → List ℕ
+doing_line width event = padded width event.text ++ codes " # " ++ event.who ++ 10 ∷ []
+
+abbrev pub event_line : (width : ℕ) → EventSaid → List ℕ
+event_line width event = if event.waits then waiting_line event else doing_line width event
+
+abbrev pub events_text : List EventSaid → List ℕ
+events_text events = flat_map (event_line (width_from 0 events)) events
+
+-- ---- The front
+
+abbrev pub link_text : Link → List ℕ
+link_text Free = codes ""
+link_text Posted = codes "link posted\n"
+
+abbrev pub stopped_text : Stopped → List ℕ
+stopped_text Marker = codes ""
+stopped_text Status = codes "stopped status\n"
+stopped_text Known = codes "stopped known\n"
+
+abbrev pub said_if : Bool → List ℕ → List ℕ
+said_if true text = text
+said_if false text = []
+
+-- the settings that aren't those that hold where nothing is said
+abbrev pub settings_text : Settings → List ℕ
+settings_text settings =
+    link_text settings.link
+    ++ said_if (not settings.all_fence) (codes "waits plain\n")
+    ++ said_if (not settings.drain_empties) (codes "drain arrived\n")
+    ++ said_if settings.has_caches (codes "caches on\n")
+    ++ stopped_text settings.stopped
+
+abbrev pub lie_text : (endpoint : ℕ) → (lies : Bool) → List ℕ
+lie_text endpoint lies = said_if lies (with_endpoint (codes "device") endpoint ++ codes " lies\n")
+
+unfoldable pub lies_from : (endpoint : ℕ) → List Part → List ℕ
+lies_from endpoint [] = []
+lies_from endpoint (part ∷ parts) = lie_text endpoint part.lies ++ lies_from (endpoint + 1) parts
+
+-- a line before `race`
+abbrev pub before_text : Option Line → Option Said → List ℕ
+before_text (Some line) (Some said) =
+    said_if (waits line.saying) (codes "# " ++ line_who said.thread.items line.number ++ codes ": ") ++ said.text.items ++ 10 ∷ []
+before_text line said = []
+
+-- so many of them
+unfoldable pub befores : Text → (count : ℕ) → List ℕ
+befores text zero = []
+befores text (suc place) =
+    befores text place ++ before_text (slice_get text.driver.lines.items place) (slice_get text.said.items place)
+
+abbrev pub config_text : Config → List ℕ
+config_text config = codes "config" ++ and_number config.endpoints ++ and_number config.frames ++ and_number config.workers ++ 10 ∷ []
+
+abbrev pub front_text : Text → List ℕ
+front_text text =
+    config_text text.config ++ settings_text text.driver.start.settings ++ lies_from 0 text.driver.start.parts
+    ++ befores text text.before ++ codes "# race\n"

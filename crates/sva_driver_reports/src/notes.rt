@@ -1,0 +1,262 @@
+//! What endpoints may do by themselves, and what they are at where a line waits.
+
+ghost use Rattle.std.specs.Prelude.{◌≡◌, ◌++◌, OnOk, slice_get};
+ghost use Rattle.sva_judge.specs.Choices as choices;
+ghost use Rattle.sva_driver_reports.specs.Reports as reports;
+
+use crate::fronts::put_if;
+use crate::pieces::{put_counted, put_endpoint, put_one};
+use crate::witness::put_line_who;
+use std::alloc::AllocError;
+use sva_driver_texts::Text;
+use sva_judge::{Device, Line, Spot};
+use sva_open::{Group, Part, Row};
+
+/// Appends what an endpoint may do by itself.
+fn put_within(
+    out: &mut Vec<u8>,
+    endpoint: usize,
+    device: &Device,
+    lies: bool,
+) -> Result<(), AllocError>
+    ensures { OnOk result (out.new.items ≡ out.old.items ++ reports.within_text endpoint device.now lies) }
+{
+    put_endpoint(out, b"within endpoint", endpoint)?;
+    out.extend_from_slice(b": ")?;
+    put_counted(out, device.budget.asks, "ask", "asks")?;
+    out.extend_from_slice(b", ")?;
+    put_counted(out, device.budget.uses, "use", "uses")?;
+    out.extend_from_slice(b", ")?;
+    put_counted(out, device.budget.faults, "fault", "faults")?;
+    put_if(out, device.evicts, b", evicts")?;
+    put_if(out, device.is_silent, b", silent")?;
+    put_if(out, lies, b", lies")?;
+    out.extend_from_slice(b"\n")?;
+    Ok(())
+}
+
+fn lies_in(parts: &[Part], endpoint: usize) -> bool
+    ensures { result ≡ reports.lies_in (slice_get parts.now endpoint) }
+{
+    match parts.get(endpoint) {
+        None => false,
+        Some(part) => part.lies,
+    }
+}
+
+/// Appends what an endpoint may do by itself, behind a mark.
+fn put_marked(
+    out: &mut Vec<u8>,
+    mark: &[u8],
+    parts: &[Part],
+    endpoint: usize,
+    device: &Device,
+) -> Result<(), AllocError>
+    ensures { OnOk result (out.new.items ≡ out.old.items
+        ++ reports.marked_text mark.now parts.now endpoint device.now) }
+{
+    out.extend_from_slice(mark)?;
+    put_within(out, endpoint, device, lies_in(parts, endpoint))
+}
+
+/// Appends what each endpoint may do by itself, each line behind a mark.
+fn put_all_budgets(
+    out: &mut Vec<u8>,
+    mark: &[u8],
+    parts: &[Part],
+    devices: &[Device],
+) -> Result<(), AllocError>
+    ensures { OnOk result (out.new.items ≡ out.old.items ++ reports.budgets_from mark.now parts.now 0 devices.now) }
+{
+    for endpoint in 0..devices.len() {
+        put_marked(out, mark, parts, endpoint, &devices[endpoint])?;
+    }
+    Ok(())
+}
+
+/// Appends what each endpoint may do by itself, each line behind a mark.
+pub(crate) fn put_budgets(out: &mut Vec<u8>, mark: &[u8], text: &Text) -> Result<(), AllocError>
+    ensures { OnOk result (out.new.items ≡ out.old.items ++ reports.budgets_text mark.now text.now) }
+{
+    put_all_budgets(
+        out,
+        mark,
+        text.driver.start.parts.as_slice(),
+        text.driver.devices.as_slice(),
+    )
+}
+
+/// Appends that a PASID is to stop, if it is.
+fn put_stopping(
+    out: &mut Vec<u8>,
+    endpoint: usize,
+    pasid: usize,
+    row: &Row,
+) -> Result<(), AllocError>
+    ensures { OnOk result (out.new.items ≡ out.old.items ++ reports.stopping_text endpoint pasid row.now) }
+{
+    if !row.state.is_stopping() {
+        return Ok(());
+    }
+    put_endpoint(out, b"# endpoint", endpoint)?;
+    out.extend_from_slice(b" is told to stop PASID")?;
+    put_one(out, pasid as u64)?;
+    out.extend_from_slice(b"\n")
+}
+
+fn put_rows(out: &mut Vec<u8>, endpoint: usize, rows: &[Row]) -> Result<(), AllocError>
+    ensures { OnOk result (out.new.items ≡ out.old.items ++ reports.rows_from endpoint 0 rows.now) }
+{
+    for pasid in 0..rows.len() {
+        put_stopping(out, endpoint, pasid, &rows[pasid])?;
+    }
+    Ok(())
+}
+
+fn finished_text(is_finished: bool) -> &'static str
+    ensures { result.now ≡ reports.finished_text is_finished }
+{
+    if is_finished {
+        ", which isn't answered\n"
+    } else {
+        ", which isn't finished\n"
+    }
+}
+
+/// Appends a group, if there is one.
+fn put_group(
+    out: &mut Vec<u8>,
+    endpoint: usize,
+    index: usize,
+    group: Option<Group>,
+) -> Result<(), AllocError>
+    ensures { OnOk result (out.new.items ≡ out.old.items ++ reports.group_text endpoint index group) }
+{
+    let Some(group) = group else {
+        return Ok(());
+    };
+    put_endpoint(out, b"# endpoint", endpoint)?;
+    out.extend_from_slice(b" has group")?;
+    put_one(out, index as u64)?;
+    out.extend_from_slice(b" of PASID")?;
+    put_one(out, group.pasid as u64)?;
+    out.extend_from_slice(finished_text(group.is_finished).as_bytes())?;
+    Ok(())
+}
+
+fn put_groups(
+    out: &mut Vec<u8>,
+    endpoint: usize,
+    groups: &[Option<Group>],
+) -> Result<(), AllocError>
+    ensures { OnOk result (out.new.items ≡ out.old.items ++ reports.groups_from endpoint 0 groups.now) }
+{
+    for index in 0..groups.len() {
+        put_group(out, endpoint, index, groups[index])?;
+    }
+    Ok(())
+}
+
+fn put_disabled(out: &mut Vec<u8>, endpoint: usize) -> Result<(), AllocError>
+    ensures { OnOk result (out.new.items ≡ out.old.items ++ reports.disabled_text endpoint) }
+{
+    put_endpoint(out, b"# endpoint", endpoint)?;
+    out.extend_from_slice(b" may send no page request: a response was a Response Failure\n")
+}
+
+/// Appends what an endpoint is at.
+fn put_part(out: &mut Vec<u8>, endpoint: usize, part: &Part) -> Result<(), AllocError>
+    ensures { OnOk result (out.new.items ≡ out.old.items ++ reports.part_text endpoint part.now) }
+{
+    put_rows(out, endpoint, part.rows.as_slice())?;
+    put_groups(out, endpoint, part.groups.as_slice())?;
+    if part.is_enabled {
+        return Ok(());
+    }
+    put_disabled(out, endpoint)?;
+    Ok(())
+}
+
+/// Appends what each endpoint is at.
+fn put_parts(out: &mut Vec<u8>, parts: &[Part]) -> Result<(), AllocError>
+    ensures { OnOk result (out.new.items ≡ out.old.items ++ reports.parts_from 0 parts.now) }
+{
+    for endpoint in 0..parts.len() {
+        put_part(out, endpoint, &parts[endpoint])?;
+    }
+    Ok(())
+}
+
+/// Appends what each endpoint is at, at a spot.
+pub(crate) fn put_state(out: &mut Vec<u8>, spot: &Spot) -> Result<(), AllocError>
+    ensures { OnOk result (out.new.items ≡ out.old.items ++ reports.parts_from 0 spot.now.world.parts) }
+{
+    put_parts(out, spot.world.parts.as_slice())
+}
+
+/// Whether a line is the next one of its thread.
+fn is_next(spot: &Spot, place: usize, line: &Line) -> bool
+    ensures { result ≡ choices.is_next spot.now place line.now }
+{
+    if spot.taken.get(place).copied().unwrap_or(true) {
+        return false;
+    }
+    match line.after {
+        None => true,
+        Some(after) => spot.taken.get(after).copied().unwrap_or(true),
+    }
+}
+
+/// Appends that a line waits for ever.
+fn put_forever(out: &mut Vec<u8>, thread: &[u8], number: u64) -> Result<(), AllocError>
+    ensures { OnOk result (out.new.items ≡ out.old.items ++ reports.forever_text thread.now number) }
+{
+    put_line_who(out, thread, number)?;
+    out.extend_from_slice(b", waits for ever")
+}
+
+/// Whether the line at a place waits.
+fn waits_at(text: &Text, spot: &Spot, place: usize, line: &Line) -> bool
+    ensures { result ≡ reports.waits_by spot.now place line.now (slice_get text.now.said.items place) }
+{
+    match text.said.get(place) {
+        None => false,
+        Some(_said) => is_next(spot, place, line),
+    }
+}
+
+/// The place of the first line that waits, of these.
+fn waiting_place(text: &Text, spot: &Spot, lines: &[Line]) -> Option<usize>
+    ensures { result ≡ reports.waiting_place text.now spot.now 0 lines.now }
+{
+    for place in 0..lines.len() {
+        if waits_at(text, spot, place, &lines[place]) {
+            return Some(place);
+        }
+    }
+    None
+}
+
+/// Appends that the line at a place waits for ever.
+fn put_waiting_at(out: &mut Vec<u8>, text: &Text, place: usize) -> Result<(), AllocError>
+    ensures { OnOk result (out.new.items ≡ out.old.items
+        ++ reports.waiting_told (slice_get text.now.driver.lines.items place) (slice_get text.now.said.items place)) }
+{
+    let Some(line) = text.driver.lines.get(place) else {
+        return Ok(());
+    };
+    let Some(said) = text.said.get(place) else {
+        return Ok(());
+    };
+    put_forever(out, said.thread.as_slice(), line.number)
+}
+
+/// Appends the first line that waits.
+pub(crate) fn put_waiting(out: &mut Vec<u8>, text: &Text, spot: &Spot) -> Result<(), AllocError>
+    ensures { OnOk result (out.new.items ≡ out.old.items ++ reports.waiting_text text.now spot.now) }
+{
+    match waiting_place(text, spot, text.driver.lines.as_slice()) {
+        None => Ok(()),
+        Some(place) => put_waiting_at(out, text, place),
+    }
+}

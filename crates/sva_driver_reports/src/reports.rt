@@ -1,0 +1,153 @@
+//! The report of a driver that was judged.
+
+ghost use Rattle.std.specs.Prelude.{◌≡◌, ◌++◌, IfOk, OnOk};
+ghost use Rattle.sva_open_wrongs.specs.Wrongs as wrongs;
+ghost use Rattle.sva_driver_reports.specs.Reports as reports;
+
+use crate::findings::put_wrong;
+use crate::fronts::put_front;
+use crate::notes::{put_budgets, put_state, put_waiting};
+use crate::pieces::put_counted;
+use crate::witness::{Event, events_of, put_events};
+use std::alloc::{AllocError, Global};
+use sva_driver_texts::Text;
+use sva_judge::{Choice, Spot, Verdict, start};
+use sva_open_wrongs::first_wrong;
+
+/// What is said of a driver.
+#[derive(Clone, Copy, PartialEq, Eq)]
+pub enum Ruling {
+    /// Each permitted list of events is safe, and no line waits at an end.
+    Safe,
+    /// One isn't.
+    Unsafe,
+    /// Each is, but a line waits at an end.
+    Stuck,
+    /// There was no room for one more moment.
+    CutOff,
+}
+
+fn put_event_count(out: &mut Vec<u8>, count: usize) -> Result<(), AllocError>
+    ensures { OnOk result (out.new.items ≡ out.old.items ++ reports.events_count count) }
+{
+    put_counted(out, count as u64, "event", "events")
+}
+
+/// Appends what is wrong at a moment.
+fn put_finding(out: &mut Vec<u8>, spot: &Spot) -> Result<(), AllocError>
+    ensures { OnOk result (out.new.items
+        ≡ out.old.items ++ reports.finding_text (wrongs.first_wrong spot.now.world)) }
+{
+    match first_wrong(&spot.world) {
+        None => Ok(()),
+        Some(wrong) => put_wrong(out, wrong),
+    }
+}
+
+/// The events of a witness, and where they lead.
+fn witness_of(
+    alloc: Global,
+    text: &Text,
+    choices: &[Choice],
+) -> Result<(Vec<Event>, Spot), AllocError>
+    ensures events { IfOk result (λ witness. witness.0.items ≡ reports.events_by text.now choices.now) }
+    ensures spot { IfOk result (λ witness. witness.1 ≡ reports.behind text.now choices.now) }
+{
+    let mut spot = start(alloc, &text.driver)?;
+    let events = events_of(alloc, text, &mut spot, choices)?;
+    Ok((events, spot))
+}
+
+/// Appends a witness as a driver without `race`.
+fn put_witness(out: &mut Vec<u8>, text: &Text, events: &[Event]) -> Result<(), AllocError>
+    ensures { OnOk result (out.new.items ≡ out.old.items ++ reports.witness_by text.now events.now) }
+{
+    put_front(out, text)?;
+    put_events(out, events)
+}
+
+fn put_unsafe(
+    alloc: Global,
+    out: &mut Vec<u8>,
+    text: &Text,
+    choices: &[Choice],
+) -> Result<(), AllocError>
+    ensures { OnOk result (out.new.items ≡ out.old.items ++ reports.unsafe_text text.now choices.now) }
+{
+    let (events, spot) = witness_of(alloc, text, choices)?;
+    out.extend_from_slice(b"unsafe in ")?;
+    put_event_count(out, choices.len())?;
+    out.extend_from_slice(b": ")?;
+    put_finding(out, &spot)?;
+    out.extend_from_slice(b"\n")?;
+    put_witness(out, text, events.as_slice())?;
+    Ok(())
+}
+
+fn put_stuck(
+    alloc: Global,
+    out: &mut Vec<u8>,
+    text: &Text,
+    choices: &[Choice],
+) -> Result<(), AllocError>
+    ensures { OnOk result (out.new.items ≡ out.old.items ++ reports.stuck_text text.now choices.now) }
+{
+    let (events, spot) = witness_of(alloc, text, choices)?;
+    out.extend_from_slice(b"stuck in ")?;
+    put_event_count(out, choices.len())?;
+    out.extend_from_slice(b": ")?;
+    put_waiting(out, text, &spot)?;
+    out.extend_from_slice(b"\n")?;
+    put_state(out, &spot)?;
+    put_budgets(out, b"# ", text)?;
+    put_witness(out, text, events.as_slice())?;
+    Ok(())
+}
+
+fn put_safe(out: &mut Vec<u8>, text: &Text, moments: usize) -> Result<(), AllocError>
+    ensures { OnOk result (out.new.items ≡ out.old.items ++ reports.safe_text text.now moments) }
+{
+    out.extend_from_slice(b"safe in all ")?;
+    put_counted(out, moments as u64, "moment", "moments")?;
+    out.extend_from_slice(b"\n")?;
+    put_budgets(out, b"", text)
+}
+
+fn put_cut(out: &mut Vec<u8>, moments: usize, events: usize) -> Result<(), AllocError>
+    ensures { OnOk result (out.new.items ≡ out.old.items ++ reports.cut_text moments events) }
+{
+    out.extend_from_slice(b"cut off at ")?;
+    put_counted(out, moments as u64, "moment", "moments")?;
+    out.extend_from_slice(b": safe in each list of fewer than ")?;
+    put_event_count(out, events)?;
+    out.extend_from_slice(b"\n")
+}
+
+/// What a verdict says in a word.
+pub fn ruling_of(verdict: &Verdict) -> Ruling
+    ensures { result ≡ reports.ruling_of verdict.now }
+{
+    match verdict {
+        Verdict::Safe { .. } => Ruling::Safe,
+        Verdict::Unsafe { .. } => Ruling::Unsafe,
+        Verdict::Stuck { .. } => Ruling::Stuck,
+        Verdict::CutOff { .. } => Ruling::CutOff,
+    }
+}
+
+/// Appends the report of a driver that was judged.
+pub fn put_report(
+    alloc: Global,
+    out: &mut Vec<u8>,
+    text: &Text,
+    verdict: &Verdict,
+) -> Result<(), AllocError>
+    ensures { OnOk result (out.new.items ≡ out.old.items ++ reports.report_text text.now verdict.now) }
+{
+    match verdict {
+        Verdict::Safe { moments } => put_safe(out, text, *moments),
+        Verdict::Unsafe { witness } => put_unsafe(alloc, out, text, witness.as_slice()),
+        Verdict::Stuck { witness, .. } => put_stuck(alloc, out, text, witness.as_slice()),
+        Verdict::CutOff { moments, events } => put_cut(out, *moments, *events),
+    }
+}

@@ -1,0 +1,3 @@
+mod Fronts
+mod Lines
+mod Told

@@ -1,0 +1,32 @@
+-- The driver before its first line, by what calls make of what was read.
+use Rattle.std.proofs.Common.{◌≡◌, ◌∙◌, ap, refl, subst, sym, ℕ, Bool, false, List, [], ◌∷◌, length, map, replicate}
+use Rattle.std.proofs.lemmas.List.{length-map}
+use Rattle.sva_step.specs.declared.limits.Config.{Config}
+use Rattle.sva_open.specs.World.{Open, opened}
+use Rattle.sva_open.specs.declared.settings.Settings.{Settings}
+use Rattle.sva_judge.specs.declared.drivers.Driver.{Driver}
+use Rattle.sva_driver_lines.specs.declared.kept.DeviceRead.{DeviceRead}
+use Rattle.sva_driver_lines.specs.Devices.{device_seen}
+use Rattle.sva_driver_lines.specs.Readings.{Reading}
+use Rattle.sva_driver_texts.specs.Texts.{IsOpening, lies_of}
+
+pub map_twice : {A B C : Type 0} (g : B → C) (f : A → B) (xs : List A) → map (λ x. g (f x)) xs ≡ map g (map f xs)
+map_twice g f [] = refl
+map_twice g f (x ∷ xs) = ap (λ rest. g (f x) ∷ rest) (map_twice g f xs)
+
+-- the world, by which endpoints lie
+pub start_by : (config : Config) (settings : Settings) (own devices : List DeviceRead) (now : Open)
+    → now ≡ opened settings (map (λ (device : DeviceRead). device.lies) own) 33 config.frames → own ≡ devices
+    → now ≡ opened settings (map lies_of (map device_seen devices)) 33 config.frames
+start_by config settings own devices now is same =
+    is ∙ ap (λ all. opened settings (map (λ (device : DeviceRead). device.lies) all) 33 config.frames) same
+    ∙ ap (λ lies. opened settings lies 33 config.frames) (map_twice lies_of device_seen devices)
+
+-- as many as there are in a list
+pub as_many : {A B : Type 0} (seen : A → B) (xs : List A) (list : List Bool) (count : ℕ) → list ≡ replicate count false → count ≡ length xs
+    → list ≡ replicate (length (map seen xs)) false
+as_many seen xs list count is counted = is ∙ ap (λ n. replicate n false) (counted ∙ sym (length-map xs seen))
+
+pub by_view : (config : Config) (seen reading : Reading) (driver : Driver) → seen ≡ reading → IsOpening config seen driver
+    → IsOpening config reading driver
+by_view config seen reading driver is opening = subst (λ (own : Reading). IsOpening config own driver) is opening

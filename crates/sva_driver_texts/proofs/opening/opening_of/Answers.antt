@@ -1,0 +1,30 @@
+use Rattle.std.proofs.Common.{◌≡◌, ◌∙◌, ap, arith, length, map, vec_len}
+use Rattle.sva_driver_acts.specs.Awaits.{line_seen}
+use Rattle.sva_driver_lines.specs.Devices.{device_seen}
+use Rattle.sva_driver_lines.specs.Readings.{Reading}
+use Rattle.sva_driver_texts.specs.Plans.{planned_from}
+use Rattle.sva_driver_texts.specs.Texts.{done_of, told_of}
+use Rattle.sva_driver_texts.proofs.Openings.{as_many, by_view, map_twice, start_by}
+use Rattle.sva_driver_texts.proofs.opening.opening_of.Goals as goal
+
+pub returns-clause-driver : goal.returns-clause-driver
+returns-clause-driver c =
+    let lines = c.reading.inside.lines.items in
+    let own = c.reading.inside.devices.items in
+    let acts = c.as_slice-acts.ensures.value in
+    let locks : vec_len c.reading.inside.locks ≡ length c.reading.inside.locks.items = omega (arith, c.reading.inside.locks.ok.0) in
+    by_view c.args.config.now _ c.args.reading _ c.reading.view_is
+    (record {
+      start = start_by c.args.config.now c.reading.inside.settings _ own c.in_ok-start.start c.in_ok-start.ensures c.as_slice-own.ensures.value;
+      lines = c.in_ok-lines.ensures.lines ∙ map_twice done_of line_seen lines;
+      taken = as_many line_seen lines _ _ c.in_ok-taken.ensures (ap length acts);
+      locked = as_many (λ lock. lock.items) c.reading.inside.locks.items _ _ c.in_ok-locked.ensures (c.len.ensures ∙ locks);
+      devices = c.in_ok-devices.ensures
+          ∙ (λ i. planned_from (map line_seen (acts i)) 0 (map device_seen (c.as_slice-own.ensures.value i)));
+      workers = c.workers_or-workers.ensures;
+    })
+
+pub returns-clause-said : goal.returns-clause-said
+returns-clause-said c =
+    c.in_ok-lines.ensures.said ∙ map_twice told_of line_seen c.reading.inside.lines.items
+    ∙ ap (λ (reading : Reading). map told_of reading.lines) c.reading.view_is

@@ -1,0 +1,202 @@
+-- A text as a driver: what is read of its lines, and the world behind those that stand before `race`.
+use Rattle.std.specs.Prelude.{◌≡◌, ℕ, zero, suc, ◌+◌, if◌then◌else◌, Bool, true, false, List, [], ◌∷◌, length, map, replicate, slice_get}
+use Rattle.std.specs.Prelude.{Option, Some, None, Result, Ok, Err, codes}
+use Rattle.std.specs.Option.{unwrap_or}
+use Rattle.sva_step.specs.declared.limits.Config.{Config}
+use Rattle.sva_step.specs.declared.refusals.Refusal.TheVariants.{BadConfig}
+use Rattle.sva_step.specs.Refusals.{refusal_text}
+use Rattle.sva_grammar.specs.Grammar.{◌>>=◌, is_too_large}
+use Rattle.sva_scenario.specs.Report.{ended, is_fit}
+use Rattle.sva_script.specs.Lines.{parts_of, script_words}
+use Rattle.sva_script.specs.Names.{Known}
+use Rattle.sva_script_reading.specs.Begins.{Line, config_in, lines_from, noted}
+use Rattle.sva_script_reading.specs.Faults as scripts
+use Rattle.sva_script_reading.specs.Faults.{Fault}
+use Rattle.sva_race_words.specs.declared.faults.RaceWanted.TheVariants as race
+use Rattle.sva_open.specs.World.{Open, opened}
+use Rattle.sva_judge.specs.declared.choices.Choice.{Choice}
+use Rattle.sva_judge.specs.declared.choices.Doing.TheVariants as doing
+use Rattle.sva_judge.specs.declared.drivers.Driver.{Driver}
+use Rattle.sva_judge.specs.declared.drivers.Line.{Line as Kept}
+use Rattle.sva_judge.specs.declared.drivers.Workers.{Workers}
+use Rattle.sva_judge.specs.Choices.{next_in}
+use Rattle.sva_judge.specs.Spots.{Spot, start_of}
+use Rattle.sva_driver_words.specs.Faults.{fault_text}
+use Rattle.sva_driver_words.specs.declared.faults.DriverWanted.TheVariants as wanted
+use Rattle.sva_driver_acts.specs.Awaits.{LineSaid}
+use Rattle.sva_driver_acts.specs.Sayings.{SayingSaid, saying_seen}
+use Rattle.sva_driver_lines.specs.Devices.{DeviceSaid, no_workers}
+use Rattle.sva_driver_lines.specs.Readings.{Reading, read_of}
+use Rattle.sva_driver_texts.specs.Plans.{device_seen, planned_from}
+use Rattle.sva_driver_texts.specs.declared.kept.Read.{Read}
+use Rattle.sva_driver_texts.specs.declared.kept.Said.{Said}
+use Rattle.sva_driver_texts.specs.declared.kept.Text.{Text}
+
+-- ---- The names of all lines, by which near ones are told
+
+unfoldable pub names_from : Known → List Line → Known
+names_from known [] = known
+names_from known (line ∷ lines) = names_from (noted known line.0 (parts_of (script_words line.1)).name) lines
+
+-- ---- The lines, as they are judged and as they are told
+
+pub record LineDone : Type 0 where
+  pub number : ℕ
+  pub after : Option ℕ
+  pub saying : SayingSaid
+
+abbrev pub done_of : LineSaid → LineDone
+done_of line = record { number = line.number; after = line.after; saying = line.saying }
+
+abbrev pub done_seen : Kept → LineDone
+done_seen line = record { number = line.number; after = line.after; saying = saying_seen line.saying }
+
+pub record LineTold : Type 0 where
+  pub thread : List ℕ
+  pub text : List ℕ
+
+abbrev pub told_of : LineSaid → LineTold
+told_of line = record { thread = line.thread; text = line.text }
+
+abbrev pub told_seen : Said → LineTold
+told_seen said = record { thread = said.thread.items; text = said.text.items }
+
+-- ---- The world in which nothing was done yet: PASIDs are below 33
+
+abbrev pub lies_of : DeviceSaid → Bool
+lies_of device = device.lies
+
+abbrev pub opened_by : Config → Reading → Open
+opened_by config reading = opened reading.settings (map lies_of reading.devices) 33 config.frames
+
+abbrev pub workers_or : Option Workers → Workers
+workers_or workers = unwrap_or workers no_workers
+
+-- the driver of what was read, before its first line
+pub record IsOpening (config : Config) (reading : Reading) (driver : Driver) : Type 0 where
+  pub start : driver.start ≡ opened_by config reading
+  pub lines : map done_seen driver.lines.items ≡ map done_of reading.lines
+  pub taken : driver.taken.items ≡ replicate (length reading.lines) false
+  pub locked : driver.locked.items ≡ replicate (length reading.locks) false
+  pub devices : map device_seen driver.devices.items ≡ planned_from reading.lines 0 reading.devices
+  pub workers : driver.workers ≡ workers_or reading.workers
+
+-- ---- The lines before `race`, one after another
+
+abbrev pub line_choice : (place : ℕ) → Choice
+line_choice place = record { doing = doing.Line; at = 0; number = place }
+
+abbrev pub by_next : (place : ℕ) → Option Spot → Result Spot ℕ
+by_next place None = Err place
+by_next place (Some spot) = Ok spot
+
+-- where so many lines lead, or which of them isn't permitted
+unfoldable pub behind_first : Driver → (count : ℕ) → Result Spot ℕ
+behind_first driver zero = Ok (start_of driver)
+behind_first driver (suc place) = behind_first driver place >>= λ spot. by_next place (next_in driver spot (line_choice place))
+
+-- the driver behind them
+pub record IsBehind (opening : Driver) (spot : Spot) (driver : Driver) : Type 0 where
+  pub start : driver.start ≡ spot.world
+  pub taken : driver.taken.items ≡ spot.taken
+  pub locked : driver.locked.items ≡ spot.locked
+  pub lines : driver.lines ≡ opening.lines
+  pub devices : driver.devices ≡ opening.devices
+  pub workers : driver.workers ≡ opening.workers
+
+-- ---- The text
+
+-- what was read of a text, with the names of all its lines, and the number behind that of its last one
+pub record DriverRead : Type 0 where
+  pub config : Config
+  pub known : Known
+  pub next : ℕ
+  pub reading : Reading
+
+abbrev pub driver_read : Config → (all lines : List Line) → DriverRead
+driver_read config all lines = record {
+  config = config;
+  known = names_from [] all;
+  next = length all + 1;
+  reading = read_of config (names_from [] all) lines;
+}
+
+-- a driver is one where nothing is said of its lines
+abbrev pub if_right : DriverRead → (said : List ℕ) → Result DriverRead (List ℕ)
+if_right read [] = Ok read
+if_right read said = Err said
+
+abbrev pub right_or_said : DriverRead → Result DriverRead (List ℕ)
+right_or_said read = if_right read read.reading.said
+
+-- what is wrong with the config is told alone
+abbrev pub driver_with : Config → (all lines : List Line) → Result DriverRead (List ℕ)
+driver_with config all lines =
+    if is_fit config then right_or_said (driver_read config all lines) else Err (ended (refusal_text BadConfig))
+
+abbrev pub driver_behind : (all : List Line) → Result (Config × List Line) Fault → Result DriverRead (List ℕ)
+driver_behind all (Err fault) = Err (scripts.fault_text fault)
+driver_behind all (Ok (config, lines)) = driver_with config all lines
+
+abbrev pub too_large : List ℕ
+too_large = ended (codes "line 0: the driver has more than 1048576 bytes or 65536 lines")
+
+abbrev pub driver_of : List ℕ → Result DriverRead (List ℕ)
+driver_of text =
+    if is_too_large text then Err too_large else driver_behind (lines_from 1 text) (config_in 0 (lines_from 1 text))
+
+-- what was read, as it is kept before its first line is taken
+pub record IsRead (read : DriverRead) (kept : Read) : Type 0 where
+  pub config : kept.config ≡ read.config
+  pub known : kept.names ≡ read.known
+  pub next : kept.next ≡ read.next
+  pub is_race : kept.is_race ≡ read.reading.is_race
+  pub before : kept.before ≡ read.reading.before
+  pub opening : IsOpening read.config read.reading kept.opening
+  pub said : map told_seen kept.said.items ≡ map told_of read.reading.lines
+
+-- a driver was read and nothing said; or what is wrong is said
+abbrev pub ReadsText : Result DriverRead (List ℕ) → Option Read → (out : List ℕ) → Type 0
+ReadsText (Ok read) (Some kept) out = IsRead read kept × (out ≡ [])
+ReadsText (Err said) None out = out ≡ said
+ReadsText read found out = ⊥
+
+-- ---- The driver, behind the lines before `race`
+
+pub record IsText (read : Read) (text : Text) : Type 0 where
+  pub config : text.config ≡ read.config
+  pub before : text.before ≡ read.before
+  pub said : text.said ≡ read.said
+  pub spot : Spot
+  pub first : behind_first read.opening read.before ≡ Ok spot
+  pub driver : IsBehind read.opening spot text.driver
+
+-- a driver has a `race`
+abbrev pub race_missing : Read → List ℕ
+race_missing read = fault_text read.names read.next [] (record { at = 0; wanted = wanted.Race race.Race })
+
+-- what is told of a line before `race` that isn't permitted where it stands
+abbrev pub refused_text : Known → Option Kept → Option Said → List ℕ
+refused_text known (Some line) (Some said) =
+    fault_text known line.number (script_words said.text.items) (record { at = 0; wanted = wanted.Permitted })
+refused_text known line said = []
+
+abbrev pub refused_at : Read → (place : ℕ) → List ℕ
+refused_at read place =
+    refused_text read.names (slice_get read.opening.lines.items place) (slice_get read.said.items place)
+
+abbrev pub StandsAt : Read → Result Spot ℕ → Option Text → (out : List ℕ) → Type 0
+StandsAt read (Ok spot) None out = ⊥
+StandsAt read (Ok spot) (Some text) out = IsText read text × (out ≡ [])
+StandsAt read (Err place) None out = out ≡ refused_at read place
+StandsAt read (Err place) (Some text) out = ⊥
+
+abbrev pub StandsBy : Read → (is_race : Bool) → Option Text → (out : List ℕ) → Type 0
+StandsBy read true found out = StandsAt read (behind_first read.opening read.before) found out
+StandsBy read false None out = out ≡ race_missing read
+StandsBy read false (Some text) out = ⊥
+
+abbrev pub ReadsDriver : Result DriverRead (List ℕ) → Option Text → (out : List ℕ) → Type 0
+ReadsDriver (Err said) None out = out ≡ said
+ReadsDriver (Err said) (Some text) out = ⊥
+ReadsDriver (Ok read) found out = (kept : Read) × IsRead read kept × StandsBy kept kept.is_race found out

@@ -1,0 +1,13 @@
+//! A text as a driver: what its lines say, and the world behind those that stand before `race`.
+#![tactic(auto)]
+
+mod first;
+mod kept;
+mod opening;
+mod plans;
+mod texts;
+
+pub use first::{choose_line, take_lines};
+pub use kept::{Read, Said, Text};
+pub use opening::opening_of;
+pub use texts::{put_refused, read_driver, read_text};

@@ -1,0 +1,134 @@
+//! The driver of what was read, before its first line.
+
+ghost use Rattle.std.specs.Prelude.{◌≡◌, IfOk, false, map, replicate};
+ghost use Rattle.sva_open.specs.World.{opened};
+ghost use Rattle.sva_driver_acts.specs.Awaits.{line_seen};
+ghost use Rattle.sva_driver_texts.specs.Texts as texts;
+
+use crate::kept::Said;
+use crate::plans::all_planned;
+use std::alloc::{AllocError, Global};
+use sva_driver_acts::LineRead;
+use sva_driver_lines::{DeviceRead, Reading};
+use sva_judge::{Driver, Line, Workers};
+use sva_open::{Open, Settings};
+use sva_step::Config;
+
+/// So many times `false`.
+fn falses(alloc: Global, count: usize) -> Result<Vec<bool>, AllocError>
+    ensures { IfOk result (λ list. list.items ≡ replicate count false) }
+{
+    let mut list = Vec::new(alloc);
+    for _place in 0..count {
+        list.push(false)?;
+    }
+    Ok(list)
+}
+
+/// Of each endpoint, whether it lies.
+fn lies_of(alloc: Global, devices: &[DeviceRead]) -> Result<Vec<bool>, AllocError>
+    ensures { IfOk result (λ lies. lies.items ≡ map (λ device. device.lies) devices.now) }
+{
+    let mut lies = Vec::new(alloc);
+    for device in devices {
+        lies.push(device.lies)?;
+    }
+    Ok(lies)
+}
+
+/// The world in which nothing was done yet.
+fn opened_by(
+    alloc: Global,
+    config: &Config,
+    settings: Settings,
+    devices: &[DeviceRead],
+) -> Result<Open, AllocError>
+    ensures { IfOk result (λ now. now
+        ≡ opened settings (map (λ device. device.lies) devices.now) 33 config.now.frames) }
+{
+    let lies = lies_of(alloc, devices)?;
+    Open::new(alloc, settings, lies.as_slice(), 33, config.frames as usize)
+}
+
+fn workers_or(workers: Option<Workers>) -> Workers
+    ensures { result ≡ texts.workers_or workers }
+{
+    match workers {
+        Some(workers) => workers,
+        None => Workers {
+            are_there: false,
+            answer: false,
+            fail: false,
+        },
+    }
+}
+
+/// The lines, as they are judged, and what is told of each.
+fn lines_of(alloc: Global, read: Vec<LineRead>) -> Result<(Vec<Line>, Vec<Said>), AllocError>
+    ensures lines { IfOk result (λ lists. map texts.done_seen lists.0.items
+        ≡ map (λ line. texts.done_of (line_seen line)) read.items) }
+    ensures said { IfOk result (λ lists. map texts.told_seen lists.1.items
+        ≡ map (λ line. texts.told_of (line_seen line)) read.items) }
+{
+    let mut lines = Vec::new(alloc);
+    let mut all = Vec::new(alloc);
+    for line in read {
+        let LineRead {
+            number,
+            after,
+            name: _,
+            thread,
+            text,
+            saying,
+        } = line;
+        lines.push(Line {
+            number,
+            after,
+            saying,
+        })?;
+        all.push(Said { thread, text })?;
+    }
+    Ok((lines, all))
+}
+
+/// The driver before its first line, and what is told of each line.
+pub fn opening_of(
+    alloc: Global,
+    config: &Config,
+    reading: Reading,
+) -> Result<(Driver, Vec<Said>), AllocError>
+    ensures driver { IfOk result (λ made. texts.IsOpening config.now reading made.0) }
+    ensures said { IfOk result (λ made. map texts.told_seen made.1.items ≡ map texts.told_of reading.lines) }
+{
+    let Reading {
+        heading: _,
+        is_race: _,
+        lines: read,
+        before: _,
+        locks,
+        settings,
+        set: _,
+        workers,
+        devices: told,
+        said: _,
+    } = reading;
+    let own = told.as_slice();
+    let acts = read.as_slice();
+    let start = opened_by(alloc, config, settings, own)?;
+    let devices = all_planned(alloc, acts, own)?;
+    let taken = falses(alloc, acts.len())?;
+    let locked = falses(alloc, locks.len())?;
+    let workers = workers_or(workers);
+    let (lines, said) = lines_of(alloc, read)?;
+    Ok((
+        Driver {
+            start,
+            lines,
+            taken,
+            locked,
+            devices,
+            workers,
+        },
+        said,
+    ))
+}

@@ -1,0 +1,98 @@
+//! What is wrong at a moment.
+
+/// What leads to a frame, or is there of a PASID.
+#[derive(Clone, Copy, PartialEq, Eq)]
+pub enum Thing {
+    Held,
+    Running,
+    Completion,
+    Request,
+    Start,
+    Stop,
+    PageRequest,
+    Queued,
+    Marker,
+    Status,
+    Answer,
+    Entry,
+    KeptEntry,
+    Kept,
+}
+
+/// What is wrong.
+#[derive(Clone, Copy, PartialEq, Eq)]
+pub enum Wrong {
+    /// A frame that has another owner may still be used.
+    Freed {
+        endpoint: usize,
+        frame: usize,
+        thing: Thing,
+        page: u64,
+        pasid: usize,
+    },
+    /// A frame that was frozen may still be written.
+    Frozen {
+        endpoint: usize,
+        frame: usize,
+        thing: Thing,
+        page: u64,
+        pasid: usize,
+    },
+    /// Something is there of an earlier owner of a PASID.
+    Left {
+        endpoint: usize,
+        thing: Thing,
+        pasid: usize,
+    },
+    /// An endpoint goes on under a PASID for an earlier owner.
+    Goes {
+        endpoint: usize,
+        pasid: usize,
+    },
+    /// A table whose memory has another owner may still be walked.
+    Walks {
+        endpoint: usize,
+        space: u64,
+        kept: bool,
+        pasid: usize,
+    },
+    /// A response finds no group.
+    NoGroup {
+        endpoint: usize,
+        index: usize,
+    },
+    /// A response finds another group.
+    OtherGroup {
+        endpoint: usize,
+        index: usize,
+    },
+    /// A response finds its group unfinished.
+    Unfinished {
+        endpoint: usize,
+        index: usize,
+    },
+    /// A page request would join another group.
+    Joins {
+        endpoint: usize,
+        pasid: usize,
+        index: usize,
+    },
+    /// A completion would be taken for the answer to another request.
+    OtherRequest {
+        endpoint: usize,
+        tag: usize,
+    },
+}
+
+/// In which order what is wrong is looked for.
+#[derive(Clone, Copy, PartialEq, Eq)]
+pub enum Sort {
+    Freed,
+    Frozen,
+    Left,
+    Goes,
+    Walks,
+    Responses,
+    Joins,
+    Requests,
+}

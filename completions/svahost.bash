@@ -9,14 +9,21 @@ _svahost() {
     return
   fi
   if [ "$COMP_CWORD" -eq 1 ]; then
-    words='replay check storm plain test show why chart explore trace --help --version'
+    words='replay check storm plain test show why chart explore judge trace --help --version'
   elif [ "$command" = trace ]; then
     words='--live --why --help'
   elif [ "$command" = chart ]; then
     words='--svg --help'
-  elif [ "$command" = explore ]; then
-    [ "$before" = --most ] && return
+  elif [[ $command == explore || $command == judge ]]; then
+    [[ $before == --most || $before == --part ]] && return
     words='--most --help'
+    if [ "$command" = judge ]; then words="--run $words"; else words="--why $words"; fi
+    if [[ $1 == */* && $current != -* ]]; then
+      # the script of the repository takes files too
+      compopt -o filenames 2> /dev/null
+      mapfile -t COMPREPLY < <(compgen -f -X "!*.sv[rd]" -- "$current"; compgen -d -- "$current")
+      return
+    fi
   elif [ "$command" = storm ]; then
     [ "$before" = --turns ] && return
     words='--turns --help'

@@ -5,7 +5,7 @@ use Rattle.clap.proofs.OnLiterals.{clap_on_literals}
 use Rattle.clap.specs.declared.error.kind.ErrorKind.{ErrorKind}
 use Rattle.clap.specs.declared.error.kind.ErrorKind.TheVariants.{DisplayHelp, DisplayVersion, MissingSubcommand}
 use Rattle.sva_program.specs.Command.{AsksText, faults_of, CallsHelp, CallsVersion, IsMistaken, svahost, texts}
-use Rattle.sva_program.specs.Command.{behind_chart, behind_check, behind_explore, behind_plain, behind_replay, behind_show, behind_storm, behind_test}
+use Rattle.sva_program.specs.Command.{behind_chart, behind_check, behind_explore, behind_judge, behind_plain, behind_replay, behind_show, behind_storm, behind_test}
 use Rattle.sva_program.specs.Command.{behind_trace, behind_why}
 use Rattle.sva_program.specs.Command.{by_long, by_long_version, by_short, by_short_version}
 use Rattle.sva_program.proofs.LineLemmas.{no_words}
@@ -50,6 +50,10 @@ help_of_explore : (name : Text) → fault_of svahost (name ∷ codes "explore" �
 unfolding clap_on_literals
 help_of_explore name = refl
 
+help_of_judge : (name : Text) → fault_of svahost (name ∷ codes "judge" ∷ codes "--help" ∷ []) ≡ DisplayHelp ∷ []
+unfolding clap_on_literals
+help_of_judge name = refl
+
 help_of_trace : (name : Text) → fault_of svahost (name ∷ codes "trace" ∷ codes "--help" ∷ []) ≡ DisplayHelp ∷ []
 unfolding clap_on_literals
 help_of_trace name = refl
@@ -79,6 +83,7 @@ calls_help words (behind_show name e) = ap (fault_of svahost) e ∙ help_of_show
 calls_help words (behind_why name e) = ap (fault_of svahost) e ∙ help_of_why name
 calls_help words (behind_chart name e) = ap (fault_of svahost) e ∙ help_of_chart name
 calls_help words (behind_explore name e) = ap (fault_of svahost) e ∙ help_of_explore name
+calls_help words (behind_judge name e) = ap (fault_of svahost) e ∙ help_of_judge name
 calls_help words (behind_trace name e) = ap (fault_of svahost) e ∙ help_of_trace name
 
 calls_version : (words : List Text) → CallsVersion words → faults_of words ≡ DisplayVersion ∷ []

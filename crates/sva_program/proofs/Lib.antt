@@ -2,6 +2,7 @@ mod SayLemmas
 mod RunLemmas
 mod FlagLemmas
 mod LineLemmas
+mod TellLemmas
 mod CallLemmas
 mod ReadLemmas
 mod TurnLemmas

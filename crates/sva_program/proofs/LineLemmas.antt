@@ -1,34 +1,32 @@
--- clap takes a command that has no arguments alone, and with `--` behind, `storm` with what `TurnLemmas` says, and `chart`, `explore` and
--- `trace` with what their own definitions say: each other list of words has a fault.
+-- clap takes a command that has no arguments alone, and with `--` behind, `storm` with what `TurnLemmas` says, and `chart`, `explore`,
+-- `judge` and `trace` with what their own definitions say: each other list of words has a fault.
 use Rattle.std.proofs.Common.{◌≡◌, ◌⊎◌, inl, inr, refl, sym, subst, ap, ◌∙◌, ℕ, Bool, true, false, List, [], ◌∷◌, ◌++◌, Option, Some, None, codes}
-use Rattle.std.proofs.Common.{length, cond, option_map, unwrap_or, fold, ◌||◌, ◌<◌, append-nil, append_assoc, arith}
+use Rattle.std.proofs.Common.{length, cond, option_map, fold, ◌||◌, ◌<◌, append-nil, append_assoc, arith}
 use Rattle.std.specs.Prelude.{is_some}
 use Rattle.std.specs.Str.{bytes_eq}
-use Rattle.std.proofs.lemmas.Slice.Eq.{bytes_eq-Decides}
 use Rattle.std.specs.Str.Parse.{digits_value, without_leading_plus}
-use Rattle.clap.specs.Words.{HasKind, IsUnsignedIn, Text, built, fault_of}
+use Rattle.clap.specs.Words.{HasKind, Text, built, fault_of}
 use Rattle.clap.specs.Kinds.{Kinds, or_else}
-use Rattle.clap.specs.Simple.{HasMatchesOf, entered, names_of, subcommand_of, subcommand_rows_of}
+use Rattle.clap.specs.Simple.{entered, names_of}
 use Rattle.clap.specs.declared.error.Error.{Error}
-use Rattle.clap.specs.declared.parser.matches.ArgMatches.{ArgMatches}
 use Rattle.clap.specs.Faults.{check_fault, defaults_fault, settle_fault}
 use Rattle.clap.specs.Faults.{entered_fault, is_simple_and_free, level_fault, other_fault, step_fault, turn_fault, walk_fault}
 use Rattle.clap.specs.Walk.{finished, settled, rows_after, Names, Walk, answers_to, idle, nothing_held, subcommand_or_other, walk_from, walked}
 use Rattle.clap.proofs.OnLiterals.{clap_on_literals}
 use Rattle.clap.proofs.ValueTestLemmas.{Accepts-accepts, accepts-Accepts}
 use Rattle.sva_program.specs.declared.command.Asked.{Asked}
-use Rattle.sva_program.specs.declared.command.Asked.TheVariants.{Replay, Check, Storm, Plain, Test, Show, Why, Chart, Explore, Trace}
-use Rattle.sva_program.specs.Command.{Asks, AsksRun, faults_of, GivesTurns, IsCommand, IsReadable, WritesTurns, apart, asked_by, attached, chart_shape, is_given}
-use Rattle.sva_program.specs.Command.{explore_shape, most_by, most_text, svahost, trace_shape, turns_by, turns_text, usual}
+use Rattle.sva_program.specs.declared.command.Asked.TheVariants.{Replay, Check, Storm, Plain, Test, Show, Why, Chart, Explore, Judge, Trace}
+use Rattle.sva_program.specs.Command.{Asks, AsksRun, faults_of, GivesTurns, IsCommand, WritesTurns, apart, attached, chart_shape, is_given}
+use Rattle.sva_program.specs.Command.{explore_shape, judge_shape, most_by, most_text, svahost, trace_shape, usual}
 use Rattle.sva_program.proofs.FlagLemmas.{dashes, is_word, leaf_words, left, right, top, tops, tops_ask}
 use Rattle.sva_program.proofs.TurnLemmas.{IsTaken, taken_apart, taken_attached, taken_nothing}
-use Rattle.sva_program.proofs.TakenLemmas.{apart_taken, apart_taken_dashes, attached_taken, attached_taken_dashes, found, text_accepted, text_of}
-use Rattle.sva_program.proofs.TurnLemmas.{is_accepted, leaf as storm_leaf, parser, rules as storm_rules, taken}
+use Rattle.sva_program.proofs.TakenLemmas.{apart_taken, apart_taken_dashes, attached_taken, attached_taken_dashes, found}
+use Rattle.sva_program.proofs.TurnLemmas.{is_accepted, leaf as storm_leaf, parser, taken}
 
 -- ---- the words of the program
 
 -- a command that takes no arguments
-data Bare : Type 0 where
+pub data Bare : Type 0 where
   replaying : Bare
   checking : Bare
   printing : Bare
@@ -36,7 +34,7 @@ data Bare : Type 0 where
   showing : Bare
   explaining : Bare
 
-abbrev word_of : Bare → Text
+abbrev pub word_of : Bare → Text
 word_of replaying = codes "replay"
 word_of checking = codes "check"
 word_of printing = codes "plain"
@@ -44,7 +42,7 @@ word_of testing = codes "test"
 word_of showing = codes "show"
 word_of explaining = codes "why"
 
-abbrev asked_of : Bare → Asked
+abbrev pub asked_of : Bare → Asked
 asked_of replaying = Replay
 asked_of checking = Check
 asked_of printing = Plain
@@ -52,27 +50,31 @@ asked_of testing = Test
 asked_of showing = Show
 asked_of explaining = Why
 
-abbrev storm : Text
+abbrev pub storm : Text
 storm = codes "storm"
 
-abbrev chart : Text
+abbrev pub chart : Text
 chart = codes "chart"
 
-abbrev explore : Text
+abbrev pub explore : Text
 explore = codes "explore"
 
-abbrev trace : Text
+abbrev pub judge : Text
+judge = codes "judge"
+
+abbrev pub trace : Text
 trace = codes "trace"
 
 abbrev names : Names
 names = names_of (built svahost)
 
 -- the command that a word names, by which of their names it is
-abbrev met_by : Bool → Bool → Bool → Bool → Bool → Bool → Bool → Bool → Bool → Bool → Option Text
-met_by a b c d e f g h x i =
+abbrev met_by : Bool → Bool → Bool → Bool → Bool → Bool → Bool → Bool → Bool → Bool → Bool → Option Text
+met_by a b c d e f g h x j i =
     option_map {T = Text × List Text} (λ s. s.0) (cond a (Some (word_of replaying, [])) (cond b (Some (word_of checking, [])) (cond c (Some (storm, []))
     (cond d (Some (word_of printing, [])) (cond e (Some (word_of testing, [])) (cond f (Some (word_of showing, []))
-    (cond g (Some (word_of explaining, [])) (cond h (Some (chart, [])) (cond x (Some (explore, [])) (cond i (Some (trace, [])) None))))))))))
+    (cond g (Some (word_of explaining, [])) (cond h (Some (chart, [])) (cond x (Some (explore, []))
+    (cond j (Some (judge, [])) (cond i (Some (trace, [])) None)))))))))))
 
 -- the first word is the name of a command, or `--`
 data IsFirst (word : Text) : Type 0 where
@@ -80,6 +82,7 @@ data IsFirst (word : Text) : Type 0 where
   is_storm : word ≡ storm → IsFirst word
   is_chart : word ≡ chart → IsFirst word
   is_explore : word ≡ explore → IsFirst word
+  is_judge : word ≡ judge → IsFirst word
   is_trace : word ≡ trace → IsFirst word
   is_dashes : word ≡ codes "--" → IsFirst word
 
@@ -90,7 +93,7 @@ or_false false e = e
 named : (name word : Text) → answers_to word (name, []) ≡ true → word ≡ name
 named name word met = sym (is_word name word (or_false _ met))
 
-command_or_dashes : (a b c d f g y z q h : Bool) (word : Text)
+command_or_dashes : (a b c d f g y z q l h : Bool) (word : Text)
     → (a ≡ true → word ≡ word_of replaying)
     → (b ≡ true → word ≡ word_of checking)
     → (c ≡ true → word ≡ storm)
@@ -100,31 +103,35 @@ command_or_dashes : (a b c d f g y z q h : Bool) (word : Text)
     → (y ≡ true → word ≡ word_of explaining)
     → (z ≡ true → word ≡ chart)
     → (q ≡ true → word ≡ explore)
+    → (l ≡ true → word ≡ judge)
     → (h ≡ true → word ≡ trace)
-    → or_else (other_fault top (met_by a b c d f g y z q h) word nothing_held)
-    (step_fault top 1 (subcommand_or_other top.rules (met_by a b c d f g y z q h) idle 1 word nothing_held).0
-    (subcommand_or_other top.rules (met_by a b c d f g y z q h) idle 1 word nothing_held).1) ≡ []
+    → or_else (other_fault top (met_by a b c d f g y z q l h) word nothing_held)
+    (step_fault top 1 (subcommand_or_other top.rules (met_by a b c d f g y z q l h) idle 1 word nothing_held).0
+    (subcommand_or_other top.rules (met_by a b c d f g y z q l h) idle 1 word nothing_held).1) ≡ []
     → IsFirst word
-command_or_dashes true b c d f g y z q h word r k s p t w v x m u e = is_bare replaying (r refl)
-command_or_dashes false true c d f g y z q h word r k s p t w v x m u e = is_bare checking (k refl)
-command_or_dashes false false true d f g y z q h word r k s p t w v x m u e = is_storm (s refl)
-command_or_dashes false false false true f g y z q h word r k s p t w v x m u e = is_bare printing (p refl)
-command_or_dashes false false false false true g y z q h word r k s p t w v x m u e = is_bare testing (t refl)
-command_or_dashes false false false false false true y z q h word r k s p t w v x m u e = is_bare showing (w refl)
-command_or_dashes false false false false false false true z q h word r k s p t w v x m u e = is_bare explaining (v refl)
-command_or_dashes false false false false false false false true q h word r k s p t w v x m u e = is_chart (x refl)
-command_or_dashes false false false false false false false false true h word r k s p t w v x m u e = is_explore (m refl)
-command_or_dashes false false false false false false false false false true word r k s p t w v x m u e = is_trace (u refl)
-command_or_dashes false false false false false false false false false false word r k s p t w v x m u e =
+command_or_dashes true b c d f g y z q l h word r k s p t w v x m o u e = is_bare replaying (r refl)
+command_or_dashes false true c d f g y z q l h word r k s p t w v x m o u e = is_bare checking (k refl)
+command_or_dashes false false true d f g y z q l h word r k s p t w v x m o u e = is_storm (s refl)
+command_or_dashes false false false true f g y z q l h word r k s p t w v x m o u e = is_bare printing (p refl)
+command_or_dashes false false false false true g y z q l h word r k s p t w v x m o u e = is_bare testing (t refl)
+command_or_dashes false false false false false true y z q l h word r k s p t w v x m o u e = is_bare showing (w refl)
+command_or_dashes false false false false false false true z q l h word r k s p t w v x m o u e = is_bare explaining (v refl)
+command_or_dashes false false false false false false false true q l h word r k s p t w v x m o u e = is_chart (x refl)
+command_or_dashes false false false false false false false false true l h word r k s p t w v x m o u e = is_explore (m refl)
+command_or_dashes false false false false false false false false false true h word r k s p t w v x m o u e = is_judge (o refl)
+command_or_dashes false false false false false false false false false false true word r k s p t w v x m o u e = is_trace (u refl)
+command_or_dashes false false false false false false false false false false false word r k s p t w v x m o u e =
     is_dashes (is_word _ _ (dashes tops tops_ask top (bytes_eq word (codes "--")) word e))
 
 top_first : (word : Text) → turn_fault top names (walk_from nothing_held) word ≡ [] → IsFirst word
 top_first word e =
     command_or_dashes (answers_to word (word_of replaying, [])) (answers_to word (word_of checking, [])) (answers_to word (storm, []))
     (answers_to word (word_of printing, [])) (answers_to word (word_of testing, [])) (answers_to word (word_of showing, []))
-    (answers_to word (word_of explaining, [])) (answers_to word (chart, [])) (answers_to word (explore, [])) (answers_to word (trace, [])) word
+    (answers_to word (word_of explaining, [])) (answers_to word (chart, [])) (answers_to word (explore, [])) (answers_to word (judge, []))
+    (answers_to word (trace, [])) word
     (named (word_of replaying) word) (named (word_of checking) word) (named storm word) (named (word_of printing) word) (named (word_of testing) word)
-    (named (word_of showing) word) (named (word_of explaining) word) (named chart word) (named explore word) (named trace word) e
+    (named (word_of showing) word) (named (word_of explaining) word) (named chart word) (named explore word) (named judge word)
+    (named trace word) e
 
 none_behind_top : (rest : List Text) → walk_fault top names (walked top.rules names (walk_from nothing_held) (codes "--")) rest ≡ [] → rest ≡ []
 unfolding clap_on_literals
@@ -139,7 +146,7 @@ gathers_all name got [] w = ap (λ l. record w { stopped = Some (name, l) }) (sy
 gathers_all name got (word ∷ rest) w =
     gathers_all name (got ++ word ∷ []) rest w ∙ ap (λ l. record w { stopped = Some (name, l) }) (append_assoc got (word ∷ []) rest)
 
-gathers : (name : Text) (got rest : List Text) (w : Walk)
+pub gathers : (name : Text) (got rest : List Text) (w : Walk)
     → (fold (walked top.rules names) (record w { stopped = Some (name, got) }) rest).stopped ≡ Some (name, got ++ rest)
 gathers name got rest w = ap (λ (end : Walk). end.stopped) (gathers_all name got rest w)
 
@@ -186,6 +193,13 @@ explore_level : (name : Text) (rest : List Text) → fault_of svahost (name ∷ 
 unfolding clap_on_literals
 explore_level name rest e =
     let stop = gathers explore [] rest (walk_from nothing_held) in
+    subst (λ stop. entered_fault (built svahost) stop ≡ []) stop (left _ _ (right _ _ e))
+
+judge_level : (name : Text) (rest : List Text) → fault_of svahost (name ∷ judge ∷ rest) ≡ []
+    → level_fault judge_shape [] nothing_held rest false [] ≡ []
+unfolding clap_on_literals
+judge_level name rest e =
+    let stop = gathers judge [] rest (walk_from nothing_held) in
     subst (λ stop. entered_fault (built svahost) stop ≡ []) stop (left _ _ (right _ _ e))
 
 trace_level : (name : Text) (rest : List Text) → fault_of svahost (name ∷ trace ∷ rest) ≡ [] → level_fault trace_shape [] nothing_held rest false [] ≡ []
@@ -243,8 +257,16 @@ asks_first name word rest (is_chart is) e =
     subst (λ w. AsksRun (name ∷ w ∷ rest)) (sym is) (Chart (is_given (codes "svg") (rows_after chart_shape.rules [] rest)), (name, rest, (none, refl), refl))
 asks_first name word rest (is_explore is) e =
     let none = explore_level name rest (subst (λ w. fault_of svahost (name ∷ w ∷ rest) ≡ []) is e) in
-    subst (λ w. AsksRun (name ∷ w ∷ rest)) (sym is)
-    (Explore (most_by (most_text (rows_after explore_shape.rules [] rest))), (name, rest, (none, refl), refl))
+    subst (λ w. AsksRun (name ∷ w ∷ rest)) (sym is) (
+      Explore (most_by (most_text (rows_after explore_shape.rules [] rest))) (is_given (codes "why") (rows_after explore_shape.rules [] rest)),
+      (name, rest, (none, refl, refl), refl),
+    )
+asks_first name word rest (is_judge is) e =
+    let none = judge_level name rest (subst (λ w. fault_of svahost (name ∷ w ∷ rest) ≡ []) is e) in
+    subst (λ w. AsksRun (name ∷ w ∷ rest)) (sym is) (
+      Judge (is_given (codes "run") (rows_after judge_shape.rules [] rest)) (most_by (most_text (rows_after judge_shape.rules [] rest))),
+      (name, rest, (none, refl, refl), refl),
+    )
 asks_first name word rest (is_trace is) e =
     let none = trace_level name rest (subst (λ w. fault_of svahost (name ∷ w ∷ rest) ≡ []) is e) in
     subst (λ w. AsksRun (name ∷ w ∷ rest)) (sym is) (
@@ -263,7 +285,7 @@ first_is : (name word : Text) (rest : List Text) → fault_of svahost (name ∷ 
 unfolding clap_on_literals
 first_is name word rest e = top_first word (left _ _ (left _ _ e))
 
-asks_run : (words : List Text) → fault_of svahost words ≡ [] → AsksRun words
+pub asks_run : (words : List Text) → fault_of svahost words ≡ [] → AsksRun words
 asks_run [] e = absurd (no_words [] (omega arith) e)
 asks_run (name ∷ []) e = absurd (no_words (name ∷ []) (omega arith) e)
 asks_run (name ∷ word ∷ rest) e = asks_first name word rest (first_is name word rest e) e
@@ -273,7 +295,7 @@ unfolding faults_of
 asked_after_all words other none = other (asks_run words none)
 
 -- and where they do, it finds none
-given_taken : (turns : ℕ) (rest : List Text) → GivesTurns turns rest → IsTaken rest
+unfoldable pub given_taken : (turns : ℕ) (rest : List Text) → GivesTurns turns rest → IsTaken rest
 given_taken turns rest (usual none e) = taken_nothing none
 given_taken turns rest (apart text is w) = taken_apart text is (Accepts-accepts false parser text w.0)
 given_taken turns rest (attached text is w) = taken_attached text is (Accepts-accepts false parser text w.0)
@@ -343,6 +365,14 @@ takes_explore name rest e =
     ap (λ k. or_else k (behind_words (fold (walked top.rules names) first rest))) (gathered_unfaulted explore [] rest (walk_from nothing_held))
     ∙ ap behind_words (gathers_all explore [] rest (walk_from nothing_held)) ∙ ap (λ k. or_else k []) e
 
+takes_judge : (name : Text) (rest : List Text) → level_fault judge_shape [] nothing_held rest false [] ≡ []
+    → fault_of svahost (name ∷ judge ∷ rest) ≡ []
+unfolding clap_on_literals
+takes_judge name rest e =
+    let first = record (walk_from nothing_held) { stopped = Some (judge, []) } in
+    ap (λ k. or_else k (behind_words (fold (walked top.rules names) first rest))) (gathered_unfaulted judge [] rest (walk_from nothing_held))
+    ∙ ap behind_words (gathers_all judge [] rest (walk_from nothing_held)) ∙ ap (λ k. or_else k []) e
+
 takes_trace : (name : Text) (rest : List Text) → level_fault trace_shape [] nothing_held rest false [] ≡ [] → fault_of svahost (name ∷ trace ∷ rest) ≡ []
 unfolding clap_on_literals
 takes_trace name rest e =
@@ -365,7 +395,8 @@ taken_words Test words is = taken_bare testing words is
 taken_words Show words is = taken_bare showing words is
 taken_words Why words is = taken_bare explaining words is
 taken_words (Chart svg) words (name, rest, given, e) = subst (λ w. fault_of svahost w ≡ []) (sym e) (takes_chart name rest given.0)
-taken_words (Explore most) words (name, rest, given, e) = subst (λ w. fault_of svahost w ≡ []) (sym e) (takes_explore name rest given.0)
+taken_words (Explore most whys) words (name, rest, given, e) = subst (λ w. fault_of svahost w ≡ []) (sym e) (takes_explore name rest given.0)
+taken_words (Judge run most) words (name, rest, given, e) = subst (λ w. fault_of svahost w ≡ []) (sym e) (takes_judge name rest given.0)
 taken_words (Trace live whys) words (name, rest, given, e) = subst (λ w. fault_of svahost w ≡ []) (sym e) (takes_trace name rest given.0)
 taken_words (Storm turns) words (name, rest, given, inl e) = subst (λ w. fault_of svahost w ≡ []) (sym e) (unfaulted name rest (given_taken turns rest given)).0
 taken_words (Storm turns) words (name, rest, given, inr e) = subst (λ w. fault_of svahost w ≡ []) (sym e) (unfaulted name rest (given_taken turns rest given)).1
@@ -373,123 +404,6 @@ taken_words (Storm turns) words (name, rest, given, inr e) = subst (λ w. fault_
 pub takes : (asked : Asked) (words : List Text) → Asks asked words → faults_of words ≡ []
 unfolding faults_of
 takes asked words asks = taken_words asked words asks
-
--- ---- which command the words ask for
-
--- what clap's definitions enter tells of this command alone
-abbrev Tells : Asked → List Text → Type 0
-Tells asked words = (asked_by (subcommand_of svahost words) ≡ asked) × IsReadable (subcommand_of svahost words)
-
--- a command of another name isn't `storm`
-is_other : (word : Text) → bytes_eq word storm ≡ false → word ≡ storm → ⊥
-is_other word differ same = let equal = (bytes_eq-Decides word storm).1 same in cc
-
-tells_bare : (bare : Bare) (name : Text) → Tells (asked_of bare) (name ∷ word_of bare ∷ [])
-unfolding clap_on_literals
-tells_bare replaying name = (refl, λ is_storm. absurd (is_other (word_of replaying) refl is_storm))
-tells_bare checking name = (refl, λ is_storm. absurd (is_other (word_of checking) refl is_storm))
-tells_bare printing name = (refl, λ is_storm. absurd (is_other (word_of printing) refl is_storm))
-tells_bare testing name = (refl, λ is_storm. absurd (is_other (word_of testing) refl is_storm))
-tells_bare showing name = (refl, λ is_storm. absurd (is_other (word_of showing) refl is_storm))
-tells_bare explaining name = (refl, λ is_storm. absurd (is_other (word_of explaining) refl is_storm))
-
-tells_bare_dashes : (bare : Bare) (name : Text) → Tells (asked_of bare) (name ∷ word_of bare ∷ codes "--" ∷ [])
-unfolding clap_on_literals
-tells_bare_dashes replaying name = (refl, λ is_storm. absurd (is_other (word_of replaying) refl is_storm))
-tells_bare_dashes checking name = (refl, λ is_storm. absurd (is_other (word_of checking) refl is_storm))
-tells_bare_dashes printing name = (refl, λ is_storm. absurd (is_other (word_of printing) refl is_storm))
-tells_bare_dashes testing name = (refl, λ is_storm. absurd (is_other (word_of testing) refl is_storm))
-tells_bare_dashes showing name = (refl, λ is_storm. absurd (is_other (word_of showing) refl is_storm))
-tells_bare_dashes explaining name = (refl, λ is_storm. absurd (is_other (word_of explaining) refl is_storm))
-
-bare_tells : (bare : Bare) (words : List Text) → IsCommand (word_of bare) words → Tells (asked_of bare) words
-bare_tells bare words (name, inl e) = subst (Tells (asked_of bare)) (sym e) (tells_bare bare name)
-bare_tells bare words (name, inr e) = subst (Tells (asked_of bare)) (sym e) (tells_bare_dashes bare name)
-
-enters_explore : (name : Text) (words : List Text)
-    → subcommand_of svahost (name ∷ explore ∷ words) ≡ Some (explore, rows_after explore_shape.rules [] words)
-unfolding clap_on_literals
-enters_explore name words = ap (entered (built svahost)) (gathers explore [] words (walk_from nothing_held))
-
-enters_trace : (name : Text) (words : List Text) → subcommand_of svahost (name ∷ trace ∷ words) ≡ Some (trace, rows_after trace_shape.rules [] words)
-unfolding clap_on_literals
-enters_trace name words = ap (entered (built svahost)) (gathers trace [] words (walk_from nothing_held))
-
-enters_chart : (name : Text) (words : List Text) → subcommand_of svahost (name ∷ chart ∷ words) ≡ Some (chart, rows_after chart_shape.rules [] words)
-unfolding clap_on_literals
-enters_chart name words = ap (entered (built svahost)) (gathers chart [] words (walk_from nothing_held))
-
-enters_storm : (name : Text) (words : List Text) → subcommand_of svahost (name ∷ storm ∷ words) ≡ Some (storm, rows_after storm_rules [] words)
-unfolding clap_on_literals
-enters_storm name words = ap (entered (built svahost)) (gathers storm [] words (walk_from nothing_held))
-
-given_number : (turns : ℕ) (rest : List Text) (given : GivesTurns turns rest)
-    → digits_value 10 (without_leading_plus (text_of rest (given_taken turns rest given))) ≡ turns
-unfolding given_taken
-given_number turns rest (usual none e) = sym e
-given_number turns rest (apart text is w) = sym w.1
-given_number turns rest (attached text is w) = sym w.1
-
-tells_storm : (name text : Text) (turns : ℕ) (words : List Text) → turns_text (rows_after storm_rules [] words) ≡ Some text → is_accepted text ≡ true
-    → digits_value 10 (without_leading_plus text) ≡ turns
-    → Tells (Storm turns) (name ∷ storm ∷ words)
-tells_storm name text turns words is e number =
-    let enters = enters_storm name words in (
-      ap asked_by enters ∙ ap (λ found. Storm (turns_by found)) is ∙ ap Storm number,
-      subst IsReadable (sym enters)
-          (λ is_storm other same. subst (IsUnsignedIn 1 1000000) (ap (λ found. unwrap_or found text) (sym is ∙ same)) (accepts-Accepts false parser text e)),
-    )
-
-tells_explore : (name : Text) (rest : List Text) (most : ℕ) → most ≡ most_by (most_text (rows_after explore_shape.rules [] rest))
-    → Tells (Explore most) (name ∷ explore ∷ rest)
-tells_explore name rest most is =
-    let enters = enters_explore name rest in
-    (ap asked_by enters ∙ ap Explore (sym is), subst IsReadable (sym enters) (λ is_storm. absurd (is_other explore refl is_storm)))
-
-tells_trace : (name : Text) (rest : List Text) (live whys : Bool) → live ≡ is_given (codes "live") (rows_after trace_shape.rules [] rest)
-    → whys ≡ is_given (codes "why") (rows_after trace_shape.rules [] rest) → Tells (Trace live whys) (name ∷ trace ∷ rest)
-tells_trace name rest live whys is are =
-    let enters = enters_trace name rest in
-    (ap asked_by enters ∙ (λ i. Trace (sym is i) (sym are i)), subst IsReadable (sym enters) (λ is_storm. absurd (is_other trace refl is_storm)))
-
-tells_chart : (name : Text) (rest : List Text) (svg : Bool) → svg ≡ is_given (codes "svg") (rows_after chart_shape.rules [] rest) → Tells (Chart svg) (name ∷ chart ∷ rest)
-tells_chart name rest svg is =
-    let enters = enters_chart name rest in
-    (ap asked_by enters ∙ ap Chart (sym is), subst IsReadable (sym enters) (λ is_storm. absurd (is_other chart refl is_storm)))
-
-tells : (asked : Asked) (words : List Text) → Asks asked words → Tells asked words
-tells Replay words is = bare_tells replaying words is
-tells Check words is = bare_tells checking words is
-tells Plain words is = bare_tells printing words is
-tells Test words is = bare_tells testing words is
-tells Show words is = bare_tells showing words is
-tells Why words is = bare_tells explaining words is
-tells (Chart svg) words (name, rest, given, e) = subst (Tells (Chart svg)) (sym e) (tells_chart name rest svg given.1)
-tells (Explore most) words (name, rest, given, e) = subst (Tells (Explore most)) (sym e) (tells_explore name rest most given.1)
-tells (Trace live whys) words (name, rest, given, e) = subst (Tells (Trace live whys)) (sym e) (tells_trace name rest live whys given.1 given.2)
-tells (Storm turns) words (name, rest, given, inl e) =
-    let t = given_taken turns rest given in
-    subst (Tells (Storm turns)) (sym e)
-    (tells_storm name (text_of rest t) turns rest (found rest t).0 (text_accepted rest t) (given_number turns rest given))
-tells (Storm turns) words (name, rest, given, inr e) =
-    let t = given_taken turns rest given in
-    subst (Tells (Storm turns)) (sym e)
-    (tells_storm name (text_of rest t) turns (rest ++ codes "--" ∷ []) (found rest t).1 (text_accepted rest t) (given_number turns rest given))
-
--- where clap finds no fault, the words ask for the command that was made of what it entered
-pub asks_entered : (words : List Text) (m : ArgMatches) (asked : Asked) → faults_of words ≡ [] → HasMatchesOf svahost words m
-    → (IsReadable (subcommand_rows_of m) → asked ≡ asked_by (subcommand_rows_of m))
-    → Asks asked words
-unfolding clap_on_literals faults_of
-asks_entered words m asked none has made =
-    let run = asks_run words none in
-    let told = tells run.0 words run.1 in
-    let same = (has refl).1 in
-    subst (λ a. Asks a words) (sym (made (subst IsReadable (sym same) told.1) ∙ ap asked_by same ∙ told.0)) run.1
-
--- no words ask for two commands
-pub one_alone : (asked other : Asked) (words : List Text) → Asks asked words → Asks other words → asked ≡ other
-one_alone asked other words p q = sym (tells asked words p).0 ∙ (tells other words q).0
 
 -- what clap says of the command line is said of these words
 pub untaken : (words : List Text) → fault_of svahost words ≡ [] → faults_of words ≡ []

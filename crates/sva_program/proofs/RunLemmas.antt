@@ -1,7 +1,7 @@
 -- How a run ends, from what its command says, and from a command line that couldn't be read for want of memory.
-use Rattle.std.proofs.Common.{◌≡◌, ◌≤◌, ◌⊎◌, arith, inl, inr, sym, ◌∙◌, subst, append-nil, refl, ℕ, List}
+use Rattle.std.proofs.Common.{◌≡◌, ◌≤◌, ◌⊎◌, arith, inl, inr, sym, ◌∙◌, subst, append-nil, refl, ℕ, Bool, List}
 use Rattle.std.proofs.Common.{[], ◌∷◌, Option, Some, None, IfSome, Result, Ok, Err, OnOk}
-use Rattle.std.proofs.Common.{IfOk}
+use Rattle.std.proofs.Common.{IfOk, true, false}
 use Rattle.std.specs.Io.KnownBytes.{Appends, Keeps}
 use Rattle.clap.specs.Words.{HasKind, IsAmong, Kinds, kind_of}
 use Rattle.clap.specs.declared.error.Error.{Error}
@@ -21,9 +21,11 @@ use Rattle.sva_script_reports.specs.Scripts.{plain_of, test_of}
 use Rattle.sva_script_reports.specs.Shows.{show_of}
 use Rattle.sva_script_reports.specs.Whys.{whys_of}
 use Rattle.sva_script_traces.specs.Traces.{trace_of}
-use Rattle.sva_program.specs.Run.{HasCause, Makes, Reports, RunsTo, WhereKnown, explored_of, ran_of, status_of, style_of}
+use Rattle.sva_program.specs.Run.{HasCause, Makes, Reports, Rules, RunsTo, WhereKnown, explored_of, ran_of, ruled_of, status_of, style_of}
 use Rattle.sva_program.specs.declared.command.Asked.{Asked}
-use Rattle.sva_program.specs.declared.command.Asked.TheVariants.{Chart, Check, Explore, Plain, Replay, Show, Storm, Test, Trace, Why}
+use Rattle.sva_driver_reports.specs.declared.reports.Ruling.{Ruling}
+use Rattle.sva_driver_reports.specs.declared.reports.Ruling.TheVariants.{Safe, Unsafe, Stuck, CutOff}
+use Rattle.sva_program.specs.declared.command.Asked.TheVariants.{Chart, Check, Explore, Judge, Plain, Replay, Show, Storm, Test, Trace, Why}
 use Rattle.sva_program.specs.declared.run.Ending.{Ending}
 use Rattle.sva_race_reports.specs.declared.judging.Judged.{Judged}
 use Rattle.sva_race_reports.specs.declared.judging.Judged.TheVariants.{Holds, Fails, Unknown}
@@ -97,6 +99,17 @@ caused_exploring reader writer found ended is h = subst (HasCause reader writer)
     go (Err Write) h = h
     go (Err Memory) h = h
 
+pub caused_ruling : {R W : Type 0} (reader : Stream R) (writer : Stream W) (found : Result (Option Ruling) DriveFault)
+    (ended : Result Ending DriveFault) → ended ≡ ruled_of found → HasCause reader writer found → HasCause reader writer ended
+caused_ruling reader writer found ended is h = subst (HasCause reader writer) (sym is) (go found h)
+  where
+    go : (found : Result (Option Ruling) DriveFault) → HasCause reader writer found → HasCause reader writer (ruled_of found)
+    go (Ok None) h = h
+    go (Ok (Some ruling)) h = h
+    go (Err Read) h = h
+    go (Err Write) h = h
+    go (Err Memory) h = h
+
 -- ---- The status
 
 run_status : (found : Result Outcome DriveFault) (ended : Result Ending DriveFault) → ended ≡ ran_of found → status_of ended ≤ 2
@@ -109,31 +122,44 @@ run_status found ended is = subst (λ e. status_of e ≤ 2) (sym is) (go found)
 
 -- of a command on steps
 pub steps_status : (asked : Asked) (input old new : Option (List ℕ)) (ended : Result Ending DriveFault)
-    → ((most : ℕ) → asked ≡ Explore most → ⊥) → Reports asked input old new ended → status_of ended ≤ 2
-steps_status Replay input old new ended other h = run_status h.0 ended h.1
-steps_status Check input old new ended other h = run_status h.0 ended h.1
-steps_status (Storm turns) input old new ended other h = run_status h.0 ended h.1
-steps_status Plain input old new ended other h = run_status h.0 ended h.1
-steps_status Test input old new ended other h = run_status h.0 ended h.1
-steps_status Show input old new ended other h = run_status h.0 ended h.1
-steps_status Why input old new ended other h = run_status h.0 ended h.1
-steps_status (Explore most) input old new ended other h = absurd (other most refl)
-steps_status (Chart svg) input old new ended other h = run_status h.0 ended h.1
-steps_status (Trace live whys) input old new ended other h = run_status h.0 ended h.1
+    → ((most : ℕ) (whys : Bool) → asked ≡ Explore most whys → ⊥) → ((run : Bool) (most : ℕ) → asked ≡ Judge run most → ⊥) → Reports asked input old new ended → status_of ended ≤ 2
+steps_status Replay input old new ended other one h = run_status h.0 ended h.1
+steps_status Check input old new ended other one h = run_status h.0 ended h.1
+steps_status (Storm turns) input old new ended other one h = run_status h.0 ended h.1
+steps_status Plain input old new ended other one h = run_status h.0 ended h.1
+steps_status Test input old new ended other one h = run_status h.0 ended h.1
+steps_status Show input old new ended other one h = run_status h.0 ended h.1
+steps_status Why input old new ended other one h = run_status h.0 ended h.1
+steps_status (Explore most whys) input old new ended other one h = absurd (other most whys refl)
+steps_status (Judge run most) input old new ended other one h = absurd (one run most refl)
+steps_status (Chart svg) input old new ended other one h = run_status h.0 ended h.1
+steps_status (Trace live whys) input old new ended other one h = run_status h.0 ended h.1
 
 -- one of the statuses of exploring
 abbrev IsOfExploring : ℕ → Type 0
 IsOfExploring status = (status ≡ 0) ⊎ (status ≡ 1) ⊎ (status ≡ 4) ⊎ (status ≡ 5)
 
-pub exploring_status : (most : ℕ) (input old new : Option (List ℕ)) (ended : Result Ending DriveFault)
-    → Reports (Explore most) input old new ended → IsOfExploring (status_of ended)
-exploring_status most input old new ended h = subst (λ e. IsOfExploring (status_of e)) (sym h.1) (go h.0)
+pub exploring_status : (most : ℕ) (whys : Bool) (input old new : Option (List ℕ)) (ended : Result Ending DriveFault)
+    → Reports (Explore most whys) input old new ended → IsOfExploring (status_of ended)
+exploring_status most whys input old new ended h = subst (λ e. IsOfExploring (status_of e)) (sym h.1) (go h.0)
   where
     go : (found : Result (Option Judged) DriveFault) → IsOfExploring (status_of (explored_of found))
     go (Ok None) = inr (inl refl)
     go (Ok (Some Holds)) = inl refl
     go (Ok (Some Fails)) = inr (inr (inl refl))
     go (Ok (Some Unknown)) = inr (inr (inr refl))
+    go (Err fault) = inr (inl refl)
+
+pub ruling_status : (run : Bool) (most : ℕ) (input old new : Option (List ℕ)) (ended : Result Ending DriveFault)
+    → Reports (Judge run most) input old new ended → IsOfExploring (status_of ended)
+ruling_status run most input old new ended h = subst (λ e. IsOfExploring (status_of e)) (sym h.1) (go h.0)
+  where
+    go : (found : Result (Option Ruling) DriveFault) → IsOfExploring (status_of (ruled_of found))
+    go (Ok None) = inr (inl refl)
+    go (Ok (Some Safe)) = inl refl
+    go (Ok (Some Unsafe)) = inr (inr (inl refl))
+    go (Ok (Some Stuck)) = inr (inr (inl refl))
+    go (Ok (Some CutOff)) = inr (inr (inr refl))
     go (Err fault) = inr (inl refl)
 
 appends_nothing : (old : Option (List ℕ)) → Appends old old []
@@ -156,6 +182,10 @@ unprinted said old = (nothing_of old said.text, tt)
 lacking : {makes : Result Outcome DriveFault → Type 0} → makes (Err Memory) → RunsTo makes (Err Memory)
 lacking made = (Err Memory, refl, made)
 
+unruled : (run : Bool) (most : ℕ) (text : List ℕ) (old : Option (List ℕ)) → Rules run most text old old (Err Memory)
+unruled true most text old = nothing_of old []
+unruled false most text old = nothing_of old []
+
 unwritten_by : (asked : Asked) (input old : Option (List ℕ)) → Reports asked input old old (Err Memory)
 unwritten_by Replay input old = lacking (unwritten_where Outcome _ input old (λ text. (nothing_of old (report_of text), tt)))
 unwritten_by Check input old = lacking (unwritten_where Outcome _ input old (λ text. (nothing_of old (check_of text), tt)))
@@ -166,7 +196,8 @@ unwritten_by Show input old = lacking (unwritten_where Outcome _ input old (λ t
 unwritten_by Why input old = lacking (unwritten_where Outcome _ input old (λ text. unprinted (whys_of text) old))
 unwritten_by (Chart svg) input old =
     lacking (unwritten_where Outcome _ input old (λ text. (show_of text, (refl, λ wrong. refl), unprinted (show_of text) old)))
-unwritten_by (Explore most) input old = (Err Memory, refl, unwritten_where (Option Judged) _ input old (λ text. nothing_of old []))
+unwritten_by (Explore most whys) input old = (Err Memory, refl, unwritten_where (Option Judged) _ input old (λ text. nothing_of old []))
+unwritten_by (Judge run most) input old = (Err Memory, refl, unwritten_where (Option Ruling) _ input old (λ text. unruled run most text old))
 unwritten_by (Trace live whys) None old = lacking tt
 unwritten_by (Trace live whys) (Some text) old = lacking (unprinted (trace_of (style_of live whys) text) old)
 

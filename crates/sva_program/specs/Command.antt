@@ -14,7 +14,7 @@ use Rattle.clap.specs.declared.builder.value_parser.ValueParser.TheVariants.{Uns
 use Rattle.clap.specs.declared.error.kind.ErrorKind.{ErrorKind}
 use Rattle.clap.specs.declared.error.kind.ErrorKind.TheVariants.{DisplayHelp, DisplayVersion}
 use Rattle.sva_program.specs.declared.command.Asked.{Asked}
-use Rattle.sva_program.specs.declared.command.Asked.TheVariants.{Replay, Check, Storm, Plain, Test, Show, Why, Chart, Explore, Trace}
+use Rattle.sva_program.specs.declared.command.Asked.TheVariants.{Replay, Check, Storm, Plain, Test, Show, Why, Chart, Explore, Judge, Trace}
 
 -- `--turns N`, a number that is read as u64, from 1 to 1000000, or 10000 where it isn't given
 abbrev pub turns_rule : Rule
@@ -45,8 +45,9 @@ abbrev pub no_commands : App
 no_commands = let plain = new_app (codes "svahost") in
     record plain { top = record plain.top { has_version = true; subcommand_required = true; disable_help_subcommand = true } }
 
--- `svahost` with a version and its commands: `storm`, which takes `--turns`, `chart`, which takes `--svg`, `explore`, which takes `--most`,
--- `trace`, which takes `--live` and `--why`, and those that take no arguments; each has clap's flags for help
+-- `svahost` with a version and its commands: `storm`, which takes `--turns`, `chart`, which takes `--svg`, `explore`, which takes `--most` and
+-- `--why`, `judge`, which takes `--most` and `--run`, `trace`, which takes `--live` and `--why`, and those that take no arguments; each has clap's
+-- flags for help
 abbrev pub svahost : App
 svahost =
     let replaying = with_subcommand no_commands (new_app (codes "replay")).top in
@@ -57,8 +58,9 @@ svahost =
     let showing = with_subcommand testing (new_app (codes "show")).top in
     let explaining = with_subcommand showing (new_app (codes "why")).top in
     let charting = with_subcommand explaining (with_rule (new_app (codes "chart")) (flag_rule (codes "svg"))).top in
-    let exploring = with_subcommand charting (with_rule (new_app (codes "explore")) most_rule).top in
-    with_subcommand exploring (with_rule (with_rule (new_app (codes "trace")) (flag_rule (codes "live"))) (flag_rule (codes "why"))).top
+    let exploring = with_subcommand charting (with_rule (with_rule (new_app (codes "explore")) most_rule) (flag_rule (codes "why"))).top in
+    let judging = with_subcommand exploring (with_rule (with_rule (new_app (codes "judge")) most_rule) (flag_rule (codes "run"))).top in
+    with_subcommand judging (with_rule (with_rule (new_app (codes "trace")) (flag_rule (codes "live"))) (flag_rule (codes "why"))).top
 
 -- the faults of words, by clap's definitions
 unfoldable pub faults_of : List Text → Kinds
@@ -96,7 +98,14 @@ last_shape shape (next ∷ shapes) = last_shape next shapes
 abbrev pub trace_shape : Shape
 trace_shape = last_shape (built svahost).top (built svahost).subs
 
--- the commands `chart` and `explore` as clap builds them: the last but two, and the last but one
+-- the commands `chart`, `explore` and `judge` as clap builds them: the last but three, the last but two, and the last but one
+abbrev pub last_but_three : Shape → List Shape → Shape
+last_but_three shape [] = shape
+last_but_three shape (last ∷ []) = shape
+last_but_three shape (other ∷ last ∷ []) = shape
+last_but_three shape (one ∷ other ∷ last ∷ []) = shape
+last_but_three shape (next ∷ two ∷ one ∷ other ∷ shapes) = last_but_three next (two ∷ one ∷ other ∷ shapes)
+
 abbrev pub last_but_two : Shape → List Shape → Shape
 last_but_two shape [] = shape
 last_but_two shape (last ∷ []) = shape
@@ -109,10 +118,13 @@ last_but_one shape (last ∷ []) = shape
 last_but_one shape (next ∷ other ∷ shapes) = last_but_one next (other ∷ shapes)
 
 abbrev pub chart_shape : Shape
-chart_shape = last_but_two (built svahost).top (built svahost).subs
+chart_shape = last_but_three (built svahost).top (built svahost).subs
 
 abbrev pub explore_shape : Shape
-explore_shape = last_but_one (built svahost).top (built svahost).subs
+explore_shape = last_but_two (built svahost).top (built svahost).subs
+
+abbrev pub judge_shape : Shape
+judge_shape = last_but_one (built svahost).top (built svahost).subs
 
 -- what was found of `--most`
 abbrev pub most_text : List Row → Option Text
@@ -128,18 +140,20 @@ abbrev pub within : Option ℕ → ℕ
 within None = 1000000
 within (Some most) = if nat_le 1 most && nat_le most 1000000000 then most else 1000000
 
--- the words behind `explore`, by clap's definitions: they have no fault, and give this number
-abbrev pub GivesMost : ℕ → List Text → Type 0
-GivesMost most words =
-    (level_fault explore_shape [] nothing_held words false [] ≡ []) × (most ≡ most_by (most_text (rows_after explore_shape.rules [] words)))
-
--- the words are the program's name, `explore`, and words that give this number of moments
-abbrev pub IsExplore : ℕ → List Text → Type 0
-IsExplore most words = (name : Text) × (rest : List Text) × GivesMost most rest × (words ≡ name ∷ codes "explore" ∷ rest)
-
 -- was a flag found?
 abbrev pub is_given : (flag : Text) → List Row → Bool
 is_given flag rows = option_map_or (λ text. bytes_eq text (codes "true")) (first_of flag rows) false
+
+-- the words behind `explore`, by clap's definitions: they have no fault, they give this number, and `--why` is among them or not
+abbrev pub GivesWanted : (most : ℕ) → (whys : Bool) → List Text → Type 0
+GivesWanted most whys words =
+    (level_fault explore_shape [] nothing_held words false [] ≡ [])
+    × (most ≡ most_by (most_text (rows_after explore_shape.rules [] words)))
+    × (whys ≡ is_given (codes "why") (rows_after explore_shape.rules [] words))
+
+-- the words are the program's name, `explore`, and words that give this number of moments and say this of `--why`
+abbrev pub IsExplore : (most : ℕ) → (whys : Bool) → List Text → Type 0
+IsExplore most whys words = (name : Text) × (rest : List Text) × GivesWanted most whys rest × (words ≡ name ∷ codes "explore" ∷ rest)
 
 -- the words behind `trace`, by clap's definitions: they have no fault, and each of its flags is among them or not
 abbrev pub GivesFlags : (live whys : Bool) → List Text → Type 0
@@ -151,6 +165,17 @@ GivesFlags live whys words =
 -- the words are the program's name, `trace`, and words that say this of `--live` and of `--why`
 abbrev pub IsTrace : (live whys : Bool) → List Text → Type 0
 IsTrace live whys words = (name : Text) × (rest : List Text) × GivesFlags live whys rest × (words ≡ name ∷ codes "trace" ∷ rest)
+
+-- the words behind `judge`, by clap's definitions: they have no fault, `--run` is among them or not, and they give this number
+abbrev pub GivesJudge : (run : Bool) → (most : ℕ) → List Text → Type 0
+GivesJudge run most words =
+    (level_fault judge_shape [] nothing_held words false [] ≡ [])
+    × (run ≡ is_given (codes "run") (rows_after judge_shape.rules [] words))
+    × (most ≡ most_by (most_text (rows_after judge_shape.rules [] words)))
+
+-- the words are the program's name, `judge`, and words that say this of `--run` and of `--most`
+abbrev pub IsJudge : (run : Bool) → (most : ℕ) → List Text → Type 0
+IsJudge run most words = (name : Text) × (rest : List Text) × GivesJudge run most rest × (words ≡ name ∷ codes "judge" ∷ rest)
 
 -- the words behind `chart`, by clap's definitions: they have no fault, and `--svg` is among them or not
 abbrev pub GivesSvg : Bool → List Text → Type 0
@@ -171,7 +196,8 @@ Asks Test words = IsCommand (codes "test") words
 Asks Show words = IsCommand (codes "show") words
 Asks Why words = IsCommand (codes "why") words
 Asks (Chart svg) words = IsChart svg words
-Asks (Explore most) words = IsExplore most words
+Asks (Explore most whys) words = IsExplore most whys words
+Asks (Judge run most) words = IsJudge run most words
 Asks (Trace live whys) words = IsTrace live whys words
 
 -- the command that clap entered, by its name and by what was found of `--turns`
@@ -195,7 +221,8 @@ asked_by (Some (name, rows)) =
     if bytes_eq name (codes "show") then Show else
     if bytes_eq name (codes "why") then Why else
     if bytes_eq name (codes "chart") then Chart (is_given (codes "svg") rows) else
-    if bytes_eq name (codes "explore") then Explore (most_by (most_text rows)) else
+    if bytes_eq name (codes "explore") then Explore (most_by (most_text rows)) (is_given (codes "why") rows) else
+    if bytes_eq name (codes "judge") then Judge (is_given (codes "run") rows) (most_by (most_text rows)) else
     if bytes_eq name (codes "trace") then Trace (is_given (codes "live") rows) (is_given (codes "why") rows) else
     Replay
 
@@ -214,7 +241,11 @@ AsksRun words = (asked : Asked) × Asks asked words
 
 -- the words ask for a race to be explored
 abbrev pub AsksExplore : List Text → Type 0
-AsksExplore words = (most : ℕ) × Asks (Explore most) words
+AsksExplore words = (most : ℕ) × (whys : Bool) × Asks (Explore most whys) words
+
+-- the words ask for a driver to be judged, or its lines to be taken
+abbrev pub AsksJudge : List Text → Type 0
+AsksJudge words = (run : Bool) × (most : ℕ) × Asks (Judge run most) words
 
 -- a call for help: by a flag in the place of the command, whatever follows, or behind the command
 pub data CallsHelp (words : List Text) : Type 0 where
@@ -229,6 +260,7 @@ pub data CallsHelp (words : List Text) : Type 0 where
   behind_why : (name : Text) → words ≡ name ∷ codes "why" ∷ codes "--help" ∷ [] → CallsHelp words
   behind_chart : (name : Text) → words ≡ name ∷ codes "chart" ∷ codes "--help" ∷ [] → CallsHelp words
   behind_explore : (name : Text) → words ≡ name ∷ codes "explore" ∷ codes "--help" ∷ [] → CallsHelp words
+  behind_judge : (name : Text) → words ≡ name ∷ codes "judge" ∷ codes "--help" ∷ [] → CallsHelp words
   behind_trace : (name : Text) → words ≡ name ∷ codes "trace" ∷ codes "--help" ∷ [] → CallsHelp words
 
 -- a call for the version: by a flag in the place of the command, whatever follows

@@ -1,5 +1,5 @@
 -- How a run of svahost ends.
-use Rattle.std.specs.Prelude.{◌≡◌, ◌≢◌, ◌⊎◌, ◌≤◌, ℕ, ◌+◌, List, [], ◌∷◌, ◌++◌, codes, Bool, if◌then◌else◌, Option, Some, None, IfOk, IfSome}
+use Rattle.std.specs.Prelude.{◌≡◌, ◌≢◌, ◌⊎◌, ◌≤◌, ℕ, ◌+◌, List, [], ◌∷◌, ◌++◌, codes, Bool, true, false, if◌then◌else◌, Option, Some, None, IfOk, IfSome}
 use Rattle.std.specs.Prelude.{Result, Ok, Err}
 use Rattle.std.specs.Io.KnownBytes.{Appends, Keeps}
 use Rattle.sva_scenario.specs.Report.{check_of, check_outcome_of, outcome_of, report_of}
@@ -21,20 +21,29 @@ use Rattle.sva_script_reports.specs.Whys.{whys_of}
 use Rattle.sva_script_traces.specs.Traces.{trace_of}
 use Rattle.sva_race_reports.specs.declared.judging.Judged.{Judged}
 use Rattle.sva_race_reports.specs.declared.judging.Judged.TheVariants.{Holds, Fails, Unknown}
+use Rattle.sva_race_reports.specs.declared.searching.Wanted.{Wanted}
 use Rattle.sva_race_reports.specs.Explored.{Explores}
+use Rattle.sva_driver_reports.specs.declared.reports.Ruling.{Ruling}
+use Rattle.sva_driver_reports.specs.declared.reports.Ruling.TheVariants.{Safe, Unsafe, Stuck, CutOff}
+use Rattle.sva_driver_runs.specs.Judged.{Judges, Runs}
 use Rattle.sva_program.specs.declared.command.Asked.{Asked}
-use Rattle.sva_program.specs.declared.command.Asked.TheVariants.{Replay, Check, Storm, Plain, Test, Show, Why, Chart, Explore, Trace}
+use Rattle.sva_program.specs.declared.command.Asked.TheVariants.{Replay, Check, Storm, Plain, Test, Show, Why, Chart, Explore, Judge, Trace}
 use Rattle.sva_program.specs.declared.run.Ending.{Ending}
-use Rattle.sva_program.specs.declared.run.Ending.TheVariants.{Explored, Ran}
+use Rattle.sva_program.specs.declared.run.Ending.TheVariants.{Explored, Ran, Ruled}
 
--- the status: 0 where the steps were run, or all claims of a race hold; 1 for a line fault, a refused config and every fault of a stream or
--- of memory; 4 where a claim fails, and 5 where none does and one is unknown
+-- the status: 0 where the steps were run, all claims of a race hold, or a driver is safe; 1 for a line fault, a refused config and every
+-- fault of a stream or of memory; 4 where a claim fails, or a driver isn't safe, or stuck; and 5 where no claim does and one is unknown, or
+-- the search of a driver was cut off
 abbrev pub status_of : Result Ending DriveFault → ℕ
 status_of (Ok (Ran Done)) = 0
 status_of (Ok (Ran Faulted)) = 1
 status_of (Ok (Explored Holds)) = 0
 status_of (Ok (Explored Fails)) = 4
 status_of (Ok (Explored Unknown)) = 5
+status_of (Ok (Ruled Safe)) = 0
+status_of (Ok (Ruled Unsafe)) = 4
+status_of (Ok (Ruled Stuck)) = 4
+status_of (Ok (Ruled CutOff)) = 5
 status_of (Err fault) = 1
 
 -- how a run of steps ends
@@ -47,6 +56,12 @@ abbrev pub explored_of : Result (Option Judged) DriveFault → Result Ending Dri
 explored_of (Ok None) = Ok (Ran Faulted)
 explored_of (Ok (Some judged)) = Ok (Explored judged)
 explored_of (Err fault) = Err fault
+
+-- how the judging of a driver ends; of one that isn't run nothing is said
+abbrev pub ruled_of : Result (Option Ruling) DriveFault → Result Ending DriveFault
+ruled_of (Ok None) = Ok (Ran Faulted)
+ruled_of (Ok (Some ruling)) = Ok (Ruled ruling)
+ruled_of (Err fault) = Err fault
 
 -- the line that tells of a fault
 abbrev pub fault_line : DriveFault → List ℕ
@@ -88,6 +103,10 @@ columns_of live = if live then Tabbed else Padded
 abbrev pub style_of : (live whys : Bool) → Style
 style_of live whys = record { columns = columns_of live; whys = whys }
 
+-- `--most` limits how many moments are looked at, and `--why` tells behind each witness which lines wait where it ends
+abbrev pub wanted_of : (most : ℕ) → (whys : Bool) → Wanted
+wanted_of most whys = record { most = most; whys = whys }
+
 -- a run of steps ended, and made this
 abbrev pub RunsTo : (Result Outcome DriveFault → Type 0) → Result Ending DriveFault → Type 0
 RunsTo makes ended = (found : Result Outcome DriveFault) × (ended ≡ ran_of found) × makes found
@@ -95,6 +114,15 @@ RunsTo makes ended = (found : Result Outcome DriveFault) × (ended ≡ ran_of fo
 -- so did the exploring of a race
 abbrev pub ExploresTo : (Result (Option Judged) DriveFault → Type 0) → Result Ending DriveFault → Type 0
 ExploresTo makes ended = (found : Result (Option Judged) DriveFault) × (ended ≡ explored_of found) × makes found
+
+-- so did the judging of a driver
+abbrev pub RulesTo : (Result (Option Ruling) DriveFault → Type 0) → Result Ending DriveFault → Type 0
+RulesTo makes ended = (found : Result (Option Ruling) DriveFault) × (ended ≡ ruled_of found) × makes found
+
+-- its lines were taken one after another, or all orders judged
+abbrev pub Rules : (run : Bool) → (most : ℕ) → (text : List ℕ) → (old new : Option (List ℕ)) → Result (Option Ruling) DriveFault → Type 0
+Rules true most text old new found = Runs text old new found
+Rules false most text old new found = Judges text most old new found
 
 -- What a command wrote. What a storm makes of its input depends on its threads: they have played the scenario in so many turns each, and
 -- what is written is what the audit of their receipts found, the sum of its own counts or a bad receipt; where memory lacked, nothing is. A
@@ -112,7 +140,9 @@ Reports Test input old new = RunsTo (λ found. WhereKnown (λ text. Prints (test
 Reports Show input old new = RunsTo (λ found. WhereKnown (λ text. Prints (show_of text) old new found) input old new found)
 Reports Why input old new = RunsTo (λ found. WhereKnown (λ text. Prints (whys_of text) old new found) input old new found)
 Reports (Chart svg) input old new = RunsTo (λ found. WhereKnown (λ text. Charts text old new found) input old new found)
-Reports (Explore most) input old new = ExploresTo (λ found. WhereKnown (λ text. Explores text most old new found) input old new found)
+Reports (Explore most whys) input old new =
+    ExploresTo (λ found. WhereKnown (λ text. Explores text (wanted_of most whys) old new found) input old new found)
+Reports (Judge run most) input old new = RulesTo (λ found. WhereKnown (λ text. Rules run most text old new found) input old new found)
 Reports (Trace live whys) input old new = RunsTo (λ found. IfSome input (λ text. Prints (trace_of (style_of live whys) text) old new found))
 
 -- a text for the user: something is said, and where the value's own text is known and isn't empty, it is that one

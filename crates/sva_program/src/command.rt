@@ -6,8 +6,8 @@ ghost use Rattle.sva_program.specs.Command.{Asks, IsReadable, IsWritten, asked_b
 ghost use Rattle.sva_program.specs.Command.{most_by, most_rule, most_text, svahost, texts, turns_by, turns_rule, turns_text, within};
 
 use crate::help::{
-    ABOUT, CHART, CHECK, EXPLORE, HELP, LIVE, MOST, PLAIN, REPLAY, SHOW, STORM, SVG, TEST, TRACE,
-    TURNS, VERSION, WHY, WHYS,
+    ABOUT, CHART, CHECK, ENDS, EXPLORE, HELP, JUDGE, LIVE, MOST, PLAIN, REPLAY, RUN, SHOW, STORM,
+    SVG, TEST, TRACE, TURNS, VERSION, WHY, WHYS,
 };
 use clap::builder::ValueParser;
 use clap::{Arg, ArgAction, ArgMatches, Command, Error};
@@ -52,6 +52,15 @@ pub enum Asked {
     },
     /// What every order of a race comes to.
     Explore {
+        /// How many moments are looked at at most: 1 to 1000000000.
+        most: u64,
+        /// Is it said behind each witness which lines wait where it ends, and what holds them back?
+        whys: bool,
+    },
+    /// Whether each order of a driver is safe.
+    Judge {
+        /// Are the lines taken one after another, and no other order?
+        run: bool,
         /// How many moments are looked at at most: 1 to 1000000000.
         most: u64,
     },
@@ -125,13 +134,16 @@ fn most_option<'a>(alloc: Global) -> Arg<'a>
 
 /// The program with its command `explore`.
 fn with_explore<'a>(svahost: Command<'a>, alloc: Global) -> Result<Command<'a>, AllocError>
-    ensures { IfOk result (λ command. app_of command ≡ with_subcommand (app_of svahost.entry) (with_rule (new_app (codes "explore")) most_rule).top) }
+    ensures { IfOk result (λ command. app_of command
+        ≡ with_subcommand (app_of svahost.entry) (with_rule (with_rule (new_app (codes "explore")) most_rule)
+        (flag_rule (codes "why"))).top) }
 {
     let explore = Command::new(alloc, "explore")
         .about(EXPLORE)
         .long_about(whole_help());
     let with_most = explore.arg(most_option(alloc))?;
-    svahost.subcommand(with_most)
+    let with_why = with_most.arg(flag(alloc, "why", ENDS))?;
+    svahost.subcommand(with_why)
 }
 
 /// An option that is a flag.
@@ -143,6 +155,20 @@ fn flag<'a>(alloc: Global, name: &'a str, about: &'a str) -> Arg<'a>
         .long(name)
         .action(ArgAction::SetTrue)
         .help(about)
+}
+
+/// The program with its command `judge`.
+fn with_judge<'a>(svahost: Command<'a>, alloc: Global) -> Result<Command<'a>, AllocError>
+    ensures { IfOk result (λ command. app_of command
+        ≡ with_subcommand (app_of svahost.entry) (with_rule (with_rule (new_app (codes "judge"))
+        most_rule) (flag_rule (codes "run"))).top) }
+{
+    let judge = Command::new(alloc, "judge")
+        .about(JUDGE)
+        .long_about(whole_help());
+    let with_most = judge.arg(most_option(alloc))?;
+    let with_run = with_most.arg(flag(alloc, "run", RUN))?;
+    svahost.subcommand(with_run)
 }
 
 /// The program with its command `trace`.
@@ -199,7 +225,8 @@ fn command<'a>(alloc: Global) -> Result<Command<'a>, AllocError>
     let explaining = with_bare(showing, alloc, "why", WHY)?;
     let charting = with_chart(explaining, alloc)?;
     let exploring = with_explore(charting, alloc)?;
-    with_trace(exploring, alloc)
+    let judging = with_judge(exploring, alloc)?;
+    with_trace(judging, alloc)
 }
 
 /// The command that the words ask for. A call for help or for the version is an `Err` too, as clap has it.
@@ -229,7 +256,14 @@ fn entered(matches: &ArgMatches<'_>) -> Asked
         Some(("chart", below)) => Asked::Chart {
             svg: is_given(below, "svg"),
         },
-        Some(("explore", below)) => Asked::Explore { most: most(below) },
+        Some(("explore", below)) => Asked::Explore {
+            most: most(below),
+            whys: wants_ends(below),
+        },
+        Some(("judge", below)) => Asked::Judge {
+            run: is_given(below, "run"),
+            most: most(below),
+        },
         Some(("trace", below)) => Asked::Trace {
             live: is_given(below, "live"),
             whys: is_given(below, "why"),
@@ -260,6 +294,13 @@ fn within(found: Option<u64>) -> u64
         Some(most) if 1 <= most && most <= MOST_MOMENTS => most,
         _ => USUAL_MOMENTS,
     }
+}
+
+/// Are the lines wanted that wait where a witness ends?
+fn wants_ends(explore: &ArgMatches<'_>) -> bool
+    ensures { result ≡ is_given (codes "why") (rows_of (found_of explore.now)) }
+{
+    is_given(explore, "why")
 }
 
 /// Was a flag given?

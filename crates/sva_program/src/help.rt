@@ -42,6 +42,17 @@ pub const EXPLORE: &str =
 /// What `-h` says of `--most`.
 pub const MOST: &str = "How many moments are looked at at most, 1 to 1000000000";
 
+/// What `-h` says of `--why` of `explore`.
+pub const ENDS: &str =
+    "Behind each witness stands which lines wait where it ends, and what holds them back";
+
+/// What `-h` says of `judge`.
+pub const JUDGE: &str =
+    "Follows every order of the driver on standard input, and prints whether each is safe";
+
+/// What `-h` says of `--run`.
+pub const RUN: &str = "The lines are taken one after another, in the order in which they stand";
+
 /// What `-h` says of `trace`.
 pub const TRACE: &str =
     "Runs the script on standard input, and prints each step with its answer and its messages";
@@ -52,7 +63,7 @@ pub const LIVE: &str = "A tab ends a column, and none is padded";
 /// What `-h` says of `--svg`.
 pub const SVG: &str = "The chart is a picture, an SVG file, and not text";
 
-/// What `-h` says of `--why`.
+/// What `-h` says of `--why` of `trace`.
 pub const WHYS: &str =
     "Behind each step that was refused, blocked or withheld stands what holds it back";
 
@@ -157,7 +168,17 @@ go on by themselves. Last stand the claims:
 
 `svahost explore` follows every order, and prints of each claim whether it holds, fails, or is unknown
 since `--most N` moments were looked at. A claim that fails has a witness, a shortest scenario that
-`replay` takes; so has a `sometimes` that holds.
+`replay` takes; so has a `sometimes` that holds. With `--why` stands behind each witness which lines
+wait where it ends, and what holds them back.
+
+A driver is the order in which another host does what it does, in lines of its own. `svahost judge`
+follows every order of its lines beside what the link, the units, the workers and the endpoints may
+do, and prints whether each is safe: else a shortest list of events behind which an endpoint may
+still use a frame that has another owner, say. `--most N` is as of `explore`; `--run` takes the lines
+one after another instead. docs/FORMAT.md describes the lines.
+
+`./svahost explore FILE ..` and `./svahost judge FILE ..` search several side by side and print a
+line for each; `--part K/N` is every N-th of them, from the K-th on.
 
 The config, and the steps. E is an endpoint, S a space, B a binding, M a message, F a frame and W a
 worker, each numbered from 0, and a word in brackets may be missing:
@@ -227,11 +248,12 @@ withheld until each has answered an invalidation.
 A step that isn't allowed is answered `refused N Name`, changes nothing, and the run goes on. Where
 a line can't be read nothing is run, and the report is that line's fault alone: `line 2 WordCount`.
 
-The status is 0 where the steps were run, refused ones too, where all claims of a race hold, and for
-help and the version; 1 for a line that can't be read, for a config that is out of its limits, for a
-bad audit, and for a fault of a stream or of memory, of which standard error tells in a line; 2 for
-a wrong command line, of which standard error tells too; 4 where a claim fails; and 5 where none
-fails and one is unknown. The script svahost ends with 3 where it can't build the program. All else
-goes to standard output.
+The status is 0 where the steps were run, refused ones too, where all claims of a race hold, where a
+driver is safe, and for help and the version; 1 for a line that can't be read, for a config that is
+out of its limits, for a bad audit, and for a fault of a stream or of memory, of which standard error
+tells in a line; 2 for a wrong command line, of which standard error tells too; 4 where a claim
+fails, and where a driver is unsafe or stuck; and 5 where none fails and one is unknown, and where
+the search of a driver was cut off. The script svahost ends with 3 where it can't build the program.
+All else goes to standard output.
 
 docs/FORMAT.md describes scenarios, steps, refusals and reports, and examples/ has more of them.";

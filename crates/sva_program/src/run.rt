@@ -3,9 +3,9 @@
 ghost use Rattle.std.specs.Prelude.{◌≡◌, ◌≢◌, ◌≤◌, ◌<◌, ◌⊎◌, List, ℕ, [], length, Option, OnOk, Result};
 ghost use Rattle.std.specs.Io.KnownBytes.{Appends};
 ghost use Rattle.std.specs.IoError.{error_kind};
-ghost use Rattle.sva_program.specs.Command.{Asks, AsksExplore, AsksRun, AsksText, CallsHelp, CallsVersion, IsMistaken, texts};
-ghost use Rattle.sva_program.specs.Run.{HasCause, IsSaid, Reports, Says, columns_of, complaint, explored_of, fault_line, ran_of};
-ghost use Rattle.sva_program.specs.Run.{status_of, style_of, unread_line};
+ghost use Rattle.sva_program.specs.Command.{Asks, AsksExplore, AsksJudge, AsksRun, AsksText, CallsHelp, CallsVersion, IsMistaken, texts};
+ghost use Rattle.sva_program.specs.Run.{HasCause, IsSaid, Reports, Rules, Says, WhereKnown, columns_of, complaint, explored_of, fault_line, ran_of, ruled_of};
+ghost use Rattle.sva_program.specs.Run.{status_of, style_of, unread_line, wanted_of};
 ghost use Rattle.sva_scenario.specs.Streams.{IsNew, Writes};
 
 use crate::command::{Asked, parse};
@@ -19,12 +19,14 @@ use std::io::{ErrorKind as IoErrorKind, Read, Write};
 use std::sync::Wait;
 use std::thread::Threads;
 use sva_charts::{Drawing, chart};
-use sva_race_reports::{Judged, explore};
+use sva_driver_reports::Ruling;
+use sva_driver_runs::{judge, run};
+use sva_race_reports::{Judged, Wanted, explore};
 use sva_scenario::{DriveFault, Outcome, Told, check, drive, write_all};
 use sva_script_reports::{Saying, print};
 use sva_script_traces::{Columns, Style, trace};
 
-/// The steps were run, all claims of a race hold, or help was shown.
+/// The steps were run, all claims of a race hold, a driver is safe, or help was shown.
 const DONE: u8 = 0;
 
 /// A line fault, a config out of its limits, or a fault of a stream or of memory.
@@ -33,19 +35,21 @@ const FAULT: u8 = 1;
 /// The command line is wrong.
 const MISTAKE: u8 = 2;
 
-/// A claim of a race fails.
+/// A claim of a race fails, or a driver isn't safe, or stuck.
 const FAILED: u8 = 4;
 
-/// No claim of a race fails, and one is unknown.
+/// No claim of a race fails, and one is unknown; or the search of a driver was cut off.
 const UNKNOWN: u8 = 5;
 
 /// How a run ends where no stream failed and no memory lacked.
 #[derive(Clone, Copy, PartialEq, Eq)]
 pub enum Ending {
-    /// So a run of steps ended. `Faulted` is also said of a race that isn't run.
+    /// So a run of steps ended. `Faulted` is also said of a race or a driver that isn't run.
     Ran(Outcome),
     /// A race was explored, and this is said of all its claims together.
     Explored(Judged),
+    /// A driver was judged, or its lines were taken, and this is said of it.
+    Ruled(Ruling),
 }
 
 /// A whole run of svahost on its words, the program's name first: the status that it exits with. The command line is
@@ -79,8 +83,10 @@ pub fn main_with<X: AllocGlobal + Threads + Wait + Sync, R: Read, W: Write, E: W
     ensures calls_help { CallsHelp (texts words.now) → result ≢ MISTAKE }
     ensures calls_version { CallsVersion (texts words.now) → result ≢ MISTAKE }
     ensures no_command { length words.now < 2 → result ≢ DONE }
-    ensures status { (AsksExplore (texts words.now) → ⊥) → result ≤ MISTAKE }
+    ensures status { (AsksExplore (texts words.now) → ⊥) → (AsksJudge (texts words.now) → ⊥) → result ≤ MISTAKE }
     ensures explored { AsksExplore (texts words.now)
+        → (result ≡ DONE) ⊎ (result ≡ FAULT) ⊎ (result ≡ FAILED) ⊎ (result ≡ UNKNOWN) }
+    ensures judged { AsksJudge (texts words.now)
         → (result ≡ DONE) ⊎ (result ≡ FAULT) ⊎ (result ≡ FAILED) ⊎ (result ≡ UNKNOWN) }
 {
     match parse(rt.alloc(), words) {
@@ -113,7 +119,10 @@ fn perform<X: AllocGlobal + Threads + Wait + Sync, R: Read, W: Write>(
         Asked::Show => ran(print(rt.alloc(), Saying::Show, reader, writer)),
         Asked::Why => ran(print(rt.alloc(), Saying::Why, reader, writer)),
         Asked::Chart { svg } => ran(chart(rt.alloc(), drawing_of(svg), reader, writer)),
-        Asked::Explore { most } => explored(explore(rt.alloc(), most, reader, writer)),
+        Asked::Explore { most, whys } => {
+            explored(explore(rt.alloc(), wanted_of(most, whys), reader, writer))
+        }
+        Asked::Judge { run, most } => ruled(rule(rt.alloc(), run, most, reader, writer)),
         Asked::Trace { live, whys } => ran(trace(rt.alloc(), style_of(live, whys), reader, writer)),
     }
 }
@@ -136,6 +145,45 @@ fn explored(found: Result<Option<Judged>, DriveFault>) -> Result<Ending, DriveFa
         Ok(None) => Ok(Ending::Ran(Outcome::Faulted)),
         Ok(Some(judged)) => Ok(Ending::Explored(judged)),
         Err(fault) => Err(fault),
+    }
+}
+
+/// What is wanted of a race.
+fn wanted_of(most: u64, whys: bool) -> Wanted
+    ensures { result ≡ wanted_of most whys }
+{
+    Wanted { most, whys }
+}
+
+/// How the judging of a driver ends, or the taking of its lines.
+fn ruled(found: Result<Option<Ruling>, DriveFault>) -> Result<Ending, DriveFault>
+    ensures { result ≡ ruled_of found }
+{
+    match found {
+        Ok(None) => Ok(Ending::Ran(Outcome::Faulted)),
+        Ok(Some(ruling)) => Ok(Ending::Ruled(ruling)),
+        Err(fault) => Err(fault),
+    }
+}
+
+/// Judges a driver, or takes its lines one after another.
+fn rule<R: Read, W: Write>(
+    alloc: Global,
+    in_order: bool,
+    most: u64,
+    reader: &mut Told<R>,
+    writer: &mut Told<W>,
+) -> Result<Option<Ruling>, DriveFault>
+    requires reader { IsNew reader.old }
+    requires writer { IsNew writer.old }
+    ensures ruled { WhereKnown (λ text. Rules in_order most text (W.contents writer.old.inner) (W.contents writer.new.inner) result)
+        (R.remaining reader.old.inner) (W.contents writer.old.inner) (W.contents writer.new.inner) result }
+    ensures cause { HasCause reader.new writer.new result }
+{
+    if in_order {
+        run(alloc, reader, writer)
+    } else {
+        judge(alloc, most, reader, writer)
     }
 }
 
@@ -199,6 +247,10 @@ fn finish<E: Write>(ended: Result<Ending, DriveFault>, errors: &mut Told<E>) -> 
         Ok(Ending::Explored(Judged::Holds)) => DONE,
         Ok(Ending::Explored(Judged::Fails)) => FAILED,
         Ok(Ending::Explored(Judged::Unknown)) => UNKNOWN,
+        Ok(Ending::Ruled(Ruling::Safe)) => DONE,
+        Ok(Ending::Ruled(Ruling::Unsafe)) => FAILED,
+        Ok(Ending::Ruled(Ruling::Stuck)) => FAILED,
+        Ok(Ending::Ruled(Ruling::CutOff)) => UNKNOWN,
         Err(fault) => {
             complain(fault, errors);
             FAULT

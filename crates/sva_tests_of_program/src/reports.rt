@@ -38,144 +38,14 @@ fn checked<R: Read + Drop, W: Write + Drop>(alloc: Global, reader: R, writer: W)
     }
 }
 
-/// Is this the report of a text, and does the run end so?
-fn reports(alloc: Global, text: &[u8], want: &[u8], end: Outcome) -> Result<bool, DriveFault> {
-    let ended = driven(alloc, text, Vec::new(alloc));
-    Ok(ended.result? == end && is_whole(&ended.reader, &ended.writer, want))
-}
-
 /// Was all of the input read, and this written?
 fn is_whole(reader: &Told<&[u8]>, writer: &Told<Vec<u8>>, want: &[u8]) -> bool {
     writer.inner().as_slice() == want && reader.inner().is_empty()
 }
 
-/// Is this the report of a run to its end, with and without the last LF of the text?
-fn runs(alloc: Global, text: &str, want: &str) -> Result<bool, DriveFault> {
-    let text = text.as_bytes();
-    let cut = &text[..text.len().saturating_sub(1)];
-    Ok(
-        reports(alloc, text, want.as_bytes(), Outcome::Done)?
-            && reports(alloc, cut, want.as_bytes(), Outcome::Done)?,
-    )
-}
-
 static FIRST: &str = "config 1 4 1\nspace\nmap 0 16 w\nunmap 0 16\nmap 0 16 r\n";
 
 static FIRST_REPORT: &str = "space 0\nframe 0\nfree 0\nframe 0\nfree 3 mapped 1 withheld 0\n";
-
-/// Does a check of a text write this, and end so?
-fn checks(alloc: Global, text: &str, want: &str, end: Outcome) -> Result<bool, DriveFault> {
-    let ended = checked(alloc, text.as_bytes(), Vec::new(alloc));
-    Ok(ended.result? == end && is_whole(&ended.reader, &ended.writer, want.as_bytes()))
-}
-
-#[test]
-fn checks_texts(rt: HostRuntime) -> Result<(), Fail> {
-    let alloc = rt.alloc();
-    let steps = "config 0 0 0\n#\nspace";
-    assert!(rt; checks(alloc, FIRST, "steps 4\n", Outcome::Done)?);
-    assert!(rt; checks(alloc, steps, "steps 1\n", Outcome::Done)?);
-    assert!(rt; checks(alloc, "space\n", "line 1 NoConfig\n", Outcome::Faulted)?);
-    Ok(())
-}
-
-#[test]
-fn reports_short_runs(rt: HostRuntime) -> Result<(), Fail> {
-    let alloc = rt.alloc();
-    assert!(rt; runs(alloc, FIRST, FIRST_REPORT)?);
-    assert!(rt; runs(alloc, "config 2 5 1\n", "free 5 mapped 0 withheld 0\n")?);
-    Ok(())
-}
-
-/// Texts with a fault, and what is written of it.
-static FAULTS: [(&str, &str); 7] = [
-    ("", "line 1 NoConfig\n"),
-    ("config 1 4", "line 1 WordCount\n"),
-    ("config 1 4097 1", "refused 1 BadConfig\n"),
-    ("config 0 4 1\nspace", "refused 1 BadConfig\n"),
-    ("config 1 4097 1\nspase", "line 2 UnknownStep\n"),
-    ("config 1 4 1\nspace\nmap 0 16", "line 3 WordCount\n"),
-    ("config 1 4 1\nunmap 0  16", "line 2 BadWord\n"),
-];
-
-/// Where a line can't be read, or the config is out of its limits, nothing is run.
-#[test]
-fn reports_faults(rt: HostRuntime) -> Result<(), Fail> {
-    let alloc = rt.alloc();
-    for (text, want) in &FAULTS {
-        let text = text.as_bytes();
-        assert!(rt;
-            reports(alloc, text, want.as_bytes(), Outcome::Faulted)?,
-            "{want}"
-        );
-    }
-    Ok(())
-}
-
-/// Lines that are hostile in one byte or word, and what is written of them.
-static HOSTILE: &[(&[u8], &[u8])] = &[
-    (b" config 1 4 1\n", b"line 1 NoConfig\n"),
-    (b"config 1 4\n", b"line 1 WordCount\n"),
-    (
-        b"config 18446744073709551615 4 1\n",
-        b"refused 1 BadConfig\n",
-    ),
-    (b"config 1 4 1\nconfig 1 4 1\n", b"line 2 UnknownStep\n"),
-    (b"config 1 4 1\nspace\r\n", b"line 2 UnknownStep\n"),
-    (b"config 1 4 1\nspace \n", b"line 2 WordCount\n"),
-    (b"config 1 4 1\nmap 0  16 w\n", b"line 2 WordCount\n"),
-    (b"config 1 4 1\nunmap 0  16\n", b"line 2 BadWord\n"),
-    (b"config 1 4 1\nmap 0 016 w\n", b"line 2 BadWord\n"),
-    (
-        b"config 1 4 1\nlook 18446744073709551616\n",
-        b"line 2 BadWord\n",
-    ),
-    (b"config 1 4 1\nlook \xff\n", b"line 2 BadWord\n"),
-    (b"config 1 4 1\nfinish 0 0000000B 1\n", b"line 2 BadWord\n"),
-];
-
-/// Each of these lines is told the same where the text ends without LF. A LF alone is one empty line, and the config is missed
-/// on the line behind it.
-#[test]
-fn reports_hostile_lines(rt: HostRuntime) -> Result<(), Fail> {
-    let alloc = rt.alloc();
-    for (text, want) in HOSTILE {
-        let cut = &text[..text.len().saturating_sub(1)];
-        assert!(rt; reports(alloc, text, want, Outcome::Faulted)?, "{want:?}");
-        assert!(rt; reports(alloc, cut, want, Outcome::Faulted)?, "{want:?}");
-    }
-    assert!(rt; reports(alloc, b"\n", b"line 2 NoConfig\n", Outcome::Faulted)?);
-    Ok(())
-}
-
-/// A config, and so many lines `#` behind it.
-fn commented(alloc: Global, lines: usize) -> Result<Vec<u8>, Fail> {
-    let mut text = Vec::new(alloc);
-    text.extend_from_slice(b"config 1 4 1\n")?;
-    for _line in 0..lines {
-        text.extend_from_slice(b"#\n")?;
-    }
-    Ok(text)
-}
-
-/// A scenario may have 65,536 lines and 1,048,576 bytes, and no line or byte more.
-#[test]
-fn reports_large_texts(rt: HostRuntime) -> Result<(), Fail> {
-    let alloc = rt.alloc();
-    let counts = b"free 4 mapped 0 withheld 0\n";
-    let large = b"line 0 TooLarge\n";
-    let mut text = commented(alloc, 65_535)?;
-    assert!(rt; reports(alloc, text.as_slice(), counts, Outcome::Done)?);
-    text.push(b'#')?;
-    assert!(rt; reports(alloc, text.as_slice(), large, Outcome::Faulted)?);
-    // A comment without LF is the last line, and goes on to the last byte.
-    let mut full = commented(alloc, 65_534)?;
-    full.resize(1_048_576, b'#')?;
-    assert!(rt; reports(alloc, full.as_slice(), counts, Outcome::Done)?);
-    full.push(b'#')?;
-    assert!(rt; reports(alloc, full.as_slice(), large, Outcome::Faulted)?);
-    Ok(())
-}
 
 /// Did all calls of a reader that never ends, a byte a call, end in a fault, with nothing written?
 fn has_read_no_further(ended: &Ended<Broken, Slow>) -> bool {

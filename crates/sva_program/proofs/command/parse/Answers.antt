@@ -2,7 +2,8 @@ use Rattle.std.proofs.Common.{◌≡◌, subst, true, []}
 use Rattle.clap.specs.Words.{App, HasKind, HasMatchesOf, fault_of}
 use Rattle.clap.specs.Faults.{is_simple_and_free}
 use Rattle.sva_program.specs.Command.{texts}
-use Rattle.sva_program.proofs.LineLemmas.{asks_entered, faulted, is_free, untaken}
+use Rattle.sva_program.proofs.LineLemmas.{faulted, is_free, untaken}
+use Rattle.sva_program.proofs.TellLemmas.{asks_entered}
 use Rattle.sva_program.proofs.command.parse.Goals as goal
 
 pub returns-in-Ok-clause-fails : goal.returns-in-Ok-clause-fails

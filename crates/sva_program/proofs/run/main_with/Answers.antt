@@ -2,11 +2,12 @@ use Rattle.std.proofs.Common.{rules, ◌≡◌, ◌≤◌, ◌⊎◌, ap, inl, i
 use Rattle.clap.specs.Words.{HasKind, kind_of}
 use Rattle.sva_scenario.specs.declared.streams.DriveFault.TheVariants.{Memory}
 use Rattle.sva_program.specs.Command.{Asks, faults_of, texts}
-use Rattle.sva_program.specs.declared.command.Asked.TheVariants.{Explore}
+use Rattle.sva_program.specs.declared.command.Asked.TheVariants.{Explore, Judge}
 use Rattle.sva_program.specs.Run.{Reports}
-use Rattle.sva_program.proofs.RunLemmas.{among_faults, asked_text, exploring_status, only_memory, steps_status, unwritten}
+use Rattle.sva_program.proofs.RunLemmas.{among_faults, asked_text, exploring_status, only_memory, ruling_status, steps_status, unwritten}
 use Rattle.sva_program.proofs.CallLemmas.{help_unmistaken, no_command_asks, no_command_taken, version_unmistaken}
-use Rattle.sva_program.proofs.LineLemmas.{one_alone, takes}
+use Rattle.sva_program.proofs.LineLemmas.{takes}
+use Rattle.sva_program.proofs.TellLemmas.{one_alone}
 use Rattle.sva_program.proofs.run.main_with.Goals as goal
 
 pub returns-in-Ok-clause-run : goal.returns-in-Ok-clause-run
@@ -26,25 +27,41 @@ pub returns-in-Ok-clause-no_command : goal.returns-in-Ok-clause-no_command
 returns-in-Ok-clause-no_command g c few done = no_command_taken c.args.words.now few c.in-Ok.ensures.fails
 
 pub returns-in-Ok-clause-status : goal.returns-in-Ok-clause-status
-returns-in-Ok-clause-status g c other =
+returns-in-Ok-clause-status g c other one =
     let ran = c.perform-ended in
     subst (λ status. status ≤ 2) (sym c.finish.ensures.status)
     (steps_status c.in-Ok.asked _ _ _ ran.result
-    (λ most is. other (most, subst (λ a. Asks a (texts c.args.words.now)) is c.in-Ok.ensures.asked)) ran.ensures.report)
+    (λ most whys is. other (most, whys, subst (λ a. Asks a (texts c.args.words.now)) is c.in-Ok.ensures.asked))
+    (λ run most is. one (run, most, subst (λ a. Asks a (texts c.args.words.now)) is c.in-Ok.ensures.asked)) ran.ensures.report)
 
 pub returns-in-Ok-clause-explored : goal.returns-in-Ok-clause-explored
-returns-in-Ok-clause-explored g c (most, asks) =
+returns-in-Ok-clause-explored g c (most, whys, asks) =
     let ran = c.perform-ended in
-    let alone = one_alone (Explore most) c.in-Ok.asked (texts c.args.words.now) asks c.in-Ok.ensures.asked in
+    let alone = one_alone (Explore most whys) c.in-Ok.asked (texts c.args.words.now) asks c.in-Ok.ensures.asked in
     subst (λ status. (status ≡ 0) ⊎ (status ≡ 1) ⊎ (status ≡ 4) ⊎ (status ≡ 5)) (sym c.finish.ensures.status)
-    (exploring_status most _ _ _ ran.result
+    (exploring_status most whys _ _ _ ran.result
     (subst (λ a. Reports a (g.R.Read.remaining c.args.reader.now.inner) (g.W.Write.contents c.args.writer.now.inner)
     (g.W.Write.contents ran.new.writer.inner) ran.result) (sym alone) ran.ensures.report))
 
 pub returns-in-Err-clause-explored : goal.returns-in-Err-clause-explored
-returns-in-Err-clause-explored g c (most, asks) =
+returns-in-Err-clause-explored g c (most, whys, asks) =
     let fails : HasKind (faults_of (texts c.args.words.now)) c.in-Err.error = search rules in
-    let memory = c.answer.ensures.memory (c.kind.ensures ∙ only_memory _ c.in-Err.error (takes (Explore most) _ asks) fails) in
+    let memory = c.answer.ensures.memory (c.kind.ensures ∙ only_memory _ c.in-Err.error (takes (Explore most whys) _ asks) fails) in
+    inr (inl memory.0)
+
+pub returns-in-Ok-clause-judged : goal.returns-in-Ok-clause-judged
+returns-in-Ok-clause-judged g c (run, most, asks) =
+    let ran = c.perform-ended in
+    let alone = one_alone (Judge run most) c.in-Ok.asked (texts c.args.words.now) asks c.in-Ok.ensures.asked in
+    subst (λ status. (status ≡ 0) ⊎ (status ≡ 1) ⊎ (status ≡ 4) ⊎ (status ≡ 5)) (sym c.finish.ensures.status)
+    (ruling_status run most _ _ _ ran.result
+    (subst (λ a. Reports a (g.R.Read.remaining c.args.reader.now.inner) (g.W.Write.contents c.args.writer.now.inner)
+    (g.W.Write.contents ran.new.writer.inner) ran.result) (sym alone) ran.ensures.report))
+
+pub returns-in-Err-clause-judged : goal.returns-in-Err-clause-judged
+returns-in-Err-clause-judged g c (run, most, asks) =
+    let fails : HasKind (faults_of (texts c.args.words.now)) c.in-Err.error = search rules in
+    let memory = c.answer.ensures.memory (c.kind.ensures ∙ only_memory _ c.in-Err.error (takes (Judge run most) _ asks) fails) in
     inr (inl memory.0)
 
 pub returns-in-Err-clause-run : goal.returns-in-Err-clause-run

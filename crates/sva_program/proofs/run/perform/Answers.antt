@@ -9,8 +9,8 @@ use Rattle.sva_script_reports.specs.Shows.{show_of}
 use Rattle.sva_script_reports.specs.Whys.{whys_of}
 use Rattle.sva_script_traces.specs.Traces.{trace_of}
 use Rattle.sva_race_reports.specs.Explored.{Explores}
-use Rattle.sva_program.specs.Run.{Reports}
-use Rattle.sva_program.proofs.RunLemmas.{caused, caused_exploring, caused_run, printed, reported, run_reported}
+use Rattle.sva_program.specs.Run.{Reports, wanted_of}
+use Rattle.sva_program.proofs.RunLemmas.{caused, caused_exploring, caused_ruling, caused_run, printed, reported, run_reported}
 use Rattle.sva_program.proofs.run.perform.Goals as goal
 
 pub returns-in-Replay-clause-report : goal.returns-in-Replay-clause-report
@@ -146,8 +146,8 @@ returns-in-Explore-clause-report g c =
     subst (λ a. Reports a input old new c.explored.result) (sym c.in-Explore.is) (
       found.result,
       c.explored.ensures,
-      (reported (λ text. Explores text c.in-Explore.most old new found.result) input old new found.result
-          found.ensures.explored (λ read. ap (λ told. g.W.Write.contents told.inner) (found.ensures.read read).0)),
+      (reported (λ text. Explores text (wanted_of c.in-Explore.most c.in-Explore.whys) old new found.result) input old new found.result
+          (subst (λ wanted. IfSome input (λ text. Explores text wanted old new found.result)) c.wanted_of.ensures found.ensures.explored) (λ read. ap (λ told. g.W.Write.contents told.inner) (found.ensures.read read).0)),
     )
 
 pub returns-in-Explore-clause-cause : goal.returns-in-Explore-clause-cause
@@ -192,3 +192,16 @@ returns-in-Trace-clause-cause g c =
     let none = IfOk-weaker found.result _ _ (λ _ e. (e.0, e.2)) found.ensures.end in
     caused_run found.new.reader found.new.writer found.result c.ran-in-Trace.result c.ran-in-Trace.ensures
     (caused found.new.reader found.new.writer found.result none (λ read. (found.ensures.read read).1) found.ensures.write found.ensures.memory)
+
+pub returns-in-Judge-clause-report : goal.returns-in-Judge-clause-report
+returns-in-Judge-clause-report g c =
+    let found = c.rule in
+    let input = g.R.Read.remaining c.args.reader.now.inner in
+    let old = g.W.Write.contents c.args.writer.now.inner in
+    let new = g.W.Write.contents found.new.writer.inner in
+    subst (λ a. Reports a input old new c.ruled.result) (sym c.in-Judge.is) (found.result, c.ruled.ensures, found.ensures.ruled)
+
+pub returns-in-Judge-clause-cause : goal.returns-in-Judge-clause-cause
+returns-in-Judge-clause-cause g c =
+    let found = c.rule in
+    caused_ruling found.new.reader found.new.writer found.result c.ruled.result c.ruled.ensures found.ensures.cause

@@ -11,7 +11,7 @@ have to refuse (scripts/by-hand/tests-refuse). Such a file begins with
 and has a block for each edit:
     # the rule that it turns, in a line of words
     edit: NAME
-    only: FUNCTION ..     if need be: those that are to refuse this one
+    only: FUNCTION ..     if need be: those that are to refuse this one, of the first of the crates above where there are some; and `by:` for it alone
     old: TEXT
     new: TEXT             one pair or more
     file: PATH            if need be: the pairs behind it, up to the end of the block, are of this file; ../CRATE/PATH is one of another crate"""
@@ -64,7 +64,7 @@ class Edit:
 
     def __init__(self, crate, name, rule, pairs, by=(), only=()):
         self.crate, self.name, self.rule, self.pairs, self.by, self.only = crate, name, rule, pairs, list(by), list(only)
-        self.folder, self.file, self.function = f"{ROOT}/crates/{crate}", pairs[0][0] if pairs else "", None
+        self.folder, self.file, self.function, self.of = f"{ROOT}/crates/{crate}", pairs[0][0] if pairs else "", None, self
         if pairs and {file for file, _, _ in pairs} == {self.file} and self.file.startswith("src/"):
             self.function = self.place(len(pairs) - 1, function_at)
 
@@ -152,6 +152,31 @@ def head_at(text, end):
             is_inside = line[0] == " "
             is_public = (name.group(1) or "").strip() == "pub" or is_inside and is_of_trait
             found = (kind if is_inside else None), name.group(2), is_public
+    return found
+
+
+@functools.lru_cache(maxsize=None)
+def functions_of(crate):
+    """The functions of a crate by the names that the checker has for them, behind the crate's, each with its count of lines: those beside one another in a file,
+    and methods, which stand by their type. Left out are those of traits, and those with an attribute, as where they call one another."""
+    files = {os.path.relpath(it, f"{ROOT}/crates/{crate}"): text_of(it) for it in files_below(f"{ROOT}/crates/{crate}/src", ".rt")}
+    at = {kind: module_of(file) for file, text in files.items() for kind in re.findall(r"^(?:pub(?:\([a-z]+\))?\s+)?(?:struct|enum)\s+(\w+)", text, re.M)}
+    found = {}
+    for file, text in files.items():
+        place, last, inside = module_of(file), "", None
+        for line in text.splitlines():
+            if re.match(r"(pub(\([a-z]+\))? )?(impl|trait|macro_rules|mod)\b.*\{$", line):
+                kind = re.match(r"impl\b(?:<.*?>)?\s+([A-Z]\w*)(?:<.*>)?\s*\{$", line)
+                place = [*at[kind.group(1)], kind.group(1)] if kind and kind.group(1) in at else None
+            elif line.startswith("}"):
+                place = module_of(file)
+            name = re.match(r"(    )?(?:pub(?:\([a-z]+\))?\s+)?(?:const\s+)?fn\s+(\w+)", line)
+            if name:
+                is_one = place is not None and bool(name.group(1)) == (place != module_of(file)) and not last.lstrip().startswith("#[")
+                inside = "::".join([*place, name.group(2)]) if is_one else None
+            if inside:
+                found[inside] = found.get(inside, 0) + 1
+            last = line
     return found
 
 
@@ -243,10 +268,10 @@ def edits_in(crate, folder):
     found = []
     for path in files_below(f"{ROOT}/crates/{crate}/{folder}", ".edits"):
         head, *blocks = blocks_of(path)
-        file, by = word_of(head, "file:"), word_of(head, "by:").split()
+        file = word_of(head, "file:")
         for lines in blocks:
-            only = word_of(lines, "only:") or word_of(head, "only:")
-            found.append(Edit(crate, word_of(lines, "edit:"), word_of(lines, "#"), pairs_of(lines, file), by, only.split()))
+            by, only = ((word_of(lines, it) or word_of(head, it)).split() for it in ("by:", "only:"))
+            found.append(Edit(crate, word_of(lines, "edit:"), word_of(lines, "#"), pairs_of(lines, file), by, only))
     return found
 
 

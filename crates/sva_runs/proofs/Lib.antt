@@ -1,2 +1,1 @@
 pub mod FullSpace
-pub mod Computed

@@ -1,8 +1,8 @@
-//! Each form of a step's line, and lines that miss it by a word.
+//! Each form of a step's line. runs/commands has lines that miss it by a word.
 
 use std::alloc::{AllocError, Global};
 use std::process::Abort;
-use sva_grammar::{Cause, ParseFault, parse};
+use sva_grammar::{ParseFault, parse};
 use sva_step::{Step, Verdict};
 
 /// A scenario of this step's line alone.
@@ -22,32 +22,10 @@ fn is_read(alloc: Global, line: &str, step: &Step) -> Result<bool, AllocError> {
     }
 }
 
-/// Is the line refused for this cause?
-fn is_refused(alloc: Global, line: &str, cause: Cause) -> Result<bool, AllocError> {
-    let text = scenario_of(alloc, line)?;
-    match parse(alloc, text.as_slice()) {
-        Ok(_) => Ok(false),
-        Err(ParseFault::Line(fault)) => Ok((fault.line, fault.cause) == (2, cause)),
-        Err(ParseFault::Memory) => Err(AllocError),
-    }
-}
-
 /// Each line writes its step.
 fn read_all<R: Abort + AllocGlobal>(rt: &R, lines: &[(&str, Step)]) -> Result<(), AllocError> {
     for (line, step) in lines {
         assert!(rt; is_read(rt.alloc(), line, step)?, "{line}");
-    }
-    Ok(())
-}
-
-/// Each line is refused for this cause.
-fn refuse_all<R: Abort + AllocGlobal>(
-    rt: &R,
-    lines: &[&str],
-    cause: Cause,
-) -> Result<(), AllocError> {
-    for line in lines {
-        assert!(rt; is_refused(rt.alloc(), line, cause)?, "{line}");
     }
     Ok(())
 }
@@ -329,166 +307,4 @@ static VECTORS: [(&str, Step); 6] = [
 #[test]
 fn reads_vectors(rt: HostRuntime) -> Result<(), AllocError> {
     read_all(&rt, &VECTORS)
-}
-
-/// Lines with a word too few or too many. What their words are, is asked later.
-static WRONG_COUNTS: [&str; 50] = [
-    "space 0",
-    "space ",
-    "drop",
-    "drop 0 0",
-    "map 0 16",
-    "map 0 16 w w",
-    "unmap 0",
-    "unmap 0 16 1 1",
-    "unmapr 0 16",
-    "unmapr 0 16 0 0",
-    "look",
-    "look 0 ",
-    "bearer",
-    "bearer 1 1",
-    "bind 0",
-    "bind 0 0 0",
-    "bind 0  0",
-    "unbind",
-    "unbind 0 0",
-    "advance",
-    "advance 0 0",
-    "pump",
-    "pump 0 ",
-    "serve",
-    "serve x x",
-    "reset",
-    "reset 0 0",
-    "take",
-    "take 0 0",
-    "answer 0",
-    "answer x",
-    "answer 0 success 0",
-    "ask 0 1",
-    "ask 0 1 16 r",
-    "use 0 1 16",
-    "use 0 1 16 r r",
-    "end 0",
-    "end 0 0 0",
-    "evict 0 1",
-    "evict 0 1 16 16",
-    "fault 0 1 16 r new",
-    "fault 0 1 16 r last",
-    "fault 0 1 16 r w new last",
-    "finish 0 00000001",
-    "finish 0 00000001 1 1",
-    "finish 0 0000 0001 1",
-    "quit 0",
-    "quit 0 1 ",
-    "deliver",
-    "deliver 0 1",
-];
-
-#[test]
-fn tells_wrong_counts(rt: HostRuntime) -> Result<(), AllocError> {
-    refuse_all(&rt, &WRONG_COUNTS, Cause::WordCount)
-}
-
-/// Lines with a word that is no number, in each place of one.
-static BAD_NUMBERS: [&str; 39] = [
-    "drop x",
-    "map x 16 w",
-    "map 0 +16 w",
-    "unmap 0  16",
-    "unmap 0 16 01",
-    "unmapr 0 16 18446744073709551616",
-    "look 18446744073709551616",
-    "bearer 0x1",
-    "bind x 0",
-    "bind 0 x",
-    "bind 0 ",
-    "bind  0",
-    "unbind -1",
-    "advance 00",
-    "pump 18446744073709551616",
-    "serve 0.",
-    "reset ",
-    "take one",
-    "answer 00 success",
-    "ask x 1 16",
-    "ask 0 x 16",
-    "ask 0 1 x",
-    "use x 1 16 r",
-    "use 0 x 16 r",
-    "use 0 1 x r",
-    "end x 0",
-    "end 0 x",
-    "evict x 1 16",
-    "evict 0 01 16",
-    "evict 0 1 1e1",
-    "fault x 1 16 r new last",
-    "fault 0 x 16 r new last",
-    "fault 0 1 x r new last",
-    "finish x 00000001 1",
-    "finish 0 00000001 x",
-    "quit x 1",
-    "quit 0 x",
-    "deliver 0\r",
-    "deliver ",
-];
-
-#[test]
-fn tells_bad_numbers(rt: HostRuntime) -> Result<(), AllocError> {
-    refuse_all(&rt, &BAD_NUMBERS, Cause::BadWord)
-}
-
-/// A line with another word in the place of an access, a verdict, flags, a group, its last request or a vector.
-static BAD_WORDS: [&str; 29] = [
-    "map 0 16 rw",
-    "map 0 16 W",
-    "answer 0 maybe",
-    "answer 0 Success",
-    "answer 0 ",
-    "answer success 0",
-    "use 0 1 16 rw",
-    "use 0 1 16 x",
-    "use 0 1 16 ",
-    "fault 0 1 16 wr new last",
-    "fault 0 1 16 x new last",
-    "fault 0 1 16  new last",
-    "fault 0 1 16 r old last",
-    "fault 0 1 16 r New last",
-    "fault 0 1 16 r 01 last",
-    "fault 0 1 16 r  last",
-    "fault 0 1 16 r new first",
-    "fault 0 1 16 r new ",
-    "fault 0 1 16 r last new",
-    "finish 0 0000000B 1",
-    "finish 0 1 1",
-    "finish 0 0000001 1",
-    "finish 0 000000001 1",
-    "finish 0 0000000g 1",
-    "finish 0 +0000001 1",
-    "finish 0 0x000001 1",
-    "finish 0  1",
-    "finish 0 0000000` 1",
-    "finish 0 0000000: 1",
-];
-
-#[test]
-fn tells_bad_words(rt: HostRuntime) -> Result<(), AllocError> {
-    refuse_all(&rt, &BAD_WORDS, Cause::BadWord)
-}
-
-static UNKNOWN_STEPS: [&str; 9] = [
-    " ",
-    "config 1 4 1",
-    "Bind 0 0",
-    "bindr 0 0",
-    "reply 0 success",
-    "begin 0 1 16 r",
-    "unmap\r 0 16",
-    " deliver 0",
-    "deliver\t0",
-];
-
-#[test]
-fn tells_unknown_steps(rt: HostRuntime) -> Result<(), AllocError> {
-    refuse_all(&rt, &UNKNOWN_STEPS, Cause::UnknownStep)
 }

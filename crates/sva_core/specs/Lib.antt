@@ -1,4 +1,6 @@
 pub use Rattle.sva_refinement.specs.Tallies
+pub use Rattle.sva_host.specs.Seen as HostSeen
+pub use Rattle.sva_host.specs.Steps as HostSteps
 pub mod Headline
 pub mod Reached
 pub mod Journal

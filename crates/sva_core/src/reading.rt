@@ -1,7 +1,7 @@
 //! What is read of the messages in flight, and the host.
 
 ghost use Rattle.std.specs.Prelude.{◌≡◌, ◌==◌, ◌≤◌, ◌^◌, find, length, option_map, slice_get};
-ghost use Rattle.sva_parts_by_labels.specs.Flights.{flight_at, flight_seen};
+ghost use Rattle.sva_host.specs.Flights.{flight_at, flight_seen};
 
 use crate::world::World;
 use sva_host::Host;

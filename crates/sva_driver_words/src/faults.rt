@@ -5,14 +5,15 @@ ghost use Rattle.std.specs.Prelude.{slice_get};
 ghost use Rattle.sva_driver_words.specs.Faults.{act_words, behind_words, before_words, descriptor_words, fault_text};
 ghost use Rattle.sva_driver_words.specs.Faults.{more_kind_words, near_wanted, no_more};
 ghost use Rattle.sva_driver_words.specs.Faults.{setting_words, wanted_text, where_text};
-ghost use Rattle.sva_script_reading.specs.Faults.{or_else};
+ghost use Rattle.sva_race_words.specs.ScriptFaults.{or_else};
 ghost use Rattle.sva_words.specs.Near.{near_among};
 ghost use Rattle.sva_words.specs.Reserved.{kind_words};
 
 use std::alloc::AllocError;
-use sva_race_words::{RaceWanted, count_of, first_near, word_in, wrong_at};
+use sva_race_words::{
+    RaceWanted, count_of, first_near, put_near, put_number, put_word, word_in, wrong_at,
+};
 use sva_script::{Names, Wanted};
-use sva_script_reading::{put_near, put_number, put_word};
 use sva_words::near_kind;
 
 /// What was wanted where a line is wrong.

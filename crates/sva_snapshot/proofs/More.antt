@@ -5,7 +5,7 @@ use Rattle.std.proofs.lemmas.List.{append-nil, get_or-map, length-map, map_more,
 use Rattle.std.proofs.lemmas.List.Elements.{filter_more}
 use Rattle.std.proofs.lemmas.Option.{slice_get_within, get_or_from_slice_get}
 use Rattle.sva_model.specs.Wire.{EndpointWire, HostGroupWire}
-use Rattle.sva_host.specs.Seen.{parts_with}
+use Rattle.sva_core.specs.HostSeen.{parts_with}
 use Rattle.sva_snapshot.specs.Shown.{part_with}
 
 -- plain copies

@@ -2,7 +2,7 @@
 
 ghost use Rattle.std.specs.Prelude.{◌≡◌, IfOk, map};
 ghost use Rattle.sva_host_state.specs.Inner.{part_seen};
-ghost use Rattle.sva_host.specs.Seen.{parts_with};
+ghost use Rattle.sva_core.specs.HostSeen.{parts_with};
 ghost use Rattle.sva_snapshot.specs.Shown.{endpoint_shown, own_groups, part_with};
 
 use crate::devices::{Device, device_of};

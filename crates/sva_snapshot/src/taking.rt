@@ -1,7 +1,7 @@
 //! How a snapshot is taken.
 
 ghost use Rattle.std.specs.Prelude.{◌≡◌, IfOk};
-ghost use Rattle.sva_host.specs.Seen.{with_job_table};
+ghost use Rattle.sva_core.specs.HostSeen.{with_job_table};
 
 use crate::bindings::bindings_of;
 use crate::endpoints::endpoints_of;

@@ -1,6 +1,6 @@
 use Rattle.std.proofs.Common.{◌≡◌, map, take}
 use Rattle.sva_host_state.specs.Inner.{part_seen}
-use Rattle.sva_host.specs.Seen.{parts_with}
+use Rattle.sva_core.specs.HostSeen.{parts_with}
 use Rattle.sva_snapshot.specs.Shown.{endpoint_shown, own_groups}
 use Rattle.sva_snapshot.proofs.endpoints.endpoints_of.Given as goal
 

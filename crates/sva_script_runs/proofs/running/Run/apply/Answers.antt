@@ -3,7 +3,7 @@ use Rattle.std.specs.Prelude.{Err, is_ok}
 use Rattle.sva_step.specs.declared.refusals.Refusal.TheVariants.{OutOfMemory}
 use Rattle.sva_model.specs.Wire.{Wire}
 use Rattle.sva_labels.specs.Host.{next_of, reply_of}
-use Rattle.sva_host.specs.Steps.{ByLabels}
+use Rattle.sva_core.specs.HostSteps.{ByLabels}
 use Rattle.sva_parts_by_labels.specs.Flights.{kind_seen}
 use Rattle.sva_script_runs.specs.Messages.{link_of}
 use Rattle.sva_script_runs.specs.Runs.{delivered_by, sent_of, told_of}

@@ -103,7 +103,8 @@ columns_of live = if live then Tabbed else Padded
 abbrev pub style_of : (live whys : Bool) → Style
 style_of live whys = record { columns = columns_of live; whys = whys }
 
--- `--most` limits how many moments are looked at, and `--why` tells behind each witness which lines wait where it ends
+-- `--most` limits how many moments are looked at, and `--why` tells behind each witness what holds its steps back,
+-- and the lines that wait where it ends
 abbrev pub wanted_of : (most : ℕ) → (whys : Bool) → Wanted
 wanted_of most whys = record { most = most; whys = whys }
 

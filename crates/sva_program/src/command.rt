@@ -54,7 +54,7 @@ pub enum Asked {
     Explore {
         /// How many moments are looked at at most: 1 to 1000000000.
         most: u64,
-        /// Is it said behind each witness which lines wait where it ends, and what holds them back?
+        /// Is it said behind each witness what holds its own steps back, and the lines that wait where it ends?
         whys: bool,
     },
     /// Whether each order of a driver is safe.
@@ -296,7 +296,7 @@ fn within(found: Option<u64>) -> u64
     }
 }
 
-/// Are the lines wanted that wait where a witness ends?
+/// Is it wanted what holds the steps of witnesses back, and the lines that wait where they end?
 fn wants_ends(explore: &ArgMatches<'_>) -> bool
     ensures { result ≡ is_given (codes "why") (rows_of (found_of explore.now)) }
 {

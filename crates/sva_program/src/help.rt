@@ -44,7 +44,7 @@ pub const MOST: &str = "How many moments are looked at at most, 1 to 1000000000"
 
 /// What `-h` says of `--why` of `explore`.
 pub const ENDS: &str =
-    "Behind each witness stands which lines wait where it ends, and what holds them back";
+    "Behind each witness stands what holds its own steps back, and the lines that wait where it ends";
 
 /// What `-h` says of `judge`.
 pub const JUDGE: &str =
@@ -168,8 +168,8 @@ go on by themselves. Last stand the claims:
 
 `svahost explore` follows every order, and prints of each claim whether it holds, fails, or is unknown
 since `--most N` moments were looked at. A claim that fails has a witness, a shortest scenario that
-`replay` takes; so has a `sometimes` that holds. With `--why` stands behind each witness which lines
-wait where it ends, and what holds them back.
+`replay` takes; so has a `sometimes` that holds. With `--why` stands behind each witness what `why`
+says of its steps, and which lines wait where it ends, with what holds them back.
 
 A driver is the order in which another host does what it does, in lines of its own. `svahost judge`
 follows every order of its lines beside what the link, the units, the workers and the endpoints may

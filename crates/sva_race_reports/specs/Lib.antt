@@ -1,5 +1,6 @@
 pub mod Judging
 pub mod Witnesses
 pub mod Ends
+pub mod Held
 pub mod Reports
 pub mod Explored

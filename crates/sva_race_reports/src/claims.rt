@@ -2,13 +2,16 @@
 
 ghost use Rattle.std.specs.Prelude.{◌≡◌, ◌++◌, ◌+◌, ◌<◌, ◌^◌, OnOk, option_map};
 ghost use Rattle.sva_race_lines.specs.Readings.{asked_seen};
+ghost use Rattle.sva_race_reports.specs.Ends.{ends_text};
+ghost use Rattle.sva_race_reports.specs.Held.{held_in};
 ghost use Rattle.sva_race_reports.specs.Judging.{judged_at};
 ghost use Rattle.sva_race_reports.specs.declared.judging.Judged.TheVariants.{Holds};
-ghost use Rattle.sva_race_reports.specs.Reports.{asks, claim_text, claimed, claims_from, counts_text, named_witness};
+ghost use Rattle.sva_race_reports.specs.Reports.{asks, behind_if, claim_text, claimed, claims_from, counts_text, named_witness};
 ghost use Rattle.sva_race_reports.specs.Reports.{reach_text, report_text, tried_text, verdict_of, with_witness, witness_if};
 ghost use Rattle.sva_race_reports.specs.Reports.{witness_with, witnesses_from};
 
-use crate::ends::put_ends_if;
+use crate::ends::put_ends;
+use crate::held::put_held_in;
 use crate::judging::{Judged, both, judge, witness_of, word_of};
 use crate::witnesses::{put_counted, put_witness};
 use std::alloc::{AllocError, Global};
@@ -139,7 +142,44 @@ fn put_claims(
     Ok(())
 }
 
-/// Appends a witness with its number; and behind it, where that is wanted, which lines wait where it ends.
+/// Appends what of a witness's own steps was held back, and which lines wait where it ends.
+fn put_behind(
+    alloc: Global,
+    out: &mut Vec<u8>,
+    race: &Race,
+    threads: &[Vec<u8>],
+    number: u64,
+    choices: &[Choice],
+) -> Result<(), AllocError>
+    ensures { OnOk result (out.new.items ≡ out.old.items
+        ++ (held_in race.now threads.now number choices.now ++ ends_text race.now number choices.now)) }
+{
+    put_held_in(alloc, out, race, threads, number, choices)?;
+    put_ends(alloc, out, race, number, choices)
+}
+
+/// Appends that, if it is wanted.
+fn put_behind_if(
+    alloc: Global,
+    out: &mut Vec<u8>,
+    race: &Race,
+    threads: &[Vec<u8>],
+    whys: bool,
+    number: u64,
+    choices: &[Choice],
+) -> Result<(), AllocError>
+    ensures { OnOk result (out.new.items
+        ≡ out.old.items ++ behind_if race.now threads.now whys number choices.now) }
+{
+    if whys {
+        put_behind(alloc, out, race, threads, number, choices)
+    } else {
+        Ok(())
+    }
+}
+
+/// Appends a witness with its number; and behind it, where that is wanted, what of its own steps was held back, and which
+/// lines wait where it ends.
 fn put_witness_with(
     alloc: Global,
     out: &mut Vec<u8>,
@@ -153,7 +193,7 @@ fn put_witness_with(
         ≡ out.old.items ++ witness_with race.now threads.now whys number choices.now) }
 {
     put_witness(alloc, out, race, threads, number, choices)?;
-    put_ends_if(alloc, out, race, whys, number, choices)
+    put_behind_if(alloc, out, race, threads, whys, number, choices)
 }
 
 /// Appends a witness, if there is one.
@@ -208,8 +248,8 @@ fn put_witnesses(
     Ok(())
 }
 
-/// Appends the report of a race: how far the search came, what that says of each claim, and the witnesses, each with the
-/// lines that wait where it ends, if these are wanted.
+/// Appends the report of a race: how far the search came, what that says of each claim, and the witnesses, each with
+/// what holds its own steps back, and the lines that wait where it ends, if that is wanted.
 pub(crate) fn put_report(
     alloc: Global,
     out: &mut Vec<u8>,

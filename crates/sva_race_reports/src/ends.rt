@@ -8,7 +8,7 @@ ghost use Rattle.sva_script_reading.specs.Begins.{joined_words};
 ghost use Rattle.sva_script_reports.specs.Whys.{case_line, held_text};
 ghost use Rattle.sva_search.specs.Rules.{run_from};
 ghost use Rattle.sva_race.specs.Rules.{rules_of};
-ghost use Rattle.sva_race_reports.specs.Ends.{Leads, ends_if, ends_line, ends_text, moment_behind, no_number_line};
+ghost use Rattle.sva_race_reports.specs.Ends.{Leads, ends_line, ends_text, moment_behind, no_number_line};
 ghost use Rattle.sva_race_reports.specs.Ends.{wait_text, waiting_text, waits_text};
 
 use crate::steps::put_words;
@@ -184,7 +184,7 @@ fn put_ends_line(out: &mut Vec<u8>, number: u64) -> Result<(), AllocError>
 }
 
 /// Appends which lines wait where a witness ends.
-fn put_ends(
+pub(crate) fn put_ends(
     alloc: Global,
     out: &mut Vec<u8>,
     race: &Race,
@@ -195,22 +195,4 @@ fn put_ends(
 {
     put_ends_line(out, number)?;
     put_all_waits(alloc, out, race, choices)
-}
-
-/// Appends them, if they are wanted.
-pub(crate) fn put_ends_if(
-    alloc: Global,
-    out: &mut Vec<u8>,
-    race: &Race,
-    whys: bool,
-    number: u64,
-    choices: &[Choice],
-) -> Result<(), AllocError>
-    ensures { OnOk result (out.new.items ≡ out.old.items ++ ends_if race.now whys number choices.now) }
-{
-    if whys {
-        put_ends(alloc, out, race, number, choices)
-    } else {
-        Ok(())
-    }
 }

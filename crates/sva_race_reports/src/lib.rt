@@ -4,6 +4,7 @@
 mod claims;
 mod ends;
 mod exploring;
+mod held;
 mod judging;
 mod searching;
 mod steps;

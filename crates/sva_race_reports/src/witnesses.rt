@@ -3,7 +3,7 @@
 ghost use Rattle.std.specs.Prelude.{◌≡◌, ◌++◌, ◌<◌, IfOk, OnOk, Some, decimal, length, slice_get};
 ghost use Rattle.sva_race.specs.Moments.{start_of};
 ghost use Rattle.sva_race_reports.specs.Witnesses.{act_who, before_text, counted_text, front_text, heading, line_who};
-ghost use Rattle.sva_race_reports.specs.Witnesses.{move_text, moves_text, step_line_if, title, witness_text};
+ghost use Rattle.sva_race_reports.specs.Witnesses.{move_text, moves_text, scenario_text, step_line_if, title, witness_text};
 
 use crate::steps::{put_config, put_step};
 use std::alloc::{AllocError, Global};
@@ -172,13 +172,27 @@ fn put_heading(out: &mut Vec<u8>, before: usize) -> Result<(), AllocError>
     }
 }
 
-/// Appends what stands before the steps of a witness.
-fn put_front(out: &mut Vec<u8>, race: &Race, number: u64, count: usize) -> Result<(), AllocError>
-    ensures { OnOk result (out.new.items ≡ out.old.items ++ front_text race.now number count) }
+/// Appends what stands above the steps of a scenario.
+fn put_front(out: &mut Vec<u8>, race: &Race) -> Result<(), AllocError>
+    ensures { OnOk result (out.new.items ≡ out.old.items ++ front_text race.now) }
 {
-    put_title(out, number, count)?;
     put_config(out, &race.config)?;
     put_heading(out, race.before)
+}
+
+/// Appends the scenario that a list of choices stands for.
+pub(crate) fn put_scenario(
+    alloc: Global,
+    out: &mut Vec<u8>,
+    race: &Race,
+    threads: &[Vec<u8>],
+    choices: &[Choice],
+) -> Result<(), AllocError>
+    ensures { OnOk result (out.new.items ≡ out.old.items ++ scenario_text race.now threads.now choices.now) }
+{
+    put_front(out, race)?;
+    let mut moment = put_before(alloc, out, race)?;
+    put_moves(alloc, out, race, threads, &mut moment, choices)
 }
 
 /// Appends a witness with its number.
@@ -193,7 +207,6 @@ pub(crate) fn put_witness(
     ensures { OnOk result (out.new.items
         ≡ out.old.items ++ witness_text race.now threads.now number choices.now) }
 {
-    put_front(out, race, number, choices.len())?;
-    let mut moment = put_before(alloc, out, race)?;
-    put_moves(alloc, out, race, threads, &mut moment, choices)
+    put_title(out, number, choices.len())?;
+    put_scenario(alloc, out, race, threads, choices)
 }

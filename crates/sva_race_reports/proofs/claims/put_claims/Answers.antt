@@ -1,4 +1,4 @@
-use Rattle.std.proofs.Common.{◌++◌, ◌≤◌, ◌<◌, ◌+◌, ◌∙◌, ap, arith, length, sym}
+use Rattle.std.proofs.Common.{◌++◌, ◌∙◌, ap, arith, length, sym}
 use Rattle.sva_race_parts.proofs.Naming.{below_both, past_either}
 use Rattle.sva_race_parts.specs.declared.claims.Claim.{Claim}
 use Rattle.sva_race_lines.specs.Readings.{asked_seen}

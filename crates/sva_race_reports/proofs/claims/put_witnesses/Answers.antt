@@ -1,4 +1,4 @@
-use Rattle.std.proofs.Common.{◌++◌, ◌≤◌, ◌<◌, ◌+◌, ◌∙◌, ap, arith, length, sym}
+use Rattle.std.proofs.Common.{◌++◌, ◌∙◌, ap, sym}
 use Rattle.sva_race_lines.specs.declared.kept.Asked.{Asked}
 use Rattle.sva_race_reports.specs.Judging.{witness_of}
 use Rattle.sva_race_reports.specs.Reports.{with_witness, witness_if}

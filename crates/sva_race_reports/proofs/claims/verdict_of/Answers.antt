@@ -1,4 +1,4 @@
-use Rattle.std.proofs.Common.{◌≤◌, ◌<◌, ◌∙◌, arith, length, sym}
+use Rattle.std.proofs.Common.{◌∙◌, arith, length, sym}
 use Rattle.sva_race_parts.proofs.Naming.{below_both, past_either}
 use Rattle.sva_race_reports.specs.Judging.{judged_at}
 use Rattle.sva_race_reports.proofs.Rulings.{judged_end, judged_next}

@@ -1,4 +1,4 @@
-use Rattle.std.proofs.Common.{◌≡◌, ◌∙◌, ◌++◌, ap, append-nil, sym}
+use Rattle.std.proofs.Common.{◌∙◌, ◌++◌, ap, append-nil, sym}
 use Rattle.sva_race.proofs.Doing.{done_next, none_done}
 use Rattle.sva_race_reports.proofs.Moved.{before_next, none_before}
 use Rattle.sva_race_reports.proofs.witnesses.put_before.Goals as goal

@@ -1,4 +1,4 @@
-use Rattle.std.proofs.Common.{◌≡◌, ◌∙◌, ap, subst, sym, Some, None}
+use Rattle.std.proofs.Common.{subst}
 use Rattle.std.proofs.lemmas.Option.{get_or_from_slice_get}
 use Rattle.sva_race.specs.Moves.{Moves}
 use Rattle.sva_race_reports.proofs.Moved.{move_next, move_stop, moves_end}

@@ -1,8 +1,6 @@
-use Rattle.sva_race_reports.proofs.Moved.{witness_whole}
+use Rattle.sva_listing.proofs.Lines.{both}
 use Rattle.sva_race_reports.proofs.witnesses.put_witness.Goals as goal
 
 pub returns : goal.returns
 returns c =
-    witness_whole c.args.race.now c.args.threads.now c.args.number c.args.choices.now c.args.out.now.items c.put_front.new.out.items
-    c.put_before.new.out.items c.put_moves.new.out.items c.in_ok-moment.moment c.put_moves.result c.in_ok-put_front.ensures
-    c.in_ok-moment.ensures.start c.in_ok-moment.ensures.text c.put_moves.ensures
+    both c.put_scenario.result c.args.out.now.items c.put_title.new.out.items c.put_scenario.new.out.items _ _ c.in_ok-put_title.ensures c.put_scenario.ensures

@@ -1,0 +1,143 @@
+-- What `why` says of what lacks.
+use Rattle.std.proofs.Common.{◌≡◌, refl, ℕ, Bool, true, List, [], ◌++◌, flat_map}
+use Rattle.std.specs.Prelude.{◌==◌, ◌&&◌, nat_le, Option, Some, Err, codes, slice_get}
+use Rattle.sva_step.specs.Limits
+use Rattle.sva_step.specs.declared.refusals.Refusal.TheVariants as refusal
+use Rattle.sva_step.specs.declared.steps.Step.{Step}
+use Rattle.sva_step.specs.declared.steps.Step.TheVariants as step
+use Rattle.sva_model.specs.Wire.{EndpointWire, GroupWire, JobWire, RequestWire, SpaceWire, TranslationWire, UseWire, Wire}
+use Rattle.sva_model.specs.Wire.UseWire.{RunningWire, DeadWire}
+use Rattle.sva_labels.specs.Finding.{held_by, outstanding}
+use Rattle.sva_listing.specs.Pieces.{field, line_end, rows}
+use Rattle.sva_accepted.specs.Accepted.{is_accepted}
+use Rattle.sva_lacking.specs.Hands.{full_lines, hand_line}
+use Rattle.sva_lacking.specs.Slots.{each_slot, no_slot_lines, slot_if, slot_line, slots_line}
+use Rattle.sva_lacking.specs.Spaces.{spaces_line, unbound_if, unbound_line}
+use Rattle.sva_lacking.specs.Tags.{asked_if, asked_lines, each_out, no_tag_lines, not_held_line, not_held_lines, out_if, tags_line}
+use Rattle.sva_standing.specs.declared.levels.Level.TheVariants.{First, Second, Third}
+use Rattle.sva_standing.specs.declared.link.Topic.TheVariants.{Asks, Responds, Tag}
+use Rattle.sva_standing.specs.Lines.{indent}
+use Rattle.sva_standing.specs.Link.{about_lines}
+use Rattle.sva_standing.specs.Tables.{credit_if, credit_text, disabled_if, due_if, is_due, out_line, out_lines}
+use Rattle.sva_standing.specs.Units.{of_part, reset_if}
+use Rattle.sva_why.specs.Causes.{disabled, endpoint_of, no_credit}
+use Rattle.sva_why.specs.Standing.{Has}
+use Rattle.sva_why.specs.Why.{why_of}
+use Rattle.sva_why.proofs.Parts.{has_all, has_each, has_found, has_left, has_right, has_row, has_where, has_within}
+use Rattle.sva_why_laws.specs.Lacking.{disabled_line, due_line}
+
+-- a request that is out
+out_has : (wire : Wire) (endpoint tag : ℕ) (part : EndpointWire) (request : RequestWire)
+    → Has (out_lines Second wire endpoint part tag request) (out_line Second tag request)
+out_has wire endpoint tag part request =
+    let line = out_line Second tag request in
+    let about = about_lines Third wire endpoint (Tag tag) in
+    has_left (line ++ about) (reset_if Third wire endpoint part) line (has_left line about line (has_all line))
+
+pub tag_stands : (wire : Wire) (endpoint pasid page tag : ℕ) (part : EndpointWire) (request : RequestWire)
+    → slice_get wire.parts endpoint ≡ Some part → slice_get part.device.tags tag ≡ Some (Some request)
+    → Has (why_of wire (step.Ask endpoint pasid page) (Err refusal.NoTag)) (out_line Second tag request)
+tag_stands wire endpoint pasid page tag part request there is =
+    let line = out_line Second tag request in
+    let all = each_out wire endpoint part in
+    has_found (of_part (no_tag_lines wire endpoint)) (slice_get wire.parts endpoint) part line there
+    (has_right (tags_line First endpoint) all line
+    (has_within all (out_if wire endpoint part tag (Some request)) line
+    (has_row (out_if wire endpoint part) part.device.tags tag (Some request) is) (out_has wire endpoint tag part request)))
+
+slot_has : (wire : Wire) (endpoint pasid page slot : ℕ) (write : Bool) (part : EndpointWire) (used : Option UseWire)
+    → slice_get wire.parts endpoint ≡ Some part → slice_get part.device.slots slot ≡ Some used
+    → Has (why_of wire (step.BeginUse endpoint pasid page write) (Err refusal.NoUseSlot)) (slot_if wire endpoint slot used)
+slot_has wire endpoint pasid page slot write part used there is =
+    let lines = slot_if wire endpoint slot used in
+    has_found (of_part (no_slot_lines wire endpoint)) (slice_get wire.parts endpoint) part lines there
+    (has_right (slots_line First endpoint) (each_slot wire endpoint part) lines (has_row (slot_if wire endpoint) part.device.slots slot used is))
+
+pub running_stands : (wire : Wire) (endpoint pasid page slot : ℕ) (write : Bool) (part : EndpointWire) (translation : TranslationWire)
+    → slice_get wire.parts endpoint ≡ Some part → slice_get part.device.slots slot ≡ Some (Some (RunningWire translation))
+    → Has (why_of wire (step.BeginUse endpoint pasid page write) (Err refusal.NoUseSlot))
+    (slot_line wire endpoint slot (codes " runs") (Some (RunningWire translation)))
+running_stands wire endpoint pasid page slot write part translation there is =
+    slot_has wire endpoint pasid page slot write part (Some (RunningWire translation)) there is
+
+pub dead_stands : (wire : Wire) (endpoint pasid page slot : ℕ) (write : Bool) (part : EndpointWire)
+    → slice_get wire.parts endpoint ≡ Some part → slice_get part.device.slots slot ≡ Some (Some DeadWire)
+    → Has (why_of wire (step.BeginUse endpoint pasid page write) (Err refusal.NoUseSlot))
+    (slot_line wire endpoint slot (codes " is dead") (Some DeadWire))
+dead_stands wire endpoint pasid page slot write part there is = slot_has wire endpoint pasid page slot write part (Some DeadWire) there is
+
+pub job_stands : (wire : Wire) (worker : ℕ) (job : JobWire) → held_by wire worker ≡ Some job
+    → Has (why_of wire (step.Take worker) (Err refusal.HandsFull)) (hand_line First wire worker job)
+job_stands wire worker job is =
+    let line = hand_line First wire worker job in
+    has_found (full_lines wire worker) (held_by wire worker) job line is (has_all line)
+
+pub space_stands : (wire : Wire) (asked : Step) (place : ℕ) (space : SpaceWire)
+    → slice_get wire.spaces place ≡ Some space → is_accepted wire (step.DropSpace space.number) ≡ true
+    → Has (why_of wire asked (Err refusal.TooManySpaces)) (unbound_line Second space.number)
+space_stands wire asked place space is may =
+    let line = unbound_line Second space.number in
+    let all = flat_map (unbound_if wire) wire.spaces in
+    has_right (spaces_line First) all line
+    (has_within all (unbound_if wire space) line (has_each (unbound_if wire) wire.spaces place space is)
+    (has_where (is_accepted wire (step.DropSpace space.number)) line [] line may (has_all line)))
+
+not_held_has : (wire : Wire) (endpoint pasid page : ℕ) (write : Bool) (part : EndpointWire) (line : List ℕ) → slice_get wire.parts endpoint ≡ Some part
+    → Has (not_held_lines wire endpoint pasid page part) line → Has (why_of wire (step.BeginUse endpoint pasid page write) (Err refusal.NotHeld)) line
+not_held_has wire endpoint pasid page write part line there has =
+    has_found (of_part (not_held_lines wire endpoint pasid page)) (slice_get wire.parts endpoint) part line there has
+
+pub lack_stands : (wire : Wire) (endpoint pasid page : ℕ) (write : Bool) (part : EndpointWire)
+    → slice_get wire.parts endpoint ≡ Some part
+    → Has (why_of wire (step.BeginUse endpoint pasid page write) (Err refusal.NotHeld)) (not_held_line First wire endpoint pasid page)
+lack_stands wire endpoint pasid page write part there =
+    let line = not_held_line First wire endpoint pasid page in
+    not_held_has wire endpoint pasid page write part line there (has_left line (asked_lines wire endpoint part pasid page) line (has_all line))
+
+pub asked_stands : (wire : Wire) (endpoint pasid page tag : ℕ) (write : Bool) (part : EndpointWire) (request : RequestWire)
+    → slice_get wire.parts endpoint ≡ Some part → slice_get part.device.tags tag ≡ Some (Some request)
+    → (request.pasid == pasid && request.page == page) ≡ true
+    → Has (why_of wire (step.BeginUse endpoint pasid page write) (Err refusal.NotHeld)) (out_line Second tag request)
+asked_stands wire endpoint pasid page tag write part request there is same =
+    let line = out_line Second tag request in
+    let all = asked_lines wire endpoint part pasid page in
+    not_held_has wire endpoint pasid page write part line there
+    (has_right (not_held_line First wire endpoint pasid page) all line
+    (has_within all (asked_if wire endpoint part pasid page tag (Some request)) line
+    (has_row (asked_if wire endpoint part pasid page) part.device.tags tag (Some request) is)
+    (has_where (request.pasid == pasid && request.page == page) (out_lines Second wire endpoint part tag request) [] line same
+    (out_has wire endpoint tag part request))))
+
+pub evict_alike : (wire : Wire) (endpoint pasid page : ℕ) (write : Bool)
+    → why_of wire (step.Evict endpoint pasid page) (Err refusal.NotHeld)
+    ≡ why_of wire (step.BeginUse endpoint pasid page write) (Err refusal.NotHeld)
+evict_alike wire endpoint pasid page write = refl
+
+pub due_stands : (wire : Wire) (asked : Step) (endpoint index : ℕ) (part : EndpointWire) (group : Option GroupWire)
+    → endpoint_of wire asked ≡ Some endpoint → slice_get wire.parts endpoint ≡ Some part
+    → nat_le Limits.page_requests (outstanding part.device.groups) ≡ true
+    → slice_get part.device.groups index ≡ Some group → is_due group ≡ true
+    → Has (why_of wire asked (Err refusal.NoCredit)) (due_line index)
+due_stands wire asked endpoint index part group of_it there spent is due =
+    let line = due_line index in
+    let asks = about_lines Third wire endpoint (Asks index) in
+    let responds = about_lines Third wire endpoint (Responds index) in
+    let above = indent First ++ field (codes "32 page requests are outstanding at endpoint ") endpoint ++ credit_text wire endpoint part.device ++ line_end in
+    let all = rows (due_if Second wire endpoint) 0 part.device.groups in
+    let own : Has (due_if Second wire endpoint index group) line =
+    has_where (is_due group) (line ++ asks ++ responds) [] line due (has_left (line ++ asks) responds line (has_left line asks line (has_all line))) in
+    let whole : Has (credit_if First wire endpoint part.device) line =
+    has_where (nat_le Limits.page_requests (outstanding part.device.groups)) (above ++ all) [] line spent
+    (has_right above all line (has_within all (due_if Second wire endpoint index group) line
+    (has_row (due_if Second wire endpoint) part.device.groups index group is) own)) in
+    has_found (no_credit wire) (endpoint_of wire asked) endpoint line of_it
+    (has_found (of_part (λ part. credit_if First wire endpoint part.device)) (slice_get wire.parts endpoint) part line there whole)
+
+pub disabled_stands : (wire : Wire) (asked : Step) (endpoint : ℕ) (part : EndpointWire)
+    → endpoint_of wire asked ≡ Some endpoint → slice_get wire.parts endpoint ≡ Some part → part.device.is_disabled ≡ true
+    → Has (why_of wire asked (Err refusal.PriDisabled)) (disabled_line wire endpoint)
+disabled_stands wire asked endpoint part of_it there off =
+    let line = disabled_line wire endpoint in
+    has_found (disabled wire) (endpoint_of wire asked) endpoint line of_it
+    (has_found (of_part (λ part. disabled_if First wire endpoint part.device)) (slice_get wire.parts endpoint) part line there
+    (has_where part.device.is_disabled line [] line off (has_all line)))

@@ -1,0 +1,73 @@
+-- Each thing that takes up a limit, or is still to come, has its line.
+use Rattle.std.specs.Prelude.{◌≡◌, ℕ, ◌==◌, ◌&&◌, nat_le, Bool, true, Option, Some, Err, List, ◌++◌, codes, slice_get}
+use Rattle.sva_step.specs.Limits
+use Rattle.sva_step.specs.declared.refusals.Refusal.TheVariants as refusal
+use Rattle.sva_step.specs.declared.steps.Step.{Step}
+use Rattle.sva_step.specs.declared.steps.Step.TheVariants as step
+use Rattle.sva_model.specs.Wire.{EndpointWire, GroupWire, JobWire, RequestWire, SpaceWire, TranslationWire, Wire}
+use Rattle.sva_model.specs.Wire.UseWire.{RunningWire, DeadWire}
+use Rattle.sva_labels.specs.Finding.{held_by, outstanding}
+use Rattle.sva_listing.specs.Pieces.{field, line_end}
+use Rattle.sva_accepted.specs.Accepted.{is_accepted}
+use Rattle.sva_lacking.specs.Hands.{hand_line}
+use Rattle.sva_lacking.specs.Slots.{slot_line}
+use Rattle.sva_lacking.specs.Spaces.{unbound_line}
+use Rattle.sva_lacking.specs.Tags.{not_held_line}
+use Rattle.sva_standing.specs.declared.levels.Level.TheVariants.{First, Second}
+use Rattle.sva_standing.specs.Lines.{indent}
+use Rattle.sva_standing.specs.Tables.{is_due, out_line, reset_text}
+use Rattle.sva_why.specs.Causes.{endpoint_of}
+use Rattle.sva_why.specs.Standing.{Has}
+use Rattle.sva_why.specs.Why.{why_of}
+
+-- `group 0 awaits its response`
+abbrev pub due_line : (index : ℕ) → List ℕ
+due_line index = indent Second ++ field (codes "group ") index ++ codes " awaits its response" ++ line_end
+
+-- `page requests are disabled at endpoint 0: only a reset helps [reset 0]`
+abbrev pub disabled_line : Wire → (endpoint : ℕ) → List ℕ
+disabled_line wire endpoint =
+    indent First ++ field (codes "page requests are disabled at endpoint ") endpoint ++ codes ": only a reset helps"
+    ++ reset_text wire endpoint ++ line_end
+
+pub record LackingStand : Type 0 where
+  -- NoTag: each request that is out
+  pub tag_stands : (wire : Wire) (endpoint pasid page tag : ℕ) (part : EndpointWire) (request : RequestWire)
+      → slice_get wire.parts endpoint ≡ Some part → slice_get part.device.tags tag ≡ Some (Some request)
+      → Has (why_of wire (step.Ask endpoint pasid page) (Err refusal.NoTag)) (out_line Second tag request)
+  -- NoUseSlot: each use, that runs or that a reset has cut off
+  pub running_stands : (wire : Wire) (endpoint pasid page slot : ℕ) (write : Bool) (part : EndpointWire) (translation : TranslationWire)
+      → slice_get wire.parts endpoint ≡ Some part → slice_get part.device.slots slot ≡ Some (Some (RunningWire translation))
+      → Has (why_of wire (step.BeginUse endpoint pasid page write) (Err refusal.NoUseSlot))
+      (slot_line wire endpoint slot (codes " runs") (Some (RunningWire translation)))
+  pub dead_stands : (wire : Wire) (endpoint pasid page slot : ℕ) (write : Bool) (part : EndpointWire)
+      → slice_get wire.parts endpoint ≡ Some part → slice_get part.device.slots slot ≡ Some (Some DeadWire)
+      → Has (why_of wire (step.BeginUse endpoint pasid page write) (Err refusal.NoUseSlot))
+      (slot_line wire endpoint slot (codes " is dead") (Some DeadWire))
+  -- HandsFull: the job in hand
+  pub job_stands : (wire : Wire) (worker : ℕ) (job : JobWire) → held_by wire worker ≡ Some job
+      → Has (why_of wire (step.Take worker) (Err refusal.HandsFull)) (hand_line First wire worker job)
+  -- TooManySpaces: each that may go
+  pub space_stands : (wire : Wire) (asked : Step) (place : ℕ) (space : SpaceWire)
+      → slice_get wire.spaces place ≡ Some space → is_accepted wire (step.DropSpace space.number) ≡ true
+      → Has (why_of wire asked (Err refusal.TooManySpaces)) (unbound_line Second space.number)
+  -- NotHeld: that, and each request for the page; of an eviction it is said as of a use
+  pub lack_stands : (wire : Wire) (endpoint pasid page : ℕ) (write : Bool) (part : EndpointWire)
+      → slice_get wire.parts endpoint ≡ Some part
+      → Has (why_of wire (step.BeginUse endpoint pasid page write) (Err refusal.NotHeld)) (not_held_line First wire endpoint pasid page)
+  pub asked_stands : (wire : Wire) (endpoint pasid page tag : ℕ) (write : Bool) (part : EndpointWire) (request : RequestWire)
+      → slice_get wire.parts endpoint ≡ Some part → slice_get part.device.tags tag ≡ Some (Some request)
+      → (request.pasid == pasid && request.page == page) ≡ true
+      → Has (why_of wire (step.BeginUse endpoint pasid page write) (Err refusal.NotHeld)) (out_line Second tag request)
+  pub evict_alike : (wire : Wire) (endpoint pasid page : ℕ) (write : Bool)
+      → why_of wire (step.Evict endpoint pasid page) (Err refusal.NotHeld)
+      ≡ why_of wire (step.BeginUse endpoint pasid page write) (Err refusal.NotHeld)
+  -- NoCredit: each group whose response is due. PriDisabled
+  pub due_stands : (wire : Wire) (asked : Step) (endpoint index : ℕ) (part : EndpointWire) (group : Option GroupWire)
+      → endpoint_of wire asked ≡ Some endpoint → slice_get wire.parts endpoint ≡ Some part
+      → nat_le Limits.page_requests (outstanding part.device.groups) ≡ true
+      → slice_get part.device.groups index ≡ Some group → is_due group ≡ true
+      → Has (why_of wire asked (Err refusal.NoCredit)) (due_line index)
+  pub disabled_stands : (wire : Wire) (asked : Step) (endpoint : ℕ) (part : EndpointWire)
+      → endpoint_of wire asked ≡ Some endpoint → slice_get wire.parts endpoint ≡ Some part → part.device.is_disabled ≡ true
+      → Has (why_of wire asked (Err refusal.PriDisabled)) (disabled_line wire endpoint)

@@ -31,8 +31,7 @@ pub(crate) struct Rows {
     pub(crate) counts: Counts,
 }
 
-/// Runs a script, and keeps its rows. Where a line is wrong, or the config out of its limits, that is written to `out`
-/// instead: `None`.
+/// Runs a script, and keeps its rows. What is wrong with it is written to `out` instead, if anything is: `None`.
 pub(crate) fn collect(
     alloc: Global,
     text: &[u8],

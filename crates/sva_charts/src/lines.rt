@@ -11,8 +11,7 @@ use sva_script_reading::{put_counts, put_number};
 /// How wide the column of the line's number is.
 const NUMBER_WIDTH: usize = 5;
 
-/// How many columns lie between the rails of an endpoint and between two blocks, so that the heads never touch. A lane
-/// is three columns wide.
+/// How many columns lie between an endpoint's rails and between two blocks: heads never touch. A lane has three.
 const SPACING: Spacing = Spacing {
     base: 3,
     lane: 3,

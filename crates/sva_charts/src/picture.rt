@@ -9,8 +9,7 @@ use crate::style::whole_front;
 use std::alloc::{AllocError, Global};
 use sva_script_reading::{put_counts, put_reply};
 
-/// Appends the picture of a run. Its texts have no sign that means something in XML, since they are words and numbers
-/// of the format.
+/// Appends the picture of a run. Its texts are words and numbers of the format: no sign of them means something in XML.
 pub(crate) fn put_picture(
     alloc: Global,
     run: &Rows,

@@ -5,6 +5,7 @@ mod accepted;
 mod finishing;
 mod laws;
 mod lookups;
+mod unmapping;
 mod vectors;
 
 pub use accepted::{
@@ -18,4 +19,5 @@ pub use lookups::{
     binding_of, bound_at, flight_of, has_room, held_by, is_full, is_mapped, is_read_only_at,
     is_some_busy, pages_in, pages_of_job, part_at, submits,
 };
+pub use unmapping::can_unmap;
 pub use vectors::{is_set, names_none, vector_of};

@@ -48,7 +48,7 @@ fn put_targets(
 }
 
 /// Appends what a frame waits for, if it is withheld.
-fn put_held(out: &mut Vec<u8>, snapshot: &Snapshot, held: &Held) -> Result<(), AllocError>
+pub fn put_held(out: &mut Vec<u8>, snapshot: &Snapshot, held: &Held) -> Result<(), AllocError>
     ensures { OnOk result (out.new.items ≡ out.old.items
         ++ place_lines snapshot.now (Some (held_seen held.now))) }
 {

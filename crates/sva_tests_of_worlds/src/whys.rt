@@ -6,9 +6,9 @@ use sva_core::World;
 use sva_step::{Config, Refusal, Step};
 use sva_why::put_why_in;
 
-/// These refusals, and their lines. The other 19 say what holds the step back, where it is so: runs/scripts has 14 of
-/// them, and examples/why has QueueFull, NoTag, NoUseSlot, TooManySpaces and NoCredit.
-static PLAIN: [(Refusal, &str); 24] = [
+/// These refusals, and their lines. The other 22 say what holds the step back, where it is so: runs/scripts has 16 of
+/// them, and examples/why has QueueFull, NoTag, NoUseSlot, TooManySpaces, NoCredit and NoFrame.
+static PLAIN: [(Refusal, &str); 21] = [
     (
         Refusal::BadConfig,
         "    endpoints are 1 to 8, frames 1 to 4096, workers 1 to 4\n",
@@ -21,18 +21,9 @@ static PLAIN: [(Refusal, &str); 24] = [
     (Refusal::PageRange, "    pages are below 2^36\n"),
     (Refusal::Mapped, "    the page is mapped\n"),
     (
-        Refusal::NoFrame,
-        "    too few frames are free, or none has this number\n",
-    ),
-    (
-        Refusal::SpaceFull,
-        "    the space would have more than 1024 pages\n",
-    ),
-    (
         Refusal::AlreadyBound,
         "    the space is bound to the endpoint\n",
     ),
-    (Refusal::NoPasid, "    other spaces bear all 32 pasids\n"),
     (
         Refusal::NoSuchBinding,
         "    no unreleased binding has this number\n",

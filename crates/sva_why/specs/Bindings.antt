@@ -9,18 +9,12 @@ use Rattle.sva_standing.specs.declared.levels.Level.{Level}
 use Rattle.sva_standing.specs.declared.levels.Level.TheVariants.{First, Second}
 use Rattle.sva_standing.specs.declared.link.Topic.TheVariants.{Marker, Stop}
 use Rattle.sva_accepted.specs.Accepted.{is_accepted}
-use Rattle.sva_standing.specs.Lines.{below, bracket, bracket_of_two, start}
+use Rattle.sva_standing.specs.Lines.{below, bracket_of_two, start}
 use Rattle.sva_standing.specs.Link.{about_lines}
 use Rattle.sva_standing.specs.Units.{of_part, reset_if, room_lines, wait_if}
 use Rattle.sva_standing.specs.Tables.{busy_pasid_lines}
+use Rattle.sva_lacking.specs.Pasids.{advance_text, unbind_text}
 use Rattle.sva_why.specs.Groups.{open_lines}
-
--- the step that takes a binding further, where it is accepted: ` [unbind 0]`, ` [advance 0]`
-abbrev pub unbind_text : Wire → (binding : ℕ) → List ℕ
-unbind_text wire binding = bracket (is_accepted wire (step.Unbind binding)) (codes " [unbind ") binding
-
-abbrev pub advance_text : Wire → (binding : ℕ) → List ℕ
-advance_text wire binding = bracket (is_accepted wire (step.Advance binding)) (codes " [advance ") binding
 
 -- `binding 0 at endpoint 0 is stopping`
 abbrev pub binding_text : Level → BindingWire → List ℕ

@@ -17,6 +17,8 @@ use Rattle.sva_lacking.specs.Tags.{no_tag, not_held}
 use Rattle.sva_lacking.specs.Slots.{no_slot}
 use Rattle.sva_lacking.specs.Hands.{hands_full, no_job}
 use Rattle.sva_lacking.specs.Spaces.{too_many}
+use Rattle.sva_lacking.specs.Frames.{no_frame, space_full}
+use Rattle.sva_lacking.specs.Pasids.{no_pasid}
 use Rattle.sva_why.specs.Groups.{read_only_lines}
 use Rattle.sva_why.specs.Bindings.{bound_lines, full_lines, not_yet_by, of_binding}
 use Rattle.sva_why.specs.Vectors.{in_use_lines, not_pending_lines}
@@ -161,4 +163,7 @@ refused_lines wire asked refusal.NoUseSlot = no_slot wire asked
 refused_lines wire asked refusal.HandsFull = hands_full wire asked
 refused_lines wire asked refusal.NoJob = no_job wire asked
 refused_lines wire asked refusal.TooManySpaces = too_many wire
+refused_lines wire asked refusal.NoFrame = no_frame wire asked
+refused_lines wire asked refusal.SpaceFull = space_full wire asked
+refused_lines wire asked refusal.NoPasid = no_pasid wire
 refused_lines wire asked other = plain_line other

@@ -3,34 +3,21 @@
 ghost use Rattle.std.specs.Prelude.{◌≡◌, ◌++◌, OnOk, flat_map, map};
 ghost use Rattle.sva_model.specs.Wire.StageWire.{DrainingWire};
 ghost use Rattle.sva_snapshot.specs.Shown.{binding_shown, endpoint_shown, stage_shown};
-ghost use Rattle.sva_why.specs.Bindings.{advance_text, binding_line, bound_if, bound_lines, descriptors_of};
+ghost use Rattle.sva_why.specs.Bindings.{binding_line, bound_if, bound_lines, descriptors_of};
 ghost use Rattle.sva_why.specs.Bindings.{full_lines, is_unbound_next, marker_lines, not_yet_by, stays_lines};
 ghost use Rattle.sva_why.specs.Bindings.{binding_text, going_if, going_lines, marker_line, marker_of_lines};
-ghost use Rattle.sva_why.specs.Bindings.{on_link_lines, quit_text, unbind_text};
+ghost use Rattle.sva_why.specs.Bindings.{on_link_lines, quit_text};
 
 use crate::groups::put_open;
 use std::alloc::AllocError;
-use sva_accepted::{can_advance, can_quit, can_unbind, part_at};
+use sva_accepted::{can_quit, part_at};
+use sva_lacking::{put_advance, put_unbind};
 use sva_listing::{end_line, put_field, put_stage, put_word};
 use sva_snapshot::{Binding, Endpoint, Snapshot, Stage};
 use sva_standing::{
-    Level, Topic, below, put_about, put_bracket, put_bracket_of_two, put_busy_pasid, put_reset_if,
-    put_room, put_start, put_wait_if,
+    Level, Topic, below, put_about, put_bracket_of_two, put_busy_pasid, put_reset_if, put_room,
+    put_start, put_wait_if,
 };
-
-/// Appends an unbinding in brackets.
-fn put_unbind(out: &mut Vec<u8>, snapshot: &Snapshot, binding: u64) -> Result<(), AllocError>
-    ensures { OnOk result (out.new.items ≡ out.old.items ++ unbind_text snapshot.now binding) }
-{
-    put_bracket(out, can_unbind(snapshot, binding), " [unbind ", binding)
-}
-
-/// Appends an advance in brackets.
-fn put_advance(out: &mut Vec<u8>, snapshot: &Snapshot, binding: u64) -> Result<(), AllocError>
-    ensures { OnOk result (out.new.items ≡ out.old.items ++ advance_text snapshot.now binding) }
-{
-    put_bracket(out, can_advance(snapshot, binding), " [advance ", binding)
-}
 
 /// Appends the stage of a binding.
 fn put_binding_text(out: &mut Vec<u8>, level: Level, binding: &Binding) -> Result<(), AllocError>

@@ -18,7 +18,8 @@ use crate::vectors::{put_in_use, put_not_pending};
 use std::alloc::AllocError;
 use sva_accepted::{binding_of, flight_of, held_by, is_mapped, pages_in, part_at, submits};
 use sva_lacking::{
-    put_hands_full, put_no_job, put_no_slot, put_no_tag, put_not_held, put_too_many,
+    put_hands_full, put_no_frame, put_no_job, put_no_pasid, put_no_slot, put_no_tag, put_not_held,
+    put_space_full, put_too_many,
 };
 use sva_listing::{end_line, put_field, put_word};
 use sva_snapshot::{Endpoint, Mapping, Snapshot};
@@ -399,6 +400,9 @@ pub(crate) fn put_refused(
         Refusal::HandsFull => put_hands_full(out, snapshot, step),
         Refusal::NoJob => put_no_job(out, snapshot, step),
         Refusal::TooManySpaces => put_too_many(out, snapshot),
+        Refusal::NoFrame => put_no_frame(out, snapshot, step),
+        Refusal::SpaceFull => put_space_full(out, snapshot, step),
+        Refusal::NoPasid => put_no_pasid(out, snapshot),
         other => put_plain(out, other),
     }
 }

@@ -1,16 +1,25 @@
 -- What `why` says of what lacks.
-use Rattle.std.proofs.Common.{◌≡◌, refl, ℕ, Bool, true, List, [], ◌++◌, flat_map}
-use Rattle.std.specs.Prelude.{◌==◌, ◌&&◌, nat_le, Option, Some, Err, codes, slice_get}
+use Rattle.std.proofs.Common.{◌≡◌, refl, ap, ℕ, zero, suc, Bool, true, false, List, [], ◌∷◌, ◌++◌, flat_map, if◌then◌else◌}
+use Rattle.std.specs.Prelude.{◌==◌, ◌&&◌, nat_le, Option, Some, None, Err, codes, is_some, slice_get}
+use Rattle.std.specs.List.{find}
 use Rattle.sva_step.specs.Limits
 use Rattle.sva_step.specs.declared.refusals.Refusal.TheVariants as refusal
 use Rattle.sva_step.specs.declared.steps.Step.{Step}
 use Rattle.sva_step.specs.declared.steps.Step.TheVariants as step
-use Rattle.sva_model.specs.Wire.{EndpointWire, GroupWire, JobWire, RequestWire, SpaceWire, TranslationWire, UseWire, Wire}
+use Rattle.sva_step.specs.declared.steps.Verdict.{Verdict}
+use Rattle.sva_model.specs.Wire.{BindingWire, EndpointWire, GroupWire, JobWire, PageWire, PlaceWire, RequestWire, SpaceWire, TargetWire, TranslationWire, UseWire}
+use Rattle.sva_model.specs.Wire.{Wire}
+use Rattle.sva_model.specs.Wire.PlaceWire.{FreeWire, MappedWire, WithheldWire}
 use Rattle.sva_model.specs.Wire.UseWire.{RunningWire, DeadWire}
-use Rattle.sva_labels.specs.Finding.{held_by, outstanding}
+use Rattle.sva_labels.specs.Finding.{held_by, outstanding, pages_in}
+use Rattle.sva_labels.specs.Replying.{space_of_job}
+use Rattle.sva_listing.specs.Memory.{is_withheld}
 use Rattle.sva_listing.specs.Pieces.{field, line_end, rows}
 use Rattle.sva_accepted.specs.Accepted.{is_accepted}
+use Rattle.sva_lacking.specs.Frames.{each_space, frames_lines, free_line, full_of_job, most_pages_line, of_job, pages_if, pages_line, space_if, to_map_line}
+use Rattle.sva_lacking.specs.Frames.{withheld_by, withheld_if, withheld_line, withheld_lines}
 use Rattle.sva_lacking.specs.Hands.{full_lines, hand_line}
+use Rattle.sva_lacking.specs.Pasids.{all_borne_line, bearer_line}
 use Rattle.sva_lacking.specs.Slots.{each_slot, no_slot_lines, slot_if, slot_line, slots_line}
 use Rattle.sva_lacking.specs.Spaces.{spaces_line, unbound_if, unbound_line}
 use Rattle.sva_lacking.specs.Tags.{asked_if, asked_lines, each_out, no_tag_lines, not_held_line, not_held_lines, out_if, tags_line}
@@ -19,7 +28,7 @@ use Rattle.sva_standing.specs.declared.link.Topic.TheVariants.{Asks, Responds, T
 use Rattle.sva_standing.specs.Lines.{indent}
 use Rattle.sva_standing.specs.Link.{about_lines}
 use Rattle.sva_standing.specs.Tables.{credit_if, credit_text, disabled_if, due_if, is_due, out_line, out_lines}
-use Rattle.sva_standing.specs.Units.{of_part, reset_if}
+use Rattle.sva_standing.specs.Units.{of_part, place_lines, reset_if}
 use Rattle.sva_why.specs.Causes.{disabled, endpoint_of, no_credit}
 use Rattle.sva_why.specs.Standing.{Has}
 use Rattle.sva_why.specs.Why.{why_of}
@@ -81,6 +90,85 @@ space_stands wire asked place space is may =
     has_right (spaces_line First) all line
     (has_within all (unbound_if wire space) line (has_each (unbound_if wire) wire.spaces place space is)
     (has_where (is_accepted wire (step.DropSpace space.number)) line [] line may (has_all line)))
+
+pub of_mapping : (wire : Wire) (space page : ℕ) (write : Bool) → why_of wire (step.Map space page write) (Err refusal.NoFrame) ≡ frames_lines wire
+of_mapping wire space page write = refl
+
+pub of_answer : (wire : Wire) (worker : ℕ) (verdict : Verdict) (job : JobWire) → held_by wire worker ≡ Some job
+    → why_of wire (step.Reply worker verdict) (Err refusal.NoFrame) ≡ to_map_line wire worker job ++ frames_lines wire
+of_answer wire worker verdict job is = ap (λ held. of_job (to_map_line wire worker) held ++ frames_lines wire) is
+
+-- where a frame is withheld one is found
+some_withheld : (places : List PlaceWire) (frame : ℕ) (targets : List (Option TargetWire)) → slice_get places frame ≡ Some (WithheldWire targets)
+    → is_some (find is_withheld places) ≡ true
+some_withheld [] frame targets is = absurd (cc is)
+some_withheld (place ∷ places) zero targets is = first place is
+  where
+    first : (here : PlaceWire) → Some here ≡ Some (WithheldWire targets) → is_some (if is_withheld here then Some here else find is_withheld places) ≡ true
+    first FreeWire is = absurd (cc is)
+    first MappedWire is = absurd (cc is)
+    first (WithheldWire others) is = refl
+some_withheld (place ∷ places) (suc frame) targets is = go (some_withheld places frame targets is) (is_withheld place)
+  where
+    go : is_some (find is_withheld places) ≡ true → (b : Bool) → is_some (if b then Some place else find is_withheld places) ≡ true
+    go found true = refl
+    go found false = found
+
+by_found : (wire : Wire) (found : Option PlaceWire) → is_some found ≡ true → Has (withheld_by wire found) (withheld_line wire.places)
+by_found wire None is = absurd (cc is)
+by_found wire (Some place) is =
+    let line = withheld_line wire.places in
+    has_left line (place_lines wire (Some place)) line (has_all line)
+
+pub withheld_stands : (wire : Wire) (frame : ℕ) (targets : List (Option TargetWire)) → slice_get wire.places frame ≡ Some (WithheldWire targets)
+    → Has (frames_lines wire) (withheld_line wire.places)
+withheld_stands wire frame targets is =
+    let line = withheld_line wire.places in
+    let found = by_found wire (find is_withheld wire.places) (some_withheld wire.places frame targets is) in
+    has_left (free_line wire.places ++ withheld_lines wire) (each_space wire) line (has_right (free_line wire.places) (withheld_lines wire) line found)
+
+pub frame_stands : (wire : Wire) (frame : ℕ) (targets : List (Option TargetWire)) → slice_get wire.places frame ≡ Some (WithheldWire targets)
+    → Has (withheld_line wire.places) (field (codes " ") frame)
+frame_stands wire frame targets is =
+    let word = indent First ++ codes "frames that are withheld:" in
+    let all = rows withheld_if 0 wire.places in
+    let number = field (codes " ") frame in
+    has_left (word ++ all ++ codes "; the first waits:") line_end number
+    (has_left (word ++ all) (codes "; the first waits:") number
+    (has_right word all number (has_row withheld_if wire.places frame (WithheldWire targets) is)))
+
+pub holder_stands : (wire : Wire) (place : ℕ) (space : SpaceWire) (entry : PageWire) (rest : List PageWire)
+    → slice_get wire.spaces place ≡ Some space → space.pages ≡ entry ∷ rest
+    → Has (frames_lines wire) (pages_line wire space.number space.pages)
+holder_stands wire place space entry rest is some =
+    let line = pages_line wire space.number space.pages in
+    let own : Has (space_if wire space) line = by_pages space.pages some in
+    has_right (free_line wire.places ++ withheld_lines wire) (each_space wire) line
+    (has_within (each_space wire) (space_if wire space) line (has_each (space_if wire) wire.spaces place space is) own)
+  where
+    by_pages : (pages : List PageWire) → pages ≡ entry ∷ rest → Has (pages_if wire space.number pages) (pages_line wire space.number pages)
+    by_pages [] is = absurd (cc is)
+    by_pages (first ∷ others) is = has_all (pages_line wire space.number (first ∷ others))
+
+pub full_stands : (wire : Wire) (space page : ℕ) (write : Bool)
+    → Has (why_of wire (step.Map space page write) (Err refusal.SpaceFull)) (pages_line wire space (pages_in wire space))
+full_stands wire space page write =
+    let line = pages_line wire space (pages_in wire space) in
+    has_right most_pages_line line line (has_all line)
+
+pub full_of_answer_stands : (wire : Wire) (worker : ℕ) (verdict : Verdict) (job : JobWire) → held_by wire worker ≡ Some job
+    → Has (why_of wire (step.Reply worker verdict) (Err refusal.SpaceFull))
+    (to_map_line wire worker job ++ pages_line wire (space_of_job wire job) (pages_in wire (space_of_job wire job)))
+full_of_answer_stands wire worker verdict job is =
+    let lines = full_of_job wire worker job in
+    has_right most_pages_line (of_job (full_of_job wire worker) (held_by wire worker)) lines
+    (has_found (of_job (full_of_job wire worker)) (held_by wire worker) job lines is (has_all lines))
+
+pub bearer_stands : (wire : Wire) (asked : Step) (place : ℕ) (binding : BindingWire) → slice_get wire.bindings place ≡ Some binding
+    → Has (why_of wire asked (Err refusal.NoPasid)) (bearer_line wire binding)
+bearer_stands wire asked place binding is =
+    has_right all_borne_line (flat_map (bearer_line wire) wire.bindings) (bearer_line wire binding)
+    (has_each (bearer_line wire) wire.bindings place binding is)
 
 not_held_has : (wire : Wire) (endpoint pasid page : ℕ) (write : Bool) (part : EndpointWire) (line : List ℕ) → slice_get wire.parts endpoint ≡ Some part
     → Has (not_held_lines wire endpoint pasid page part) line → Has (why_of wire (step.BeginUse endpoint pasid page write) (Err refusal.NotHeld)) line

@@ -1,15 +1,20 @@
 -- Each thing that takes up a limit, or is still to come, has its line.
-use Rattle.std.specs.Prelude.{◌≡◌, ℕ, ◌==◌, ◌&&◌, nat_le, Bool, true, Option, Some, Err, List, ◌++◌, codes, slice_get}
+use Rattle.std.specs.Prelude.{◌≡◌, ℕ, ◌==◌, ◌&&◌, nat_le, Bool, true, Option, Some, Err, List, ◌∷◌, ◌++◌, codes, slice_get}
 use Rattle.sva_step.specs.Limits
 use Rattle.sva_step.specs.declared.refusals.Refusal.TheVariants as refusal
 use Rattle.sva_step.specs.declared.steps.Step.{Step}
 use Rattle.sva_step.specs.declared.steps.Step.TheVariants as step
-use Rattle.sva_model.specs.Wire.{EndpointWire, GroupWire, JobWire, RequestWire, SpaceWire, TranslationWire, Wire}
+use Rattle.sva_step.specs.declared.steps.Verdict.{Verdict}
+use Rattle.sva_model.specs.Wire.{BindingWire, EndpointWire, GroupWire, JobWire, PageWire, RequestWire, SpaceWire, TargetWire, TranslationWire, Wire}
+use Rattle.sva_model.specs.Wire.PlaceWire.{WithheldWire}
 use Rattle.sva_model.specs.Wire.UseWire.{RunningWire, DeadWire}
-use Rattle.sva_labels.specs.Finding.{held_by, outstanding}
+use Rattle.sva_labels.specs.Finding.{held_by, outstanding, pages_in}
+use Rattle.sva_labels.specs.Replying.{space_of_job}
 use Rattle.sva_listing.specs.Pieces.{field, line_end}
 use Rattle.sva_accepted.specs.Accepted.{is_accepted}
+use Rattle.sva_lacking.specs.Frames.{frames_lines, pages_line, to_map_line, withheld_line}
 use Rattle.sva_lacking.specs.Hands.{hand_line}
+use Rattle.sva_lacking.specs.Pasids.{bearer_line}
 use Rattle.sva_lacking.specs.Slots.{slot_line}
 use Rattle.sva_lacking.specs.Spaces.{unbound_line}
 use Rattle.sva_lacking.specs.Tags.{not_held_line}
@@ -51,6 +56,26 @@ pub record LackingStand : Type 0 where
   pub space_stands : (wire : Wire) (asked : Step) (place : ℕ) (space : SpaceWire)
       → slice_get wire.spaces place ≡ Some space → is_accepted wire (step.DropSpace space.number) ≡ true
       → Has (why_of wire asked (Err refusal.TooManySpaces)) (unbound_line Second space.number)
+  -- NoFrame: each withheld frame is named, and each space that has pages has a line; of an answer the pages that it would map stand before
+  pub of_mapping : (wire : Wire) (space page : ℕ) (write : Bool) → why_of wire (step.Map space page write) (Err refusal.NoFrame) ≡ frames_lines wire
+  pub of_answer : (wire : Wire) (worker : ℕ) (verdict : Verdict) (job : JobWire) → held_by wire worker ≡ Some job
+      → why_of wire (step.Reply worker verdict) (Err refusal.NoFrame) ≡ to_map_line wire worker job ++ frames_lines wire
+  pub withheld_stands : (wire : Wire) (frame : ℕ) (targets : List (Option TargetWire)) → slice_get wire.places frame ≡ Some (WithheldWire targets)
+      → Has (frames_lines wire) (withheld_line wire.places)
+  pub frame_stands : (wire : Wire) (frame : ℕ) (targets : List (Option TargetWire)) → slice_get wire.places frame ≡ Some (WithheldWire targets)
+      → Has (withheld_line wire.places) (field (codes " ") frame)
+  pub holder_stands : (wire : Wire) (place : ℕ) (space : SpaceWire) (entry : PageWire) (rest : List PageWire)
+      → slice_get wire.spaces place ≡ Some space → space.pages ≡ entry ∷ rest
+      → Has (frames_lines wire) (pages_line wire space.number space.pages)
+  -- SpaceFull: the space, and of an answer the pages that it would map
+  pub full_stands : (wire : Wire) (space page : ℕ) (write : Bool)
+      → Has (why_of wire (step.Map space page write) (Err refusal.SpaceFull)) (pages_line wire space (pages_in wire space))
+  pub full_of_answer_stands : (wire : Wire) (worker : ℕ) (verdict : Verdict) (job : JobWire) → held_by wire worker ≡ Some job
+      → Has (why_of wire (step.Reply worker verdict) (Err refusal.SpaceFull))
+      (to_map_line wire worker job ++ pages_line wire (space_of_job wire job) (pages_in wire (space_of_job wire job)))
+  -- NoPasid: each binding, by which its space bears one
+  pub bearer_stands : (wire : Wire) (asked : Step) (place : ℕ) (binding : BindingWire) → slice_get wire.bindings place ≡ Some binding
+      → Has (why_of wire asked (Err refusal.NoPasid)) (bearer_line wire binding)
   -- NotHeld: that, and each request for the page; of an eviction it is said as of a use
   pub lack_stands : (wire : Wire) (endpoint pasid page : ℕ) (write : Bool) (part : EndpointWire)
       → slice_get wire.parts endpoint ≡ Some part

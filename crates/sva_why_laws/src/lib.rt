@@ -16,8 +16,9 @@ pub fn withheld_stand()
     ensures { WithheldStand }
 {}
 
-/// Of what lacks: each tag, use, job, group and space that takes up a limit, each request for a translation that isn't
-/// held, and the disabled page requests.
+/// Of what lacks: each tag, use, job, group and space that takes up a limit, each withheld frame and each space that has
+/// pages where none is free, the space that is full, each binding that bears a PASID, each request for a translation that
+/// isn't held, and the disabled page requests.
 pub fn lacking_stand()
     ensures { LackingStand }
 {}

@@ -4,7 +4,7 @@ ghost use Rattle.std.specs.Prelude.{◌≡◌};
 ghost use Rattle.sva_c.specs.Buffers.{IsHandedOver, status_of};
 
 use crate::statuses::{DONE, FAULTED, NO_MEMORY, TOO_SMALL};
-use sva_scenario::Outcome;
+use sva_reports::Outcome;
 
 /// Puts as much of a report into a buffer as fits, and tells how long it is. The status is that of the run, or
 /// `TOO_SMALL` where the report doesn't fit.

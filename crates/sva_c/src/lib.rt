@@ -16,7 +16,7 @@ mod statuses;
 
 use crate::handing::{hand_over, lack};
 use std::alloc::Global;
-use sva_scenario::{Told, check_text, report_text};
+use sva_reports::{Told, check_text, report_text};
 use sva_script_reports::{plain, show, test};
 
 /// The report of a scenario, as `replay` prints it.

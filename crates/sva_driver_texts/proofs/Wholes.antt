@@ -7,7 +7,7 @@ use Rattle.sva_step.specs.declared.limits.Config.{Config}
 use Rattle.sva_step.specs.declared.refusals.Refusal.TheVariants.{BadConfig}
 use Rattle.sva_step.specs.Refusals.{refusal_text}
 use Rattle.sva_grammar.specs.Grammar.{is_too_large}
-use Rattle.sva_scenario.specs.Report.{ended, is_fit}
+use Rattle.sva_reports.specs.Report.{ended, is_fit}
 use Rattle.sva_script_reading.specs.Begins.{Line, config_in, lines_from}
 use Rattle.sva_script_reading.specs.Faults.{Fault}
 use Rattle.sva_script_reading.specs.Faults as scripts

@@ -1,6 +1,1 @@
-pub mod StreamLemmas
-pub mod ScriptLemmas
-pub mod ReportLemmas
-pub mod HandedLemmas
 pub mod StormLemmas
-pub mod EndLemmas

@@ -1,3 +1,1 @@
-pub mod Streams
-pub mod Report
 pub mod Storms

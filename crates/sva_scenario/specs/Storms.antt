@@ -1,17 +1,17 @@
 -- What `svahost storm` prints. Which end a storm has depends on its threads, and so on no text alone.
-use Rattle.std.specs.Prelude.{◌≡◌, ℕ, List, [], ◌++◌, codes, decimal, Bool, true, false, Option, Some, None, Result, Ok, Err, IfOk}
+use Rattle.std.specs.Prelude.{◌≡◌, ℕ, List, [], Bool, true, false, Option, Some, None, Result, Ok, Err, IfOk}
 use Rattle.sva_step.specs.declared.refusals.Refusal.TheVariants.{BadConfig}
 use Rattle.sva_step.specs.Refusals.{refusal_text}
 use Rattle.sva_grammar.specs.declared.faults.LineFault.{LineFault}
 use Rattle.sva_grammar.specs.Faults.{line_fault_text}
 use Rattle.sva_grammar.specs.Grammar.{Script, scenario_of}
 pub use Rattle.sva_storm.specs.Storms.{HasFoundFrames}
-use Rattle.sva_scenario.specs.declared.streams.DriveFault.{DriveFault}
-use Rattle.sva_scenario.specs.declared.streams.DriveFault.TheVariants.{Write}
-use Rattle.sva_scenario.specs.declared.streams.Outcome.{Outcome}
-use Rattle.sva_scenario.specs.declared.streams.Outcome.TheVariants.{Done, Faulted}
-use Rattle.sva_scenario.specs.Report.{HandedOut, ended, is_fit}
-use Rattle.sva_scenario.specs.Streams.{AppendsPrefix, Writes}
+use Rattle.sva_reports.specs.declared.streams.DriveFault.{DriveFault}
+use Rattle.sva_reports.specs.declared.streams.DriveFault.TheVariants.{Write}
+use Rattle.sva_reports.specs.declared.streams.Outcome.{Outcome}
+use Rattle.sva_reports.specs.declared.streams.Outcome.TheVariants.{Done, Faulted}
+use Rattle.sva_reports.specs.Report.{HandedOut, audit_bad_text, audit_ok_text, ended, is_fit}
+use Rattle.sva_reports.specs.Streams.{AppendsPrefix, Writes}
 
 -- ---- The scenario
 
@@ -30,14 +30,6 @@ abbrev pub JudgedOf : List ℕ → Option (List ℕ) → Option (List ℕ) → R
 JudgedOf text old new result = Judged (scenario_of text) old new result
 
 -- ---- The storm's end
-
--- `audit ok`, and `frames N`
-abbrev pub audit_ok_text : ℕ → List ℕ
-audit_ok_text frames = ended (codes "audit ok") ++ ended (codes "frames " ++ decimal frames)
-
--- `audit bad`
-abbrev pub audit_bad_text : List ℕ
-audit_bad_text = ended (codes "audit bad")
 
 -- what an audit says: so many frames were found, or it is bad
 abbrev pub audit_text : Option ℕ → List ℕ

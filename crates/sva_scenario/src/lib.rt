@@ -1,25 +1,13 @@
-//! Scenarios: the reader that their text comes from, and the loop that writes a report. The grammar is that of `sva_grammar`, the
-//! loops and storms are those of `sva_storm`; both are passed on.
+//! Scenarios: their reports are those of `sva_reports`, the grammar is that of `sva_grammar`, the loops and storms are those of
+//! `sva_storm`; all are passed on. What stands before and behind a storm is here.
 #![tactic(auto)]
 
-mod checking;
-mod configs;
-mod driving;
-mod reading;
-mod report;
-mod scenarios;
 mod storming;
-mod streams;
-mod told;
-mod writing;
 
-pub use checking::{check, check_text};
-pub use configs::laws;
-pub use driving::{drive, report_text};
-pub use reading::{MOST_KEPT, MOST_TURNS, read_all};
 pub use storming::{read_scenario, report_audit};
-pub use streams::{DriveFault, Outcome};
 pub use sva_grammar::{Cause, LineFault, ParseFault, Scenario, parse};
+pub use sva_reports::{
+    DriveFault, MOST_KEPT, MOST_TURNS, Outcome, Told, check, check_text, drive, laws, read_all,
+    report_text, write_all,
+};
 pub use sva_storm::{Device, Ended, Pager, StormFault, endpoint_loop, fault_loop, storm};
-pub use told::Told;
-pub use writing::write_all;

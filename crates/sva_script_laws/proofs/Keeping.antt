@@ -15,7 +15,7 @@ use Rattle.sva_grammar.specs.declared.faults.Cause.TheVariants.{TooLarge}
 use Rattle.sva_grammar.specs.declared.faults.LineFault.{LineFault}
 use Rattle.sva_grammar.specs.Grammar.{◌>>=◌, Script, at_line, config_of, config_read, fault, is_skipped, is_too_large, lines_of, said_lines, scenario_of}
 use Rattle.sva_grammar.specs.Grammar.{script_of, step_of, steps_of, words_of}
-use Rattle.sva_scenario.specs.Report.{ended, is_fit, report_by, report_of, script_report, steps_report}
+use Rattle.sva_reports.specs.Report.{ended, is_fit, report_by, report_of, script_report, steps_report}
 use Rattle.sva_script.specs.Lines.{parts_of}
 use Rattle.sva_script.specs.Names.{Known}
 use Rattle.sva_script_runs.specs.Messages.{link_of}

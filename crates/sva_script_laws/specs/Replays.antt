@@ -2,7 +2,7 @@
 use Rattle.std.specs.Prelude.{◌≡◌, ℕ, if◌then◌else◌, List, [], ◌∷◌, ◌++◌, Option, Some, None, Result, Ok, Err}
 use Rattle.sva_labels.specs.Host.{reply_of}
 use Rattle.sva_model.specs.Wire.{Wire}
-use Rattle.sva_scenario.specs.Report.{ended, reply_text, report_of}
+use Rattle.sva_reports.specs.Report.{ended, reply_text, report_of}
 use Rattle.sva_script.specs.declared.faults.Wrong.{Wrong}
 use Rattle.sva_script.specs.Lines.{parts_of, script_words}
 use Rattle.sva_script_runs.specs.Lines.{LineRead, Plain}

@@ -13,7 +13,7 @@ use Rattle.sva_model.specs.Wire.{Wire}
 use Rattle.sva_address_spaces.specs.Steps.{is_mapped_place, is_withheld_place}
 use Rattle.sva_grammar.specs.declared.faults.Cause.{Cause}
 use Rattle.sva_grammar.specs.Grammar.{config_read, is_too_large, lines_of, number}
-use Rattle.sva_scenario.specs.Report.{counts_text, ended, is_fit}
+use Rattle.sva_reports.specs.Report.{counts_text, ended, is_fit}
 use Rattle.sva_script.specs.declared.faults.Wanted.{Wanted}
 use Rattle.sva_script.specs.declared.faults.Wanted.TheVariants as wanted
 use Rattle.sva_script.specs.declared.faults.Wrong.{Wrong}

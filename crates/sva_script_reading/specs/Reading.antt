@@ -1,7 +1,7 @@
 -- What the calls that read a script before it is run make of it.
 use Rattle.std.specs.Prelude.{◌≡◌, ℕ, Bool, List, [], ◌++◌, Option, Some, None, Result, Ok, Err}
 use Rattle.sva_step.specs.declared.limits.Config.{Config}
-use Rattle.sva_scenario.specs.declared.streams.Outcome.TheVariants.{Faulted}
+use Rattle.sva_reports.specs.declared.streams.Outcome.TheVariants.{Faulted}
 use Rattle.sva_script.specs.Lines.{parts_of}
 use Rattle.sva_script.specs.Names.{Known}
 use Rattle.sva_script_reading.specs.Faults.{Fault, fault_text}

@@ -3,7 +3,7 @@
 ghost use Rattle.std.specs.Prelude.{◌≡◌, ◌++◌, OnOk, decimal};
 ghost use Rattle.sva_step.specs.declared.refusals.Refusal.TheVariants as refusal;
 ghost use Rattle.sva_step.specs.Refusals.{refusal_text};
-ghost use Rattle.sva_scenario.specs.Report.{counts_text, ended, reply_text};
+ghost use Rattle.sva_reports.specs.Report.{counts_text, ended, reply_text};
 
 use itoa::Buffer;
 use std::alloc::AllocError;

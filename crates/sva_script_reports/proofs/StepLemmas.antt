@@ -3,7 +3,7 @@ use Rattle.std.proofs.Common.{◌≡◌, ◌∙◌, ap, refl, subst, sym, ℕ, �
 use Rattle.std.specs.Prelude.{Bool, true, OnOk, Result, Ok, Err, codes, cond, drop, is_none}
 use Rattle.sva_model.specs.Wire.{Wire}
 use Rattle.sva_grammar.specs.Grammar.{◌>>=◌}
-use Rattle.sva_scenario.specs.Report.{counts_text, ended, reply_text}
+use Rattle.sva_reports.specs.Report.{counts_text, ended, reply_text}
 use Rattle.sva_script.specs.declared.faults.Stop.{Stop}
 use Rattle.sva_script.specs.declared.faults.Stop.TheVariants as stop
 use Rattle.sva_script.specs.declared.faults.Wrong.{Wrong}

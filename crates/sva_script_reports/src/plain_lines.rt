@@ -1,7 +1,7 @@
 //! The plain scenario of a script.
 
 ghost use Rattle.std.specs.Prelude.{◌≡◌, ◌==◌, ◌++◌, ◌<◌, ◌≤◌, [], IfSome, length, not, position, map, true, OnOk, Ok};
-ghost use Rattle.sva_scenario.specs.Report.{ended};
+ghost use Rattle.sva_reports.specs.Report.{ended};
 ghost use Rattle.sva_script.specs.Lines.{script_words};
 ghost use Rattle.sva_script_reports.specs.Lines.{StepsPlain, WordsPlain};
 ghost use Rattle.sva_script_reading.specs.Said.{IsSaid};
@@ -9,7 +9,7 @@ ghost use Rattle.sva_script_reading.specs.Begins.{lines_from, said_by};
 ghost use Rattle.sva_script_reports.specs.Scripts.{comment_of, if_small, plain_from, plain_of, start};
 
 use std::alloc::{AllocError, Global};
-use sva_scenario::Outcome;
+use sva_reports::Outcome;
 use sva_script::{Stop, split};
 use sva_script_reading::{
     Desk, Lines, is_too_large, put_bad_config, put_words, put_wrong, read_script,

@@ -9,7 +9,7 @@ ghost use Rattle.sva_script_reports.specs.Shows.{StepsShow, WordsShow, show_from
 
 use std::alloc::{AllocError, Global};
 use sva_listing::put_listing;
-use sva_scenario::Outcome;
+use sva_reports::Outcome;
 use sva_script::{Stop, split};
 use sva_script_reading::{Desk, Lines, put_bad_config, put_wrong, read_script};
 use sva_script_runs::Run;

@@ -7,8 +7,8 @@ use Rattle.sva_step.specs.Refusals.{refusal_text}
 use Rattle.sva_labels.specs.Host.{first_wire}
 use Rattle.sva_model.specs.Claims.{Fits}
 use Rattle.sva_model.specs.Wire.{Wire}
-use Rattle.sva_scenario.specs.Report.{ended, is_fit}
-use Rattle.sva_scenario.proofs.ScriptLemmas.{configs_are_tested, unfit_from}
+use Rattle.sva_reports.specs.Report.{ended, is_fit}
+use Rattle.sva_reports.proofs.ScriptLemmas.{configs_are_tested, unfit_from}
 use Rattle.sva_script.specs.declared.faults.Wrong.{Wrong}
 use Rattle.sva_script.specs.Lines.{parts_of}
 use Rattle.sva_script_runs.specs.declared.running.Taken.{Taken}

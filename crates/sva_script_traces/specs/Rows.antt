@@ -5,7 +5,7 @@ use Rattle.sva_step.specs.declared.steps.Step.{Step}
 use Rattle.sva_step.specs.declared.steps.Step.TheVariants.{Deliver}
 use Rattle.sva_model.specs.Message.{Message}
 use Rattle.sva_model.specs.Wire.{Wire}
-use Rattle.sva_scenario.specs.Report.{ended, reply_text}
+use Rattle.sva_reports.specs.Report.{ended, reply_text}
 use Rattle.sva_script.specs.declared.given.Told.{Told}
 use Rattle.sva_script_traces.specs.declared.rows.Columns.{Columns}
 use Rattle.sva_script_traces.specs.declared.rows.Columns.TheVariants.{Padded, Tabbed}

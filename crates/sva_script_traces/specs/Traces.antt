@@ -6,10 +6,10 @@ use Rattle.sva_step.specs.declared.refusals.Refusal.TheVariants.{BadConfig}
 use Rattle.sva_step.specs.Refusals.{refusal_text}
 use Rattle.sva_labels.specs.Host.{first_wire, next_of, reply_of}
 use Rattle.sva_model.specs.Wire.{Wire}
-use Rattle.sva_scenario.specs.declared.streams.Outcome.{Outcome}
-use Rattle.sva_scenario.specs.declared.streams.Outcome.TheVariants.{Done, Faulted}
+use Rattle.sva_reports.specs.declared.streams.Outcome.{Outcome}
+use Rattle.sva_reports.specs.declared.streams.Outcome.TheVariants.{Done, Faulted}
 use Rattle.sva_grammar.specs.Grammar.{config_read}
-use Rattle.sva_scenario.specs.Report.{ended, is_fit}
+use Rattle.sva_reports.specs.Report.{ended, is_fit}
 use Rattle.sva_script.specs.declared.faults.Wanted.TheVariants as wanted
 use Rattle.sva_script.specs.declared.faults.Wrong.{Wrong}
 use Rattle.sva_script.specs.Lines.{parts_of, script_words}

@@ -2,7 +2,7 @@
 
 ghost use Rattle.std.specs.Prelude.{◌≡◌, ◌++◌, ◌+◌, ◌<◌, ◌≤◌, [], OnOk, Some, decimal, option_map, ◌∷◌};
 ghost use Rattle.sva_parts_by_labels.specs.Flights.{kind_seen};
-ghost use Rattle.sva_scenario.specs.Report.{counts_text};
+ghost use Rattle.sva_reports.specs.Report.{counts_text};
 ghost use Rattle.sva_script_traces.specs.Rows.{answer_column, column, column_end, delivered_text, end_text, kind_text, messages_text, row_seen, row_text};
 ghost use Rattle.sva_script_traces.specs.Rows.{sends, sent_text, step_text, whys_if};
 

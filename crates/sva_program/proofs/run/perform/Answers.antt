@@ -1,6 +1,6 @@
 use Rattle.std.proofs.Common.{IfSome, ap, subst, sym}
 use Rattle.std.proofs.lemmas.Result.{IfOk-weaker}
-use Rattle.sva_scenario.specs.Report.{check_of, check_outcome_of, outcome_of, report_of}
+use Rattle.sva_reports.specs.Report.{check_of, check_outcome_of, outcome_of, report_of}
 use Rattle.sva_scenario.specs.Storms.{StormsOf}
 use Rattle.sva_charts.specs.Charts.{Charts}
 use Rattle.sva_script_reading.specs.Said.{Prints}

@@ -1,0 +1,7 @@
+use Rattle.std.proofs.Common.{rules}
+use Rattle.sva_reports.specs.Report.{ended}
+use Rattle.sva_reports.proofs.ScriptLemmas.{writes_as}
+use Rattle.sva_reports.proofs.report.write_audit.Goals as goal
+
+pub returns-clause-written : goal.returns-clause-written
+returns-clause-written g c = writes_as _ _ (ended c.put_count.new.line.items) _ c.end_line.result (search rules) c.end_line.ensures.written

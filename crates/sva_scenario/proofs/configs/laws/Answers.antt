@@ -1,5 +1,0 @@
-use Rattle.sva_scenario.proofs.ScriptLemmas.{configs_are_tested}
-use Rattle.sva_scenario.proofs.configs.laws.Goals as goal
-
-pub returns : goal.returns
-returns c = record { configs = configs_are_tested }

@@ -1,7 +1,0 @@
-use Rattle.std.proofs.Common.{rules}
-use Rattle.sva_scenario.specs.Report.{ended}
-use Rattle.sva_scenario.proofs.ScriptLemmas.{writes_as}
-use Rattle.sva_scenario.proofs.report.write_audit.Goals as goal
-
-pub returns-clause-written : goal.returns-clause-written
-returns-clause-written g c = writes_as _ _ (ended c.put_count.new.line.items) _ c.end_line.result (search rules) c.end_line.ensures.written

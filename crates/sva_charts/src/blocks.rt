@@ -2,9 +2,7 @@
 
 use crate::places::{Places, Rail};
 use std::alloc::{AllocError, Global};
-
-/// The most endpoints.
-const MOST_ENDPOINTS: u64 = 8;
+use sva_step::MOST_ENDPOINTS;
 
 /// How far apart things stand.
 #[derive(Clone, Copy)]
@@ -41,7 +39,7 @@ impl Blocks {
     ) -> Result<Self, AllocError> {
         let mut blocks = Vec::new(alloc);
         let mut host = left;
-        for endpoint in 0..MOST_ENDPOINTS {
+        for endpoint in 0..MOST_ENDPOINTS as u64 {
             if places.names(endpoint) {
                 let lanes = spacing.lane.saturating_mul(places.lanes(endpoint));
                 let device = host.saturating_add(spacing.base).saturating_add(lanes);

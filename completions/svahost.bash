@@ -17,7 +17,7 @@ _svahost() {
   elif [[ $command == explore || $command == judge ]]; then
     [[ $before == --most || $before == --part ]] && return
     words='--most --help'
-    if [ "$command" = judge ]; then words="--run $words"; else words="--why $words"; fi
+    if [ "$command" = judge ]; then words="--run $words"; else words="--why --ends $words"; fi
     if [[ $1 == */* && $current != -* ]]; then
       # the script of the repository takes files too
       compopt -o filenames 2> /dev/null

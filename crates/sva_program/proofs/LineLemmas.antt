@@ -258,8 +258,9 @@ asks_first name word rest (is_chart is) e =
 asks_first name word rest (is_explore is) e =
     let none = explore_level name rest (subst (λ w. fault_of svahost (name ∷ w ∷ rest) ≡ []) is e) in
     subst (λ w. AsksRun (name ∷ w ∷ rest)) (sym is) (
-      Explore (most_by (most_text (rows_after explore_shape.rules [] rest))) (is_given (codes "why") (rows_after explore_shape.rules [] rest)),
-      (name, rest, (none, refl, refl), refl),
+      Explore (most_by (most_text (rows_after explore_shape.rules [] rest))) (is_given (codes "why") (rows_after explore_shape.rules [] rest))
+          (is_given (codes "ends") (rows_after explore_shape.rules [] rest)),
+      (name, rest, (none, refl, refl, refl), refl),
     )
 asks_first name word rest (is_judge is) e =
     let none = judge_level name rest (subst (λ w. fault_of svahost (name ∷ w ∷ rest) ≡ []) is e) in
@@ -395,7 +396,7 @@ taken_words Test words is = taken_bare testing words is
 taken_words Show words is = taken_bare showing words is
 taken_words Why words is = taken_bare explaining words is
 taken_words (Chart svg) words (name, rest, given, e) = subst (λ w. fault_of svahost w ≡ []) (sym e) (takes_chart name rest given.0)
-taken_words (Explore most whys) words (name, rest, given, e) = subst (λ w. fault_of svahost w ≡ []) (sym e) (takes_explore name rest given.0)
+taken_words (Explore most whys few_ends) words (name, rest, given, e) = subst (λ w. fault_of svahost w ≡ []) (sym e) (takes_explore name rest given.0)
 taken_words (Judge run most) words (name, rest, given, e) = subst (λ w. fault_of svahost w ≡ []) (sym e) (takes_judge name rest given.0)
 taken_words (Trace live whys) words (name, rest, given, e) = subst (λ w. fault_of svahost w ≡ []) (sym e) (takes_trace name rest given.0)
 taken_words (Storm turns) words (name, rest, given, inl e) = subst (λ w. fault_of svahost w ≡ []) (sym e) (unfaulted name rest (given_taken turns rest given)).0

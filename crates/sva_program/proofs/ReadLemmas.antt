@@ -147,21 +147,22 @@ most_read found r none some = go (most_text (rows_of found)) refl
     go (Some text) e = read_within text r (some text (one_text-rows found (codes "most") ∙ e))
 
 -- where `explore` was entered, the words ask for a race to be explored
-pub entered_explore : (m : ArgMatches) (name : Text) (rows : List Row) (most : ℕ) (whys : Bool) → name ≡ codes "explore" → Some name ≡ subcommand_name_of m
+pub entered_explore : (m : ArgMatches) (name : Text) (rows : List Row) (most : ℕ) (whys few_ends : Bool) → name ≡ codes "explore" → Some name ≡ subcommand_name_of m
     → Some rows ≡ option_map (λ p. p.1) (subcommand_rows (out-ArgMatches m).subcommand)
-    → most ≡ most_by (most_text rows) → whys ≡ is_given (codes "why") rows
-    → Explore most whys ≡ asked_by (subcommand_rows_of m)
-entered_explore m name rows most whys explore named found made told = go (out-ArgMatches m).subcommand named found
+    → most ≡ most_by (most_text rows) → whys ≡ is_given (codes "why") rows → few_ends ≡ is_given (codes "ends") rows
+    → Explore most whys few_ends ≡ asked_by (subcommand_rows_of m)
+entered_explore m name rows most whys few_ends explore named found made told short = go (out-ArgMatches m).subcommand named found
   where
     go : {Z : Type 0} (b : Option (Box SubCommand Z)) → Some name ≡ option_map (λ b. (out-SubCommand (box_value b)).name.now) b
         → Some rows ≡ option_map (λ p. p.1) (subcommand_rows b)
-        → Explore most whys ≡ asked_by (subcommand_rows b)
+        → Explore most whys few_ends ≡ asked_by (subcommand_rows b)
     go None named found = absurd (cc named)
     go (Some b) named found =
         let own = rows_of (found_of (out-SubCommand (box_value b)).matches) in
-        subst (λ n. Explore most whys ≡ asked_by (Some (n, own))) (sym explore ∙ ap (λ o. unwrap_or o name) named)
+        subst (λ n. Explore most whys few_ends ≡ asked_by (Some (n, own))) (sym explore ∙ ap (λ o. unwrap_or o name) named)
         (λ i. Explore ((made ∙ ap (λ l. most_by (most_text l)) (ap (λ o. unwrap_or o rows) found)) i)
-        ((told ∙ ap (is_given (codes "why")) (ap (λ o. unwrap_or o rows) found)) i))
+        ((told ∙ ap (is_given (codes "why")) (ap (λ o. unwrap_or o rows) found)) i)
+        ((short ∙ ap (is_given (codes "ends")) (ap (λ o. unwrap_or o rows) found)) i))
 
 -- where `judge` was entered, the words ask for a driver to be judged
 pub entered_judge : (m : ArgMatches) (name : Text) (rows : List Row) (run : Bool) (most : ℕ) → name ≡ codes "judge" → Some name ≡ subcommand_name_of m

@@ -122,7 +122,7 @@ run_status found ended is = subst (λ e. status_of e ≤ 2) (sym is) (go found)
 
 -- of a command on steps
 pub steps_status : (asked : Asked) (input old new : Option (List ℕ)) (ended : Result Ending DriveFault)
-    → ((most : ℕ) (whys : Bool) → asked ≡ Explore most whys → ⊥) → ((run : Bool) (most : ℕ) → asked ≡ Judge run most → ⊥) → Reports asked input old new ended → status_of ended ≤ 2
+    → ((most : ℕ) (whys few_ends : Bool) → asked ≡ Explore most whys few_ends → ⊥) → ((run : Bool) (most : ℕ) → asked ≡ Judge run most → ⊥) → Reports asked input old new ended → status_of ended ≤ 2
 steps_status Replay input old new ended other one h = run_status h.0 ended h.1
 steps_status Check input old new ended other one h = run_status h.0 ended h.1
 steps_status (Storm turns) input old new ended other one h = run_status h.0 ended h.1
@@ -130,7 +130,7 @@ steps_status Plain input old new ended other one h = run_status h.0 ended h.1
 steps_status Test input old new ended other one h = run_status h.0 ended h.1
 steps_status Show input old new ended other one h = run_status h.0 ended h.1
 steps_status Why input old new ended other one h = run_status h.0 ended h.1
-steps_status (Explore most whys) input old new ended other one h = absurd (other most whys refl)
+steps_status (Explore most whys few_ends) input old new ended other one h = absurd (other most whys few_ends refl)
 steps_status (Judge run most) input old new ended other one h = absurd (one run most refl)
 steps_status (Chart svg) input old new ended other one h = run_status h.0 ended h.1
 steps_status (Trace live whys) input old new ended other one h = run_status h.0 ended h.1
@@ -139,9 +139,9 @@ steps_status (Trace live whys) input old new ended other one h = run_status h.0 
 abbrev IsOfExploring : ℕ → Type 0
 IsOfExploring status = (status ≡ 0) ⊎ (status ≡ 1) ⊎ (status ≡ 4) ⊎ (status ≡ 5)
 
-pub exploring_status : (most : ℕ) (whys : Bool) (input old new : Option (List ℕ)) (ended : Result Ending DriveFault)
-    → Reports (Explore most whys) input old new ended → IsOfExploring (status_of ended)
-exploring_status most whys input old new ended h = subst (λ e. IsOfExploring (status_of e)) (sym h.1) (go h.0)
+pub exploring_status : (most : ℕ) (whys few_ends : Bool) (input old new : Option (List ℕ)) (ended : Result Ending DriveFault)
+    → Reports (Explore most whys few_ends) input old new ended → IsOfExploring (status_of ended)
+exploring_status most whys few_ends input old new ended h = subst (λ e. IsOfExploring (status_of e)) (sym h.1) (go h.0)
   where
     go : (found : Result (Option Judged) DriveFault) → IsOfExploring (status_of (explored_of found))
     go (Ok None) = inr (inl refl)
@@ -196,7 +196,7 @@ unwritten_by Show input old = lacking (unwritten_where Outcome _ input old (λ t
 unwritten_by Why input old = lacking (unwritten_where Outcome _ input old (λ text. unprinted (whys_of text) old))
 unwritten_by (Chart svg) input old =
     lacking (unwritten_where Outcome _ input old (λ text. (show_of text, (refl, λ wrong. refl), unprinted (show_of text) old)))
-unwritten_by (Explore most whys) input old = (Err Memory, refl, unwritten_where (Option Judged) _ input old (λ text. nothing_of old []))
+unwritten_by (Explore most whys few_ends) input old = (Err Memory, refl, unwritten_where (Option Judged) _ input old (λ text. nothing_of old []))
 unwritten_by (Judge run most) input old = (Err Memory, refl, unwritten_where (Option Ruling) _ input old (λ text. unruled run most text old))
 unwritten_by (Trace live whys) None old = lacking tt
 unwritten_by (Trace live whys) (Some text) old = lacking (unprinted (trace_of (style_of live whys) text) old)

@@ -91,11 +91,12 @@ tells_storm name text turns words is e number =
           (λ is_storm other same. subst (IsUnsignedIn 1 1000000) (ap (λ found. unwrap_or found text) (sym is ∙ same)) (accepts-Accepts false parser text e)),
     )
 
-tells_explore : (name : Text) (rest : List Text) (most : ℕ) (whys : Bool) → most ≡ most_by (most_text (rows_after explore_shape.rules [] rest))
-    → whys ≡ is_given (codes "why") (rows_after explore_shape.rules [] rest) → Tells (Explore most whys) (name ∷ explore ∷ rest)
-tells_explore name rest most whys is are =
+tells_explore : (name : Text) (rest : List Text) (most : ℕ) (whys few_ends : Bool) → most ≡ most_by (most_text (rows_after explore_shape.rules [] rest))
+    → whys ≡ is_given (codes "why") (rows_after explore_shape.rules [] rest) → few_ends ≡ is_given (codes "ends") (rows_after explore_shape.rules [] rest)
+    → Tells (Explore most whys few_ends) (name ∷ explore ∷ rest)
+tells_explore name rest most whys few_ends is are short =
     let enters = enters_explore name rest in
-    (ap asked_by enters ∙ (λ i. Explore (sym is i) (sym are i)), subst IsReadable (sym enters) (λ is_storm. absurd (is_other explore refl is_storm)))
+    (ap asked_by enters ∙ (λ i. Explore (sym is i) (sym are i) (sym short i)), subst IsReadable (sym enters) (λ is_storm. absurd (is_other explore refl is_storm)))
 
 tells_judge : (name : Text) (rest : List Text) (run : Bool) (most : ℕ) → run ≡ is_given (codes "run") (rows_after judge_shape.rules [] rest)
     → most ≡ most_by (most_text (rows_after judge_shape.rules [] rest)) → Tells (Judge run most) (name ∷ judge ∷ rest)
@@ -122,7 +123,8 @@ tells Test words is = bare_tells testing words is
 tells Show words is = bare_tells showing words is
 tells Why words is = bare_tells explaining words is
 tells (Chart svg) words (name, rest, given, e) = subst (Tells (Chart svg)) (sym e) (tells_chart name rest svg given.1)
-tells (Explore most whys) words (name, rest, given, e) = subst (Tells (Explore most whys)) (sym e) (tells_explore name rest most whys given.1 given.2)
+tells (Explore most whys few_ends) words (name, rest, given, e) =
+    subst (Tells (Explore most whys few_ends)) (sym e) (tells_explore name rest most whys few_ends given.1 given.2 given.3)
 tells (Judge run most) words (name, rest, given, e) = subst (Tells (Judge run most)) (sym e) (tells_judge name rest run most given.1 given.2)
 tells (Trace live whys) words (name, rest, given, e) = subst (Tells (Trace live whys)) (sym e) (tells_trace name rest live whys given.1 given.2)
 tells (Storm turns) words (name, rest, given, inl e) =

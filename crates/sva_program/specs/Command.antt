@@ -45,9 +45,9 @@ abbrev pub no_commands : App
 no_commands = let plain = new_app (codes "svahost") in
     record plain { top = record plain.top { has_version = true; subcommand_required = true; disable_help_subcommand = true } }
 
--- `svahost` with a version and its commands: `storm`, which takes `--turns`, `chart`, which takes `--svg`, `explore`, which takes `--most` and
--- `--why`, `judge`, which takes `--most` and `--run`, `trace`, which takes `--live` and `--why`, and those that take no arguments; each has clap's
--- flags for help
+-- `svahost` with a version and its commands: `storm`, which takes `--turns`, `chart`, which takes `--svg`, `explore`, which takes `--most`,
+-- `--why` and `--ends`, `judge`, which takes `--most` and `--run`, `trace`, which takes `--live` and `--why`, and those that take no arguments;
+-- each has clap's flags for help
 abbrev pub svahost : App
 svahost =
     let replaying = with_subcommand no_commands (new_app (codes "replay")).top in
@@ -58,7 +58,8 @@ svahost =
     let showing = with_subcommand testing (new_app (codes "show")).top in
     let explaining = with_subcommand showing (new_app (codes "why")).top in
     let charting = with_subcommand explaining (with_rule (new_app (codes "chart")) (flag_rule (codes "svg"))).top in
-    let exploring = with_subcommand charting (with_rule (with_rule (new_app (codes "explore")) most_rule) (flag_rule (codes "why"))).top in
+    let exploring = with_subcommand charting
+    (with_rule (with_rule (with_rule (new_app (codes "explore")) most_rule) (flag_rule (codes "why"))) (flag_rule (codes "ends"))).top in
     let judging = with_subcommand exploring (with_rule (with_rule (new_app (codes "judge")) most_rule) (flag_rule (codes "run"))).top in
     with_subcommand judging (with_rule (with_rule (new_app (codes "trace")) (flag_rule (codes "live"))) (flag_rule (codes "why"))).top
 
@@ -144,16 +145,18 @@ within (Some most) = if nat_le 1 most && nat_le most 1000000000 then most else 1
 abbrev pub is_given : (flag : Text) → List Row → Bool
 is_given flag rows = option_map_or (λ text. bytes_eq text (codes "true")) (first_of flag rows) false
 
--- the words behind `explore`, by clap's definitions: they have no fault, they give this number, and `--why` is among them or not
-abbrev pub GivesWanted : (most : ℕ) → (whys : Bool) → List Text → Type 0
-GivesWanted most whys words =
+-- the words behind `explore`, by clap's definitions: they have no fault, they give this number, and `--why` and `--ends` are among them or not
+abbrev pub GivesWanted : (most : ℕ) → (whys few_ends : Bool) → List Text → Type 0
+GivesWanted most whys few_ends words =
     (level_fault explore_shape [] nothing_held words false [] ≡ [])
     × (most ≡ most_by (most_text (rows_after explore_shape.rules [] words)))
     × (whys ≡ is_given (codes "why") (rows_after explore_shape.rules [] words))
+    × (few_ends ≡ is_given (codes "ends") (rows_after explore_shape.rules [] words))
 
--- the words are the program's name, `explore`, and words that give this number of moments and say this of `--why`
-abbrev pub IsExplore : (most : ℕ) → (whys : Bool) → List Text → Type 0
-IsExplore most whys words = (name : Text) × (rest : List Text) × GivesWanted most whys rest × (words ≡ name ∷ codes "explore" ∷ rest)
+-- the words are the program's name, `explore`, and words that give this number of moments and say this of `--why` and of `--ends`
+abbrev pub IsExplore : (most : ℕ) → (whys few_ends : Bool) → List Text → Type 0
+IsExplore most whys few_ends words =
+    (name : Text) × (rest : List Text) × GivesWanted most whys few_ends rest × (words ≡ name ∷ codes "explore" ∷ rest)
 
 -- the words behind `trace`, by clap's definitions: they have no fault, and each of its flags is among them or not
 abbrev pub GivesFlags : (live whys : Bool) → List Text → Type 0
@@ -196,7 +199,7 @@ Asks Test words = IsCommand (codes "test") words
 Asks Show words = IsCommand (codes "show") words
 Asks Why words = IsCommand (codes "why") words
 Asks (Chart svg) words = IsChart svg words
-Asks (Explore most whys) words = IsExplore most whys words
+Asks (Explore most whys few_ends) words = IsExplore most whys few_ends words
 Asks (Judge run most) words = IsJudge run most words
 Asks (Trace live whys) words = IsTrace live whys words
 
@@ -221,7 +224,7 @@ asked_by (Some (name, rows)) =
     if bytes_eq name (codes "show") then Show else
     if bytes_eq name (codes "why") then Why else
     if bytes_eq name (codes "chart") then Chart (is_given (codes "svg") rows) else
-    if bytes_eq name (codes "explore") then Explore (most_by (most_text rows)) (is_given (codes "why") rows) else
+    if bytes_eq name (codes "explore") then Explore (most_by (most_text rows)) (is_given (codes "why") rows) (is_given (codes "ends") rows) else
     if bytes_eq name (codes "judge") then Judge (is_given (codes "run") rows) (most_by (most_text rows)) else
     if bytes_eq name (codes "trace") then Trace (is_given (codes "live") rows) (is_given (codes "why") rows) else
     Replay
@@ -241,7 +244,7 @@ AsksRun words = (asked : Asked) × Asks asked words
 
 -- the words ask for a race to be explored
 abbrev pub AsksExplore : List Text → Type 0
-AsksExplore words = (most : ℕ) × (whys : Bool) × Asks (Explore most whys) words
+AsksExplore words = (most : ℕ) × (whys : Bool) × (few_ends : Bool) × Asks (Explore most whys few_ends) words
 
 -- the words ask for a driver to be judged, or its lines to be taken
 abbrev pub AsksJudge : List Text → Type 0

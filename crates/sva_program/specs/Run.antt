@@ -105,8 +105,8 @@ style_of live whys = record { columns = columns_of live; whys = whys }
 
 -- `--most` limits how many moments are looked at, and `--why` tells behind each witness what holds its steps back,
 -- and the lines that wait where it ends
-abbrev pub wanted_of : (most : ℕ) → (whys : Bool) → Wanted
-wanted_of most whys = record { most = most; whys = whys }
+abbrev pub wanted_of : (most : ℕ) → (whys few_ends : Bool) → Wanted
+wanted_of most whys few_ends = record { most = most; whys = whys; few_ends = few_ends }
 
 -- a run of steps ended, and made this
 abbrev pub RunsTo : (Result Outcome DriveFault → Type 0) → Result Ending DriveFault → Type 0
@@ -141,8 +141,8 @@ Reports Test input old new = RunsTo (λ found. WhereKnown (λ text. Prints (test
 Reports Show input old new = RunsTo (λ found. WhereKnown (λ text. Prints (show_of text) old new found) input old new found)
 Reports Why input old new = RunsTo (λ found. WhereKnown (λ text. Prints (whys_of text) old new found) input old new found)
 Reports (Chart svg) input old new = RunsTo (λ found. WhereKnown (λ text. Charts text old new found) input old new found)
-Reports (Explore most whys) input old new =
-    ExploresTo (λ found. WhereKnown (λ text. Explores text (wanted_of most whys) old new found) input old new found)
+Reports (Explore most whys few_ends) input old new =
+    ExploresTo (λ found. WhereKnown (λ text. Explores text (wanted_of most whys few_ends) old new found) input old new found)
 Reports (Judge run most) input old new = RulesTo (λ found. WhereKnown (λ text. Rules run most text old new found) input old new found)
 Reports (Trace live whys) input old new = RunsTo (λ found. IfSome input (λ text. Prints (trace_of (style_of live whys) text) old new found))
 

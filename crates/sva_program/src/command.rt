@@ -7,7 +7,7 @@ ghost use Rattle.sva_program.specs.Command.{most_by, most_rule, most_text, svaho
 
 use crate::help::{
     ABOUT, CHART, CHECK, ENDS, EXPLORE, HELP, JUDGE, LIVE, MOST, PLAIN, REPLAY, RUN, SHOW, STORM,
-    SVG, TEST, TRACE, TURNS, VERSION, WHY, WHYS,
+    SVG, TEST, TRACE, TURNS, VERSION, WAITS, WHY, WHYS,
 };
 use clap::builder::ValueParser;
 use clap::{Arg, ArgAction, ArgMatches, Command, Error};
@@ -56,6 +56,8 @@ pub enum Asked {
         most: u64,
         /// Is it said behind each witness what holds its own steps back, and the lines that wait where it ends?
         whys: bool,
+        /// Are no more than 20 texts of ends told?
+        few_ends: bool,
     },
     /// Whether each order of a driver is safe.
     Judge {
@@ -135,15 +137,16 @@ fn most_option<'a>(alloc: Global) -> Arg<'a>
 /// The program with its command `explore`.
 fn with_explore<'a>(svahost: Command<'a>, alloc: Global) -> Result<Command<'a>, AllocError>
     ensures { IfOk result (λ command. app_of command
-        ≡ with_subcommand (app_of svahost.entry) (with_rule (with_rule (new_app (codes "explore")) most_rule)
-        (flag_rule (codes "why"))).top) }
+        ≡ with_subcommand (app_of svahost.entry) (with_rule (with_rule (with_rule (new_app (codes "explore")) most_rule)
+        (flag_rule (codes "why"))) (flag_rule (codes "ends"))).top) }
 {
     let explore = Command::new(alloc, "explore")
         .about(EXPLORE)
         .long_about(whole_help());
     let with_most = explore.arg(most_option(alloc))?;
-    let with_why = with_most.arg(flag(alloc, "why", ENDS))?;
-    svahost.subcommand(with_why)
+    let with_why = with_most.arg(flag(alloc, "why", WAITS))?;
+    let with_ends = with_why.arg(flag(alloc, "ends", ENDS))?;
+    svahost.subcommand(with_ends)
 }
 
 /// An option that is a flag.
@@ -258,7 +261,8 @@ fn entered(matches: &ArgMatches<'_>) -> Asked
         },
         Some(("explore", below)) => Asked::Explore {
             most: most(below),
-            whys: wants_ends(below),
+            whys: wants_whys(below),
+            few_ends: is_given(below, "ends"),
         },
         Some(("judge", below)) => Asked::Judge {
             run: is_given(below, "run"),
@@ -297,7 +301,7 @@ fn within(found: Option<u64>) -> u64
 }
 
 /// Is it wanted what holds the steps of witnesses back, and the lines that wait where they end?
-fn wants_ends(explore: &ArgMatches<'_>) -> bool
+fn wants_whys(explore: &ArgMatches<'_>) -> bool
     ensures { result ≡ is_given (codes "why") (rows_of (found_of explore.now)) }
 {
     is_given(explore, "why")

@@ -43,8 +43,11 @@ pub const EXPLORE: &str =
 pub const MOST: &str = "How many moments are looked at at most, 1 to 1000000000";
 
 /// What `-h` says of `--why` of `explore`.
-pub const ENDS: &str =
+pub const WAITS: &str =
     "Behind each witness stands what holds its own steps back, and the lines that wait where it ends";
+
+/// What `-h` says of `--ends`.
+pub const ENDS: &str = "No more than 20 texts of ends are printed, and how many are left out";
 
 /// What `-h` says of `judge`.
 pub const JUDGE: &str =
@@ -167,7 +170,8 @@ go on by themselves. Last stand the claims:
     ends always done u
 
 `svahost explore` follows every order, and prints of each claim whether it holds, fails, or is unknown
-since `--most N` moments were looked at. A claim that fails has a witness, a shortest scenario that
+since `--most N` moments were looked at. Below its first line stands what the ends come to, a line for
+each text; `--ends` prints no more than 20. A claim that fails has a witness, a shortest scenario that
 `replay` takes; so has a `sometimes` that holds. With `--why` stands behind each witness what `why`
 says of its steps, and which lines wait where it ends, with what holds them back.
 

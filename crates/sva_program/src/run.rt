@@ -119,8 +119,13 @@ fn perform<X: AllocGlobal + Threads + Wait + Sync, R: Read, W: Write>(
         Asked::Show => ran(print(rt.alloc(), Saying::Show, reader, writer)),
         Asked::Why => ran(print(rt.alloc(), Saying::Why, reader, writer)),
         Asked::Chart { svg } => ran(chart(rt.alloc(), drawing_of(svg), reader, writer)),
-        Asked::Explore { most, whys } => {
-            explored(explore(rt.alloc(), wanted_of(most, whys), reader, writer))
+        Asked::Explore {
+            most,
+            whys,
+            few_ends,
+        } => {
+            let wanted = wanted_of(most, whys, few_ends);
+            explored(explore(rt.alloc(), wanted, reader, writer))
         }
         Asked::Judge { run, most } => ruled(rule(rt.alloc(), run, most, reader, writer)),
         Asked::Trace { live, whys } => ran(trace(rt.alloc(), style_of(live, whys), reader, writer)),
@@ -149,10 +154,14 @@ fn explored(found: Result<Option<Judged>, DriveFault>) -> Result<Ending, DriveFa
 }
 
 /// What is wanted of a race.
-fn wanted_of(most: u64, whys: bool) -> Wanted
-    ensures { result ≡ wanted_of most whys }
+fn wanted_of(most: u64, whys: bool, few_ends: bool) -> Wanted
+    ensures { result ≡ wanted_of most whys few_ends }
 {
-    Wanted { most, whys }
+    Wanted {
+        most,
+        whys,
+        few_ends,
+    }
 }
 
 /// How the judging of a driver ends, or the taking of its lines.

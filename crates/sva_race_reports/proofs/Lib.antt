@@ -1,5 +1,6 @@
 pub mod Rulings
 pub mod Verdicts
+pub mod Endings
 pub mod Moved
 pub mod Ended
 pub mod OwnSteps

@@ -13,9 +13,11 @@ ghost use Rattle.sva_race_reports.specs.Reports.{witness_with, witnesses_from};
 use crate::ends::put_ends;
 use crate::held::put_held_in;
 use crate::judging::{Judged, both, judge, witness_of, word_of};
-use crate::witnesses::{put_counted, put_witness};
+use crate::searching::Wanted;
+use crate::witnesses::put_witness;
 use std::alloc::{AllocError, Global};
 use sva_race::{Choice, Claim, Claiming, End, Race};
+use sva_race_ends::{put_counted, put_end_texts};
 use sva_race_lines::Asked;
 use sva_script_reading::put_number;
 use sva_search::Found;
@@ -248,24 +250,26 @@ fn put_witnesses(
     Ok(())
 }
 
-/// Appends the report of a race: how far the search came, what that says of each claim, and the witnesses, each with
-/// what holds its own steps back, and the lines that wait where it ends, if that is wanted.
+/// Appends the report of a race: how far the search came, what the ends come to, what that says of each claim, and the
+/// witnesses, each with what holds its own steps back, and the lines that wait where it ends, if that is wanted.
 pub(crate) fn put_report(
     alloc: Global,
     out: &mut Vec<u8>,
     race: &Race,
     threads: &[Vec<u8>],
-    whys: bool,
+    wanted: Wanted,
     asked: &[Asked],
     found: &Found<Choice, End>,
 ) -> Result<(), AllocError>
     ensures { OnOk result (out.new.items
-        ≡ out.old.items ++ report_text race.now threads.now whys asked.now found.now) }
+        ≡ out.old.items ++ report_text race.now threads.now wanted asked.now found.now) }
 {
+    let ends = found.ends.as_slice();
     put_reach(out, found, found.cut)?;
     out.extend_from_slice(b"\n")?;
+    put_end_texts(alloc, out, race, threads, wanted.few_ends, ends)?;
     put_claims(out, race.claims.as_slice(), asked, found)?;
-    put_witnesses(alloc, out, race, threads, whys, asked, found)
+    put_witnesses(alloc, out, race, threads, wanted.whys, asked, found)
 }
 
 /// What is said of all claims together.

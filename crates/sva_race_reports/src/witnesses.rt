@@ -2,32 +2,15 @@
 
 ghost use Rattle.std.specs.Prelude.{◌≡◌, ◌++◌, ◌<◌, IfOk, OnOk, Some, decimal, length, slice_get};
 ghost use Rattle.sva_race.specs.Moments.{start_of};
-ghost use Rattle.sva_race_reports.specs.Witnesses.{act_who, before_text, counted_text, front_text, heading, line_who};
+ghost use Rattle.sva_race_reports.specs.Witnesses.{act_who, before_text, front_text, heading, line_who};
 ghost use Rattle.sva_race_reports.specs.Witnesses.{move_text, moves_text, scenario_text, step_line_if, title, witness_text};
 
 use crate::steps::{put_config, put_step};
 use std::alloc::{AllocError, Global};
 use sva_race::{Act, Choice, Moment, Race};
+use sva_race_ends::put_counted;
 use sva_script_reading::put_number;
 use sva_step::Step;
-
-/// Appends a count, with the word for one or for more.
-pub(crate) fn put_counted(
-    out: &mut Vec<u8>,
-    count: usize,
-    one: &str,
-    more: &str,
-) -> Result<(), AllocError>
-    ensures { OnOk result (out.new.items ≡ out.old.items ++ counted_text count one.now more.now) }
-{
-    put_number(out, count as u64)?;
-    out.extend_from_slice(b" ")?;
-    out.extend_from_slice(if count == 1 {
-        one.as_bytes()
-    } else {
-        more.as_bytes()
-    })
-}
 
 /// Appends who they are of which there are several.
 fn put_numbered(out: &mut Vec<u8>, role: &str, at: u64) -> Result<(), AllocError>

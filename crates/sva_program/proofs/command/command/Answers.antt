@@ -25,7 +25,8 @@ returns c =
     let explaining_is = c.in_ok-explaining.ensures ∙ ap (with_bare (codes "why")) showing_is in
     let charting_is = c.in_ok-charting.ensures ∙ ap with_chart explaining_is in
     let exploring_is = c.in_ok-exploring.ensures
-    ∙ ap (λ (a : App). with_subcommand a (with_rule (with_rule (new_app (codes "explore")) most_rule) (flag_rule (codes "why"))).top) charting_is in
+    ∙ ap (λ (a : App). with_subcommand a
+    (with_rule (with_rule (with_rule (new_app (codes "explore")) most_rule) (flag_rule (codes "why"))) (flag_rule (codes "ends"))).top) charting_is in
     let judging_is = c.in_ok-judging.ensures
     ∙ ap (λ (a : App). with_subcommand a (with_rule (with_rule (new_app (codes "judge")) most_rule) (flag_rule (codes "run"))).top) exploring_is in
     IfOk-weaker c.with_trace.result _ _ (λ r added. added

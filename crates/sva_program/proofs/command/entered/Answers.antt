@@ -11,8 +11,9 @@ returns-in-Some-storm-default c =
 pub returns-in-Some-explore-default : goal.returns-in-Some-explore-default
 returns-in-Some-explore-default c readable =
     let stage = c.in-Some-explore-default in
-    entered_explore c.args.matches.now stage.field-0-0.now (rows_of (found_of stage.below.now)) c.most.result c.wants_ends.result stage.is-explore
-    stage.ensures.name stage.ensures.rows c.most.ensures c.wants_ends.ensures
+    entered_explore c.args.matches.now stage.field-0-0.now (rows_of (found_of stage.below.now)) c.most.result c.wants_whys.result
+    c.is_given-in-Some-explore-default.result stage.is-explore stage.ensures.name stage.ensures.rows c.most.ensures c.wants_whys.ensures
+    c.is_given-in-Some-explore-default.ensures
 
 pub returns-in-Some-trace-default : goal.returns-in-Some-trace-default
 returns-in-Some-trace-default c readable =

@@ -31,22 +31,22 @@ returns-in-Ok-clause-status g c other one =
     let ran = c.perform-ended in
     subst (λ status. status ≤ 2) (sym c.finish.ensures.status)
     (steps_status c.in-Ok.asked _ _ _ ran.result
-    (λ most whys is. other (most, whys, subst (λ a. Asks a (texts c.args.words.now)) is c.in-Ok.ensures.asked))
+    (λ most whys few_ends is. other (most, whys, few_ends, subst (λ a. Asks a (texts c.args.words.now)) is c.in-Ok.ensures.asked))
     (λ run most is. one (run, most, subst (λ a. Asks a (texts c.args.words.now)) is c.in-Ok.ensures.asked)) ran.ensures.report)
 
 pub returns-in-Ok-clause-explored : goal.returns-in-Ok-clause-explored
-returns-in-Ok-clause-explored g c (most, whys, asks) =
+returns-in-Ok-clause-explored g c (most, whys, few_ends, asks) =
     let ran = c.perform-ended in
-    let alone = one_alone (Explore most whys) c.in-Ok.asked (texts c.args.words.now) asks c.in-Ok.ensures.asked in
+    let alone = one_alone (Explore most whys few_ends) c.in-Ok.asked (texts c.args.words.now) asks c.in-Ok.ensures.asked in
     subst (λ status. (status ≡ 0) ⊎ (status ≡ 1) ⊎ (status ≡ 4) ⊎ (status ≡ 5)) (sym c.finish.ensures.status)
-    (exploring_status most whys _ _ _ ran.result
+    (exploring_status most whys few_ends _ _ _ ran.result
     (subst (λ a. Reports a (g.R.Read.remaining c.args.reader.now.inner) (g.W.Write.contents c.args.writer.now.inner)
     (g.W.Write.contents ran.new.writer.inner) ran.result) (sym alone) ran.ensures.report))
 
 pub returns-in-Err-clause-explored : goal.returns-in-Err-clause-explored
-returns-in-Err-clause-explored g c (most, whys, asks) =
+returns-in-Err-clause-explored g c (most, whys, few_ends, asks) =
     let fails : HasKind (faults_of (texts c.args.words.now)) c.in-Err.error = search rules in
-    let memory = c.answer.ensures.memory (c.kind.ensures ∙ only_memory _ c.in-Err.error (takes (Explore most whys) _ asks) fails) in
+    let memory = c.answer.ensures.memory (c.kind.ensures ∙ only_memory _ c.in-Err.error (takes (Explore most whys few_ends) _ asks) fails) in
     inr (inl memory.0)
 
 pub returns-in-Ok-clause-judged : goal.returns-in-Ok-clause-judged

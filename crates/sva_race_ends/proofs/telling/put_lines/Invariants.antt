@@ -1,0 +1,10 @@
+use Rattle.std.proofs.Common.{◌≡◌, ◌++◌, drop}
+use Rattle.sva_listing.specs.Pieces.{rows}
+use Rattle.sva_race_ends.specs.Kinds.{kind_line_if}
+use Rattle.sva_race_ends.proofs.telling.put_lines.Given as goal
+
+-- what was said and what is left make the whole
+abbrev pub invariant-loop-place : goal.invariant-loop-place
+invariant-loop-place l =
+    l.out.items ++ rows (kind_line_if l.is_short) l.place (drop l.place l.kinds)
+    ≡ l.initial.out.items ++ rows (kind_line_if l.is_short) 0 l.kinds

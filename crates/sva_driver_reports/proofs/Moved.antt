@@ -1,8 +1,9 @@
 -- The events of choices, one after another.
-use Rattle.std.proofs.Common.{◌≡◌, ◌∙◌, ◌<◌, ◌≤◌, ◌+◌, ap, append-nil, append_assoc, refl, sym, ℕ, List, [], ◌∷◌, ◌++◌, length, get_or, drop, Bool}
-use Rattle.std.proofs.Common.{Option, Some, None, true, false}
+use Rattle.std.proofs.Common.{◌≡◌, ◌∙◌, ◌<◌, ◌≤◌, ◌+◌, ap, append-nil, append_assoc, sym, ℕ, List, [], ◌∷◌, ◌++◌}
+use Rattle.std.proofs.Common.{length, get_or, drop, Bool, Some, None, true, false}
 use Rattle.std.proofs.lemmas.List.{drop_all, drop_more}
 use Rattle.sva_search.specs.Rules.{IsStep}
+use Rattle.sva_search.proofs.Steps.{none_refused, some_taken}
 use Rattle.sva_judge.specs.declared.choices.Choice.{Choice}
 use Rattle.sva_judge.specs.Choices.{next_in}
 use Rattle.sva_judge.specs.Spots.{Spot}
@@ -13,14 +14,6 @@ use Rattle.sva_driver_reports.specs.Witness.{EventSaid, event_of, events_from, l
 pub record Moved (text : Text) (said : List EventSaid) (now : Spot) (choices : List Choice) (all : List EventSaid) (last : Spot) : Type 0 where
   pub events : said ++ events_from text now choices ≡ all
   pub spot : last_spot text now choices ≡ last
-
-taken : {S : Type 0} (next : Option S) (done : Bool) (old new : S) → IsStep next done old new → done ≡ true → next ≡ Some new
-taken (Some state) done old new h goes = ap Some (sym h.1)
-taken None done old new h goes = absurd (cc (sym h.0 ∙ goes))
-
-stays : {S : Type 0} (next : Option S) (done : Bool) (old new : S) → IsStep next done old new → done ≡ false → (next ≡ None) × (new ≡ old)
-stays (Some state) done old new h stops = absurd (cc (sym h.0 ∙ stops))
-stays None done old new h stops = (refl, h.1)
 
 module _ (text : Text) (events : List EventSaid) (spot : Spot) (choices : List Choice) (place : ℕ) (blank : Choice) (all : List EventSaid) (last : Spot)
     (inside : place < length choices) (so_far : Moved text events spot (drop place choices) all last) where
@@ -53,7 +46,7 @@ module _ (text : Text) (events : List EventSaid) (spot : Spot) (choices : List C
       → (done : Bool) → IsStep (next_in text.driver spot (get_or choices place blank)) done spot new → done ≡ false → more ≡ events ++ event ∷ []
       → (more ≡ all) × (new ≡ last)
   halted event new more is done step stops says =
-      let stop = stays (next_in text.driver spot (get_or choices place blank)) done spot new step stops in (
+      let stop = none_refused (next_in text.driver spot (get_or choices place blank)) done spot new step stops in (
         says
             ∙ sym (ap (λ l. events ++ l) (events_are
             ∙ ap (λ it. with_event it (next_in text.driver spot (get_or choices place blank))
@@ -71,7 +64,7 @@ module _ (text : Text) (events : List EventSaid) (spot : Spot) (choices : List C
       → (done : Bool) → IsStep (next_in text.driver spot (get_or choices place blank)) done spot new → done ≡ true → more ≡ events ++ event ∷ []
       → Moved text more new (drop (place + 1) choices) all last
   moved event new more is done step goes says =
-      let led = taken (next_in text.driver spot (get_or choices place blank)) done spot new step goes in record {
+      let led = some_taken (next_in text.driver spot (get_or choices place blank)) done spot new step goes in record {
         events = ap (λ l. l ++ events_from text new (drop (place + 1) choices)) says
             ∙ append_assoc events (event ∷ []) (events_from text new (drop (place + 1) choices))
             ∙ sym (ap (λ l. events ++ l) (events_are

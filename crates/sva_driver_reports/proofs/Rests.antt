@@ -1,9 +1,9 @@
 -- Texts that are made of one piece for each of a list, at its place.
 use Rattle.std.proofs.Common.{◌≡◌, ◌∙◌, ◌<◌, ◌≤◌, ◌+◌, ap, append-nil, append_assoc, add-one, refl}
-use Rattle.std.proofs.Common.{sym, ℕ, zero, suc, List, [], ◌∷◌, ◌++◌, length, get_or, drop}
+use Rattle.std.proofs.Common.{sym, ℕ, suc, List, [], ◌∷◌, ◌++◌, length, get_or, drop}
 use Rattle.std.proofs.Common.{Option, Some, None, true, false}
 use Rattle.std.specs.Prelude.{if◌then◌else◌, replicate, slice_get}
-use Rattle.std.proofs.lemmas.List.{drop_all, drop_more}
+use Rattle.std.proofs.lemmas.List.{drop_all, drop_more, replicate_more}
 use Rattle.sva_open.specs.World.{Part}
 use Rattle.sva_open.specs.declared.rows.Row.{Row}
 use Rattle.sva_open.specs.declared.works.Group.{Group}
@@ -192,12 +192,8 @@ wider_none width events place past = ap (width_from width) (drop_all place event
 
 -- ---- Blanks
 
-one_more : {A : Type 0} (x : A) (n : ℕ) → replicate n x ++ x ∷ [] ≡ replicate (suc n) x
-one_more x zero = refl
-one_more x (suc n) = ap (λ l. x ∷ l) (one_more x n)
-
 pub blank_more : (first out new : List ℕ) (count : ℕ) → out ≡ first ++ replicate count 32 → new ≡ out ++ 32 ∷ []
     → new ≡ first ++ replicate (count + 1) 32
 blank_more first out new count so_far is =
     is ∙ ap (λ l. l ++ 32 ∷ []) so_far ∙ append_assoc first (replicate count 32) (32 ∷ [])
-    ∙ ap (λ l. first ++ l) (one_more 32 count ∙ sym (ap (λ n. replicate n 32) (add-one count)))
+    ∙ ap (λ l. first ++ l) (replicate_more count 32)

@@ -1,6 +1,7 @@
 -- A text of which a part is kept: what comes of it comes of the whole.
-use Rattle.std.proofs.Common.{◌≡◌, ◌∙◌, ◌<◌, ◌≤◌, ap, append-nil, arith, cond, refl, sym, subst, ℕ, List, []}
+use Rattle.std.proofs.Common.{◌≡◌, ◌∙◌, ◌<◌, ◌≤◌, ap, arith, cond, refl, sym, subst, ℕ, List, []}
 use Rattle.std.proofs.Common.{Bool, true, false, ◌||◌, ltb, length, take, Option, Some, None, IfSome, Result, Ok, Err}
+use Rattle.std.proofs.KnownBytes.{Appends-nil}
 use Rattle.std.proofs.lemmas.Bool.{lt-ltb, ltb-false, ltb-true}
 use Rattle.std.proofs.lemmas.List.{length-take, take_all}
 use Rattle.std.specs.Io.KnownBytes.{Appends}
@@ -51,10 +52,6 @@ front_run text said out h = record {
 
 -- ---- It was written, a part of it, or nothing
 
-appends_nothing : (old : Option (List ℕ)) → Appends old old []
-appends_nothing None = tt
-appends_nothing (Some xs) = sym (append-nil xs)
-
 pub whole_judged : (text : List ℕ) (most : ℕ) (old new : Option (List ℕ)) (out : List ℕ) (said : Option Ruling) → IsTextJudged text most said out
     → Appends old new out → Judges text most old new (Ok said)
 whole_judged text most old new out said tells whole = (out, tells, whole)
@@ -65,9 +62,9 @@ part_judged text most old new out said fault tells is part =
     subst (λ f. Judges text most old new (Err f)) (sym is) (out, said, tells, (part.0, part.1, part.2, part.3))
 
 nothing_judged : (text : List ℕ) (most : ℕ) (old : Option (List ℕ)) (fault : DriveFault) → (fault ≡ Write → ⊥) → Judges text most old old (Err fault)
-nothing_judged text most old Read other = ([], [], refl, appends_nothing old)
+nothing_judged text most old Read other = ([], [], refl, Appends-nil old)
 nothing_judged text most old Write other = absurd (other refl)
-nothing_judged text most old Memory other = ([], [], refl, appends_nothing old)
+nothing_judged text most old Memory other = ([], [], refl, Appends-nil old)
 
 pub none_judged : (text : List ℕ) (most : ℕ) (old new : Option (List ℕ)) (fault : DriveFault) → (fault ≡ Write → ⊥) → new ≡ old
     → Judges text most old new (Err fault)
@@ -102,9 +99,9 @@ part_run text old new out said fault tells is part =
     subst (λ f. Runs text old new (Err f)) (sym is) (out, said, tells, (part.0, part.1, part.2, part.3))
 
 nothing_run : (text : List ℕ) (old : Option (List ℕ)) (fault : DriveFault) → (fault ≡ Write → ⊥) → Runs text old old (Err fault)
-nothing_run text old Read other = ([], [], refl, appends_nothing old)
+nothing_run text old Read other = ([], [], refl, Appends-nil old)
 nothing_run text old Write other = absurd (other refl)
-nothing_run text old Memory other = ([], [], refl, appends_nothing old)
+nothing_run text old Memory other = ([], [], refl, Appends-nil old)
 
 pub none_run : (text : List ℕ) (old new : Option (List ℕ)) (fault : DriveFault) → (fault ≡ Write → ⊥) → new ≡ old
     → Runs text old new (Err fault)

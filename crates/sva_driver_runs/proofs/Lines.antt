@@ -1,23 +1,16 @@
 -- The lines of a driver, one after another.
-use Rattle.std.proofs.Common.{◌≡◌, ◌∙◌, ◌<◌, ◌≤◌, ◌+◌, ap, arith, refl, sym, ℕ, List, [], ◌∷◌, length, get_or, drop, Bool, Option, Some, None, true, false}
+use Rattle.std.proofs.Common.{◌≡◌, ◌∙◌, ◌<◌, ◌≤◌, ◌+◌, ap, arith, sym, ℕ, List, [], ◌∷◌, length, get_or, drop, Bool, Some, None, true, false}
 use Rattle.std.proofs.lemmas.List.{drop_all, drop_more}
 use Rattle.sva_open_wrongs.specs.Wrongs.{first_wrong}
 use Rattle.sva_open_wrongs.specs.declared.wrongs.Wrong.{Wrong}
 use Rattle.sva_search.specs.Rules.{IsStep}
+use Rattle.sva_search.proofs.Steps.{none_refused, some_taken}
 use Rattle.sva_judge.specs.declared.drivers.Line.{Line}
 use Rattle.sva_judge.specs.Choices.{next_in}
 use Rattle.sva_judge.specs.Spots.{Spot}
 use Rattle.sva_driver_texts.specs.Texts.{line_choice}
 use Rattle.sva_driver_texts.specs.declared.kept.Read.{Read}
 use Rattle.sva_driver_runs.specs.Judged.{Ran, ran_by, ran_from, ran_to, refused_run, safe_run, unsafe_run}
-
-taken : (next : Option Spot) (done : Bool) (old new : Spot) → IsStep next done old new → done ≡ true → next ≡ Some new
-taken (Some state) done old new h goes = ap Some (sym h.1)
-taken None done old new h goes = absurd (cc (sym h.0 ∙ goes))
-
-stays : (next : Option Spot) (done : Bool) (old new : Spot) → IsStep next done old new → done ≡ false → next ≡ None
-stays (Some state) done old new h stops = absurd (cc (sym h.0 ∙ stops))
-stays None done old new h stops = refl
 
 module _ (read : Read) (lines : List Line) (place : ℕ) (blank : Line) (done : Bool) (old new : Spot) (whole : Ran)
     (inside : place < length lines) (so_far : ran_from read place old (drop place lines) ≡ whole) where
@@ -31,13 +24,13 @@ module _ (read : Read) (lines : List Line) (place : ℕ) (blank : Line) (done : 
       → refused_run read place ≡ whole
   ran_stop step stops =
       sym (ap (λ o. ran_by read place (get_or lines place blank).number o (λ next. ran_from read (place + 1) next (drop (place + 1) lines)))
-      (stays (next_in read.opening old (line_choice place)) done old new step stops)) ∙ opened
+      (none_refused (next_in read.opening old (line_choice place)) done old new step stops).0) ∙ opened
 
   took : IsStep (next_in read.opening old (line_choice place)) done old new → done ≡ true
       → ran_to (get_or lines place blank).number (first_wrong new.world) (ran_from read (place + 1) new (drop (place + 1) lines)) ≡ whole
   took step goes =
       sym (ap (λ o. ran_by read place (get_or lines place blank).number o (λ next. ran_from read (place + 1) next (drop (place + 1) lines)))
-      (taken (next_in read.opening old (line_choice place)) done old new step goes)) ∙ opened
+      (some_taken (next_in read.opening old (line_choice place)) done old new step goes)) ∙ opened
 
   -- something is wrong behind it
   pub ran_wrong : (found : Wrong) → IsStep (next_in read.opening old (line_choice place)) done old new → done ≡ true → first_wrong new.world ≡ Some found

@@ -4,6 +4,7 @@ use Rattle.std.specs.Prelude.{Result, Ok, Err}
 use Rattle.sva_judge.specs.Spots.{Spot}
 use Rattle.sva_judge.specs.Verdicts.{IsJudged}
 use Rattle.sva_judge.specs.declared.verdicts.Verdict.{Verdict}
+use Rattle.sva_driver_texts.proofs.Stands.{nothing_said}
 use Rattle.sva_driver_texts.specs.Texts.{DriverRead, ReadsDriver, ReadsText, StandsAt, StandsBy, driver_of}
 use Rattle.sva_driver_texts.specs.declared.kept.Read.{Read}
 use Rattle.sva_driver_texts.specs.declared.kept.Text.{Text}
@@ -23,10 +24,6 @@ by_race kept false text out h = absurd h
 pub silent_driver : (read : Result DriverRead (List ℕ)) (text : Text) (out : List ℕ) → ReadsDriver read (Some text) out → out ≡ []
 silent_driver (Err said) text out h = absurd h
 silent_driver (Ok read) text out h = by_race h.0 h.0.is_race text out h.2
-
-pub silent_text : (read : Result DriverRead (List ℕ)) (kept : Read) (out : List ℕ) → ReadsText read (Some kept) out → out ≡ []
-silent_text (Ok read) kept out h = h.1
-silent_text (Err said) kept out h = absurd h
 
 pub told_by : (text : Text) (most : ℕ) (verdict : Verdict) (old new : List ℕ) (said : Ruling) → IsJudged text.driver most verdict → old ≡ []
     → new ≡ old ++ report_text text verdict → said ≡ ruling_of verdict → IsToldBy text most said new
@@ -53,5 +50,5 @@ read_run text read mid out said h is says = record {
   read = Some read;
   wrongs = mid;
   reads = h;
-  ran = (is, says ∙ ap (λ l. l ++ (ran_of read).text) (silent_text (driver_of text) read mid h));
+  ran = (is, says ∙ ap (λ l. l ++ (ran_of read).text) (nothing_said (driver_of text) read mid h));
 }

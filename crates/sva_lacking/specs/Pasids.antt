@@ -20,7 +20,8 @@ advance_text wire binding = bracket (is_accepted wire (step.Advance binding)) (c
 abbrev pub bearer_line : Wire → BindingWire → List ℕ
 bearer_line wire binding =
     start Second (codes "space ") binding.space ++ field (codes " bears pasid ") binding.pasid ++ field (codes " by binding ") binding.binding
-    ++ field (codes " at endpoint ") binding.endpoint ++ codes ":" ++ stage_text binding.stage ++ unbind_text wire binding.binding ++ advance_text wire binding.binding ++ line_end
+    ++ field (codes " at endpoint ") binding.endpoint ++ codes ":" ++ stage_text binding.stage ++ unbind_text wire binding.binding
+    ++ advance_text wire binding.binding ++ line_end
 
 abbrev pub all_borne_line : List ℕ
 all_borne_line = indent First ++ codes "other spaces bear all 32 pasids" ++ line_end

@@ -1,17 +1,16 @@
 -- The test of a moment says what is meant.
-use Rattle.std.proofs.Common.{◌≡◌, ℕ, Bool, true, false, not, Option, Some, None, List, [], ◌∷◌, length, refl, ap, sym, subst, ◌∙◌, arith}
-use Rattle.std.proofs.lemmas.Bool.Decides.{nat_tests}
+use Rattle.std.proofs.Common.{◌≡◌, ℕ, Bool, true, false, not, Option, Some, None, List, refl, ap, sym, subst, ◌∙◌}
+use Rattle.std.proofs.lemmas.Bool.{and_from, and_parts, eq-eqb, eqb-true, not-false, not-true}
 use Rattle.std.proofs.lemmas.List.Elements.{Contains-get_or}
 use Rattle.std.proofs.lemmas.List.Folds.{Any-from_list_any, list_any-from_Any}
 use Rattle.std.proofs.lemmas.List.Sums.{AllPass-from_list_all, list_all-from_AllPass}
 use Rattle.std.specs.Prelude.{◌↔◌, ◌==◌, ◌&&◌, ◌||◌, Contains, slice_get, slice_index_or, IfSome}
-use Rattle.std.specs.List.{list_all, list_any}
+use Rattle.std.specs.List.{list_all}
 use Rattle.sva_open.specs.declared.frames.Tenure.{Tenure}
 use Rattle.sva_open.specs.declared.frames.Target.{Target}
 use Rattle.sva_open.specs.declared.frames.Translation.{Translation}
 use Rattle.sva_open.specs.declared.rows.Entry.{Entry}
 use Rattle.sva_open.specs.declared.rows.Row.{Row}
-use Rattle.sva_open.specs.declared.rows.KeptEntry.{KeptEntry}
 use Rattle.sva_open.specs.declared.messages.Message.{Message}
 use Rattle.sva_open.specs.declared.messages.Message.TheVariants as message
 use Rattle.sva_open.specs.declared.messages.Sent.{Sent}
@@ -31,14 +30,6 @@ use Rattle.sva_open.specs.Checks.{may_be_held}
 
 -- ---- tests
 
-both : (a b : Bool) → a && b ≡ true → (a ≡ true) × (b ≡ true)
-both true b h = (refl, h)
-both false b h = absurd (cc)
-
-and : (a b : Bool) → a ≡ true → b ≡ true → a && b ≡ true
-and true b h k = k
-and false b h k = absurd (cc)
-
 other : (a b : Bool) → a || b ≡ true → a ≡ false → b ≡ true
 other true b h k = absurd (cc)
 other false b h k = h
@@ -47,23 +38,13 @@ or_by : (a b : Bool) → (a ≡ false → b ≡ true) → a || b ≡ true
 or_by true b h = refl
 or_by false b h = h refl
 
-untrue : (a : Bool) → not a ≡ false → a ≡ true
-untrue true h = refl
-untrue false h = absurd (cc)
-
-not_true : (a : Bool) → not a ≡ true → a ≡ true → ⊥
+pub not_true : (a : Bool) → not a ≡ true → a ≡ true → ⊥
 not_true true h k = absurd (cc)
 not_true false h k = absurd (cc)
 
-not_by : (a : Bool) → (a ≡ true → ⊥) → not a ≡ true
+pub not_by : (a : Bool) → (a ≡ true → ⊥) → not a ≡ true
 not_by true h = absurd (h refl)
 not_by false h = refl
-
-equal : (x y : ℕ) → x == y ≡ true → x ≡ y
-equal x y h = grind (arith, nat_tests)
-
-equals : (x y : ℕ) → x ≡ y → x == y ≡ true
-equals x y h = grind (arith, nat_tests)
 
 -- ---- lists
 
@@ -76,11 +57,11 @@ all_of p xs each = list_all-from_AllPass p xs (λ k d low. each (slice_index_or 
 freed_has : (freed : List ℕ) (space : ℕ) → is_freed freed space ≡ true → Contains freed space
 freed_has freed space h =
     let any = Any-from_list_any (λ one. one == space) freed h in
-    let same : any.1 ≡ space = equal any.1 space any.4 in
+    let same : any.1 ≡ space = eqb-true any.1 space any.4 in
     subst (λ one. Contains freed one) same (any.0, any.2, any.3)
 
 has_freed : (freed : List ℕ) (space : ℕ) → Contains freed space → is_freed freed space ≡ true
-has_freed freed space has = list_any-from_Any (λ one. one == space) freed (has.0, space, has.1, has.2, equals space space refl)
+has_freed freed space has = list_any-from_Any (λ one. one == space) freed (has.0, space, has.1, has.2, eq-eqb space space refl)
 
 not_freed : (freed : List ℕ) (space : ℕ) → not (is_freed freed space) ≡ true → Contains freed space → ⊥
 not_freed freed space h has = not_true (is_freed freed space) h (has_freed freed space has)
@@ -94,12 +75,12 @@ current_at : (frames : List Tenure) (target : Target) (found : Option Tenure) �
     → is_current_at target found ≡ true → IsCurrent frames target
 current_at frames target None is h = absurd (cc)
 current_at frames target (Some now) is h =
-    let each = both _ _ h in
+    let each = and_parts _ _ h in
     record {
       now = now;
       found = is;
-      given = equal _ _ each.0;
-      frozen = λ write. equal _ _ (other _ _ each.1 (ap not write));
+      given = eqb-true _ _ each.0;
+      frozen = λ write. eqb-true _ _ (other _ _ each.1 (ap not write));
     }
 
 current : (frames : List Tenure) (target : Target) → is_current frames target ≡ true → IsCurrent frames target
@@ -108,23 +89,23 @@ current frames target h = current_at frames target (slice_get frames target.fram
 is_current_by : (frames : List Tenure) (target : Target) → IsCurrent frames target → is_current frames target ≡ true
 is_current_by frames target c =
     ap (is_current_at target) c.found
-    ∙ and _ _ (equals _ _ c.given) (or_by (not target.write) _ (λ k. equals _ _ (c.frozen (untrue target.write k))))
+    ∙ and_from _ _ (eq-eqb _ _ c.given) (or_by (not target.write) _ (λ k. eq-eqb _ _ (c.frozen (not-false target.write k))))
 
 present_at : (part : Part) (pasid owner : ℕ) (found : Option Row) → slice_get part.rows pasid ≡ found → is_owner owner found ≡ true
     → IsPresent part pasid owner
 present_at part pasid owner None is h = absurd (cc)
-present_at part pasid owner (Some row) is h = record { row = row; found = is; same = equal owner row.owner h }
+present_at part pasid owner (Some row) is h = record { row = row; found = is; same = eqb-true owner row.owner h }
 
 present : (part : Part) (pasid owner : ℕ) → is_present part pasid owner ≡ true → IsPresent part pasid owner
 present part pasid owner h = present_at part pasid owner (slice_get part.rows pasid) refl h
 
 is_present_by : (part : Part) (pasid owner : ℕ) → IsPresent part pasid owner → is_present part pasid owner ≡ true
-is_present_by part pasid owner p = ap (is_owner owner) p.found ∙ equals owner p.row.owner p.same
+is_present_by part pasid owner p = ap (is_owner owner) p.found ∙ eq-eqb owner p.row.owner p.same
 
 good : (frames : List Tenure) (part : Part) (translation : Translation) → is_good frames part translation ≡ true
     → IsGood frames part translation
 good frames part translation h =
-    let each = both _ _ h in
+    let each = and_parts _ _ h in
     record {
       frame = current frames translation.target each.0;
       owner = present part translation.pasid translation.owner each.1;
@@ -133,7 +114,7 @@ good frames part translation h =
 is_good_by : (frames : List Tenure) (part : Part) (translation : Translation) → IsGood frames part translation
     → is_good frames part translation ≡ true
 is_good_by frames part translation g =
-    and _ _ (is_current_by frames translation.target g.frame) (is_present_by part translation.pasid translation.owner g.owner)
+    and_from _ _ (is_current_by frames translation.target g.frame) (is_present_by part translation.pasid translation.owner g.owner)
 
 -- ---- the endpoint
 
@@ -162,8 +143,8 @@ may_be_held_by frames (Some target) h = is_current_by frames target h
 its_own : (frames : List Tenure) (part : Part) (one : Sent) (target : Option Target) (request : Request)
     → is_its_own frames part one target (Some (Some request)) ≡ true → IsItsOwn frames part one target request
 its_own frames part one target request h =
-    let each = both _ _ h in
-    record { time = equal _ _ each.0; frame = λ k. held frames target (other request.is_doomed _ each.1 k) }
+    let each = and_parts _ _ h in
+    record { time = eqb-true _ _ each.0; frame = λ k. held frames target (other request.is_doomed _ each.1 k) }
 
 is_its_own_by : (frames : List Tenure) (part : Part) (one : Sent) (target : Option Target) (found : Option (Option Request))
     → ((request : Request) → found ≡ Some (Some request) → IsItsOwn frames part one target request)
@@ -171,7 +152,7 @@ is_its_own_by : (frames : List Tenure) (part : Part) (one : Sent) (target : Opti
 is_its_own_by frames part one target None s = refl
 is_its_own_by frames part one target (Some None) s = refl
 is_its_own_by frames part one target (Some (Some request)) s =
-    and _ _ (equals _ _ (s request refl).time) (or_by request.is_doomed _ (λ k. may_be_held_by frames target ((s request refl).frame k)))
+    and_from _ _ (eq-eqb _ _ (s request refl).time) (or_by request.is_doomed _ (λ k. may_be_held_by frames target ((s request refl).frame k)))
 
 ends_at : (part : Part) (one : Sent) (index : ℕ) (found : Option (Option Group)) → slice_get part.groups index ≡ found
     → one.time ≡ part.time → is_finished_at found ≡ true → EndsItsGroup part one index
@@ -187,9 +168,9 @@ right frames part one (message.Completion tag target) h =
     λ request is. its_own frames part one target request (sym (ap (is_its_own frames part one target) is) ∙ h)
 right frames part one (message.Invalidate itag scope) h = tt
 right frames part one (message.Response index fails filed) h =
-    let each = both filed _ h in
-    let parts = both _ _ each.1 in
-    (each.0, ends_at part one index (slice_get part.groups index) refl (equal _ _ parts.0) parts.1)
+    let each = and_parts filed _ h in
+    let parts = and_parts _ _ each.1 in
+    (each.0, ends_at part one index (slice_get part.groups index) refl (eqb-true _ _ parts.0) parts.1)
 right frames part one (message.Request tag pasid page) h = tt
 right frames part one (message.Invalidated itag) h = tt
 right frames part one (message.PageRequest request) h = λ k. present part request.pasid one.owner (other (not part.is_open) _ h (ap not k))
@@ -204,13 +185,13 @@ is_right_by frames part one message.Reset r = refl
 is_right_by frames part one (message.Completion tag target) r = is_its_own_by frames part one target (slice_get part.requests tag) r
 is_right_by frames part one (message.Invalidate itag scope) r = refl
 is_right_by frames part one (message.Response index fails filed) r =
-    and filed _ r.0 (and _ _ (equals _ _ r.1.time) (ap is_finished_at r.1.found ∙ r.1.finished))
+    and_from filed _ r.0 (and_from _ _ (eq-eqb _ _ r.1.time) (ap is_finished_at r.1.found ∙ r.1.finished))
 is_right_by frames part one (message.Request tag pasid page) r = refl
 is_right_by frames part one (message.Invalidated itag) r = refl
 is_right_by frames part one (message.PageRequest request) r =
-    or_by (not part.is_open) _ (λ k. is_present_by part request.pasid one.owner (r (untrue part.is_open k)))
+    or_by (not part.is_open) _ (λ k. is_present_by part request.pasid one.owner (r (not-false part.is_open k)))
 is_right_by frames part one (message.Marker pasid) r =
-    or_by (not part.is_open) _ (λ k. is_present_by part pasid one.owner (r (untrue part.is_open k)))
+    or_by (not part.is_open) _ (λ k. is_present_by part pasid one.owner (r (not-false part.is_open k)))
 is_right_by frames part one (message.Status pasid) r = is_present_by part pasid one.owner r
 is_right_by frames part one message.ResetDone r = refl
 
@@ -225,20 +206,16 @@ joined : (part : Part) → joins_own_group part.filed (slice_get part.arrived 0)
 joined part h one filed is has unfinished pasid index =
     let test : list_all (joins_own one) part.filed ≡ true = sym (ap (joins_own_group part.filed) is) ∙ h in
     let joins : is_joined one.request filed ≡ true =
-    and _ _ (ap not unfinished) (and _ _ (equals _ _ pasid) (equals _ _ index)) in
-    equal _ _ (other _ _ (each_of (joins_own one) part.filed test filed has) (ap not joins))
+    and_from _ _ (ap not unfinished) (and_from _ _ (eq-eqb _ _ pasid) (eq-eqb _ _ index)) in
+    eqb-true _ _ (other _ _ (each_of (joins_own one) part.filed test filed has) (ap not joins))
 
 joins_own_by : (part : Part) → JoinsOwn part → (one : Arrived) → slice_get part.arrived 0 ≡ Some one → (filed : Filed)
     → Contains part.filed filed → joins_own one filed ≡ true
 joins_own_by part s one is filed has =
     or_by (not (is_joined one.request filed)) _ (λ k.
-    let joins = both (not filed.is_whole) (is_group one.request.pasid one.request.index filed) (untrue _ k) in
-    let same = both _ _ joins.1 in
-    equals _ _ (s one filed is has (not_is filed.is_whole joins.0) (equal _ _ same.0) (equal _ _ same.1)))
-  where
-    not_is : (a : Bool) → not a ≡ true → a ≡ false
-    not_is true h = absurd (cc)
-    not_is false h = refl
+    let joins = and_parts (not filed.is_whole) (is_group one.request.pasid one.request.index filed) (not-false _ k) in
+    let same = and_parts _ _ joins.1 in
+    eq-eqb _ _ (s one filed is has (not-true filed.is_whole joins.0) (eqb-true _ _ same.0) (eqb-true _ _ same.1)))
 
 joins_by : (part : Part) → JoinsOwn part → (first : Option Arrived) → slice_get part.arrived 0 ≡ first
     → joins_own_group part.filed first ≡ true
@@ -250,48 +227,48 @@ joins_by part s (Some one) is = all_of (joins_own one) part.filed (λ filed has.
 entry_owned : (freed : List ℕ) (row : Row) (entry : Entry) → is_entry_owned freed row row.entry ≡ true → row.entry ≡ Some entry
     → (entry.owner ≡ row.owner) × (Contains freed entry.space → ⊥)
 entry_owned freed row entry h is =
-    let each = both _ _ (sym (ap (is_entry_owned freed row) is) ∙ h) in
-    (equal _ _ each.0, not_freed freed entry.space each.1)
+    let each = and_parts _ _ (sym (ap (is_entry_owned freed row) is) ∙ h) in
+    (eqb-true _ _ each.0, not_freed freed entry.space each.1)
 
 entry_owned_by : (freed : List ℕ) (row : Row) (found : Option Entry)
     → ((entry : Entry) → found ≡ Some entry → (entry.owner ≡ row.owner) × (Contains freed entry.space → ⊥))
     → is_entry_owned freed row found ≡ true
 entry_owned_by freed row None s = refl
-entry_owned_by freed row (Some entry) s = and _ _ (equals _ _ (s entry refl).0) (freed_not freed entry.space (s entry refl).1)
+entry_owned_by freed row (Some entry) s = and_from _ _ (eq-eqb _ _ (s entry refl).0) (freed_not freed entry.space (s entry refl).1)
 
 answer_owned_by : (row : Row) (found : Option ℕ) → ((owner : ℕ) → found ≡ Some owner → owner ≡ row.owner)
     → is_answer_owned row found ≡ true
 answer_owned_by row None s = refl
-answer_owned_by row (Some owner) s = equals owner row.owner (s owner refl)
+answer_owned_by row (Some owner) s = eq-eqb owner row.owner (s owner refl)
 
 owned : (freed : List ℕ) (row : Row) → is_owned freed row ≡ true → IsOwned freed row
 owned freed row h =
-    let each = both (is_entry_owned freed row row.entry) (is_answer_owned row row.answer && (is_off row.state || (row.user == row.owner))) h in
-    let rest = both (is_answer_owned row row.answer) (is_off row.state || (row.user == row.owner)) each.1 in
+    let each = and_parts (is_entry_owned freed row row.entry) (is_answer_owned row row.answer && (is_off row.state || (row.user == row.owner))) h in
+    let rest = and_parts (is_answer_owned row row.answer) (is_off row.state || (row.user == row.owner)) each.1 in
     record {
       entry = λ entry is. (entry_owned freed row entry each.0 is).0;
       walked = λ entry is. (entry_owned freed row entry each.0 is).1;
-      answer = λ owner is. equal owner row.owner (sym (ap (is_answer_owned row) is) ∙ rest.0);
-      user = λ k. equal row.user row.owner (other (is_off row.state) _ rest.1 k);
+      answer = λ owner is. eqb-true owner row.owner (sym (ap (is_answer_owned row) is) ∙ rest.0);
+      user = λ k. eqb-true row.user row.owner (other (is_off row.state) _ rest.1 k);
     }
 
 is_owned_by : (freed : List ℕ) (row : Row) → IsOwned freed row → is_owned freed row ≡ true
 is_owned_by freed row s =
-    and _ _ (entry_owned_by freed row row.entry (λ entry is. (s.entry entry is, s.walked entry is)))
-    (and _ _ (answer_owned_by row row.answer s.answer) (or_by (is_off row.state) _ (λ k. equals _ _ (s.user k))))
+    and_from _ _ (entry_owned_by freed row row.entry (λ entry is. (s.entry entry is, s.walked entry is)))
+    (and_from _ _ (answer_owned_by row row.answer s.answer) (or_by (is_off row.state) _ (λ k. eq-eqb _ _ (s.user k))))
 
 -- ---- the whole
 
 safe_part : (frames : List Tenure) (freed : List ℕ) (part : Part) → is_safe_part frames freed part ≡ true → IsSafePart frames freed part
 safe_part frames freed part h =
-    let top = both (is_safe_device frames part) _ h in
-    let next = both (is_safe_unit freed part) _ top.1 in
-    let last = both (list_all (is_right_sent frames part) part.flight) (list_all (is_owned freed) part.rows) next.1 in
-    let device = both (list_all (is_good frames part) part.held) _ top.0 in
-    let works = both (list_all (is_good_work frames part) part.works) (list_all (is_good_request part) part.requests) device.1 in
-    let unit = both (list_all (is_good_arrived part) part.arrived) _ next.0 in
-    let queue = both (joins_own_group part.filed (slice_get part.arrived 0)) _ unit.1 in
-    let kept = both (list_all (is_good_kept part) part.kept) (list_all (is_good_entry freed part) part.kept_entries) queue.1 in
+    let top = and_parts (is_safe_device frames part) _ h in
+    let next = and_parts (is_safe_unit freed part) _ top.1 in
+    let last = and_parts (list_all (is_right_sent frames part) part.flight) (list_all (is_owned freed) part.rows) next.1 in
+    let device = and_parts (list_all (is_good frames part) part.held) _ top.0 in
+    let works = and_parts (list_all (is_good_work frames part) part.works) (list_all (is_good_request part) part.requests) device.1 in
+    let unit = and_parts (list_all (is_good_arrived part) part.arrived) _ next.0 in
+    let queue = and_parts (joins_own_group part.filed (slice_get part.arrived 0)) _ unit.1 in
+    let kept = and_parts (list_all (is_good_kept part) part.kept) (list_all (is_good_entry freed part) part.kept_entries) queue.1 in
     record {
       held = λ translation has. good frames part translation (each_of (is_good frames part) part.held device.0 translation has);
       in_use = λ translation has. good frames part translation (each_of (is_good_work frames part) part.works works.0 (Use translation) has);
@@ -303,27 +280,27 @@ safe_part frames freed part h =
       rows = λ row has. owned freed row (each_of (is_owned freed) part.rows last.1 row has);
       kept = λ translation has. present part translation.pasid translation.owner (each_of (is_good_kept part) part.kept kept.0 translation has);
       kept_entries = λ one has. present part one.pasid one.entry.owner
-          (both _ _ (each_of (is_good_entry freed part) part.kept_entries kept.1 one has)).0;
-      walked = λ one has. not_freed freed one.entry.space (both _ _ (each_of (is_good_entry freed part) part.kept_entries kept.1 one has)).1;
+          (and_parts _ _ (each_of (is_good_entry freed part) part.kept_entries kept.1 one has)).0;
+      walked = λ one has. not_freed freed one.entry.space (and_parts _ _ (each_of (is_good_entry freed part) part.kept_entries kept.1 one has)).1;
     }
 
 is_safe_part_by : (frames : List Tenure) (freed : List ℕ) (part : Part) → IsSafePart frames freed part → is_safe_part frames freed part ≡ true
 is_safe_part_by frames freed part s =
-    and (is_safe_device frames part) _
-    (and (list_all (is_good frames part) part.held) _
+    and_from (is_safe_device frames part) _
+    (and_from (list_all (is_good frames part) part.held) _
     (all_of (is_good frames part) part.held (λ translation has. is_good_by frames part translation (s.held translation has)))
-    (and (list_all (is_good_work frames part) part.works) _
+    (and_from (list_all (is_good_work frames part) part.works) _
     (all_of (is_good_work frames part) part.works (λ work has. good_work frames part s.in_use work has))
     (all_of (is_good_request part) part.requests (λ request has. good_request part s.asked request has))))
-    (and (is_safe_unit freed part) _
-    (and (list_all (is_good_arrived part) part.arrived) _
+    (and_from (is_safe_unit freed part) _
+    (and_from (list_all (is_good_arrived part) part.arrived) _
     (all_of (is_good_arrived part) part.arrived (λ one has. is_present_by part one.request.pasid one.owner (s.arrived one has)))
-    (and (joins_own_group part.filed (slice_get part.arrived 0)) _ (joins_by part s.joined (slice_get part.arrived 0) refl)
-    (and (list_all (is_good_kept part) part.kept) _
+    (and_from (joins_own_group part.filed (slice_get part.arrived 0)) _ (joins_by part s.joined (slice_get part.arrived 0) refl)
+    (and_from (list_all (is_good_kept part) part.kept) _
     (all_of (is_good_kept part) part.kept (λ one has. is_present_by part one.pasid one.owner (s.kept one has)))
     (all_of (is_good_entry freed part) part.kept_entries (λ one has.
-    and _ _ (is_present_by part one.pasid one.entry.owner (s.kept_entries one has)) (freed_not freed one.entry.space (s.walked one has)))))))
-    (and (list_all (is_right_sent frames part) part.flight) _
+    and_from _ _ (is_present_by part one.pasid one.entry.owner (s.kept_entries one has)) (freed_not freed one.entry.space (s.walked one has)))))))
+    (and_from (list_all (is_right_sent frames part) part.flight) _
     (all_of (is_right_sent frames part) part.flight (λ one has. is_right_by frames part one one.message (s.flight one has)))
     (all_of (is_owned freed) part.rows (λ row has. is_owned_by freed row (s.rows row has)))))
 

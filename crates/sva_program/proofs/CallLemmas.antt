@@ -5,7 +5,8 @@ use Rattle.clap.proofs.OnLiterals.{clap_on_literals}
 use Rattle.clap.specs.declared.error.kind.ErrorKind.{ErrorKind}
 use Rattle.clap.specs.declared.error.kind.ErrorKind.TheVariants.{DisplayHelp, DisplayVersion, MissingSubcommand}
 use Rattle.sva_program.specs.Command.{AsksText, faults_of, CallsHelp, CallsVersion, IsMistaken, svahost, texts}
-use Rattle.sva_program.specs.Command.{behind_chart, behind_check, behind_explore, behind_judge, behind_plain, behind_replay, behind_show, behind_storm, behind_test}
+use Rattle.sva_program.specs.Command.{behind_chart, behind_check, behind_explore, behind_judge, behind_plain, behind_replay}
+use Rattle.sva_program.specs.Command.{behind_show, behind_storm, behind_test}
 use Rattle.sva_program.specs.Command.{behind_trace, behind_why}
 use Rattle.sva_program.specs.Command.{by_long, by_long_version, by_short, by_short_version}
 use Rattle.sva_program.proofs.LineLemmas.{no_words}

@@ -147,7 +147,8 @@ most_read found r none some = go (most_text (rows_of found)) refl
     go (Some text) e = read_within text r (some text (one_text-rows found (codes "most") ∙ e))
 
 -- where `explore` was entered, the words ask for a race to be explored
-pub entered_explore : (m : ArgMatches) (name : Text) (rows : List Row) (most : ℕ) (whys few_ends : Bool) → name ≡ codes "explore" → Some name ≡ subcommand_name_of m
+pub entered_explore : (m : ArgMatches) (name : Text) (rows : List Row) (most : ℕ) (whys few_ends : Bool) → name ≡ codes "explore"
+    → Some name ≡ subcommand_name_of m
     → Some rows ≡ option_map (λ p. p.1) (subcommand_rows (out-ArgMatches m).subcommand)
     → most ≡ most_by (most_text rows) → whys ≡ is_given (codes "why") rows → few_ends ≡ is_given (codes "ends") rows
     → Explore most whys few_ends ≡ asked_by (subcommand_rows_of m)

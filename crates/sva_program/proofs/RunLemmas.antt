@@ -122,7 +122,8 @@ run_status found ended is = subst (λ e. status_of e ≤ 2) (sym is) (go found)
 
 -- of a command on steps
 pub steps_status : (asked : Asked) (input old new : Option (List ℕ)) (ended : Result Ending DriveFault)
-    → ((most : ℕ) (whys few_ends : Bool) → asked ≡ Explore most whys few_ends → ⊥) → ((run : Bool) (most : ℕ) → asked ≡ Judge run most → ⊥) → Reports asked input old new ended → status_of ended ≤ 2
+    → ((most : ℕ) (whys few_ends : Bool) → asked ≡ Explore most whys few_ends → ⊥) → ((run : Bool) (most : ℕ) → asked ≡ Judge run most → ⊥)
+    → Reports asked input old new ended → status_of ended ≤ 2
 steps_status Replay input old new ended other one h = run_status h.0 ended h.1
 steps_status Check input old new ended other one h = run_status h.0 ended h.1
 steps_status (Storm turns) input old new ended other one h = run_status h.0 ended h.1

@@ -95,8 +95,10 @@ tells_explore : (name : Text) (rest : List Text) (most : ℕ) (whys few_ends : B
     → whys ≡ is_given (codes "why") (rows_after explore_shape.rules [] rest) → few_ends ≡ is_given (codes "ends") (rows_after explore_shape.rules [] rest)
     → Tells (Explore most whys few_ends) (name ∷ explore ∷ rest)
 tells_explore name rest most whys few_ends is are short =
-    let enters = enters_explore name rest in
-    (ap asked_by enters ∙ (λ i. Explore (sym is i) (sym are i) (sym short i)), subst IsReadable (sym enters) (λ is_storm. absurd (is_other explore refl is_storm)))
+    let enters = enters_explore name rest in (
+      ap asked_by enters ∙ (λ i. Explore (sym is i) (sym are i) (sym short i)),
+      subst IsReadable (sym enters) (λ is_storm. absurd (is_other explore refl is_storm)),
+    )
 
 tells_judge : (name : Text) (rest : List Text) (run : Bool) (most : ℕ) → run ≡ is_given (codes "run") (rows_after judge_shape.rules [] rest)
     → most ≡ most_by (most_text (rows_after judge_shape.rules [] rest)) → Tells (Judge run most) (name ∷ judge ∷ rest)
@@ -110,7 +112,8 @@ tells_trace name rest live whys is are =
     let enters = enters_trace name rest in
     (ap asked_by enters ∙ (λ i. Trace (sym is i) (sym are i)), subst IsReadable (sym enters) (λ is_storm. absurd (is_other trace refl is_storm)))
 
-tells_chart : (name : Text) (rest : List Text) (svg : Bool) → svg ≡ is_given (codes "svg") (rows_after chart_shape.rules [] rest) → Tells (Chart svg) (name ∷ chart ∷ rest)
+tells_chart : (name : Text) (rest : List Text) (svg : Bool) → svg ≡ is_given (codes "svg") (rows_after chart_shape.rules [] rest)
+    → Tells (Chart svg) (name ∷ chart ∷ rest)
 tells_chart name rest svg is =
     let enters = enters_chart name rest in
     (ap asked_by enters ∙ ap Chart (sym is), subst IsReadable (sym enters) (λ is_storm. absurd (is_other chart refl is_storm)))

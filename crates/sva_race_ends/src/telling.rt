@@ -44,39 +44,39 @@ fn put_kind(out: &mut Vec<u8>, place: usize, text: &[u8], times: u64) -> Result<
 /// Appends that line, unless the list is to be short and has enough.
 fn put_kind_if(
     out: &mut Vec<u8>,
-    is_short: bool,
+    few_ends: bool,
     place: usize,
     text: &[u8],
     times: u64,
 ) -> Result<(), AllocError>
     requires { place + 1 < 2 ^ 64 }
-    ensures { OnOk result (out.new.items ≡ out.old.items ++ kind_line_if is_short place (text.now, times)) }
+    ensures { OnOk result (out.new.items ≡ out.old.items ++ kind_line_if few_ends place (text.now, times)) }
 {
-    if is_short && place >= MOST_TOLD {
+    if few_ends && place >= MOST_TOLD {
         return Ok(());
     }
     put_kind(out, place, text, times)
 }
 
 /// Appends the line of the text of a place.
-fn put_at(out: &mut Vec<u8>, is_short: bool, kinds: &Kinds, place: usize) -> Result<(), AllocError>
+fn put_at(out: &mut Vec<u8>, few_ends: bool, kinds: &Kinds, place: usize) -> Result<(), AllocError>
     requires within { place < length kinds.now }
     requires number { place + 1 < 2 ^ 64 }
     ensures { OnOk result (out.new.items
-        ≡ out.old.items ++ kind_line_if is_short place (get_or kinds.now place ([], 0))) }
+        ≡ out.old.items ++ kind_line_if few_ends place (get_or kinds.now place ([], 0))) }
 {
     match kinds.at(place) {
-        Some((text, times)) => put_kind_if(out, is_short, place, text, times),
+        Some((text, times)) => put_kind_if(out, few_ends, place, text, times),
         None => Ok(()),
     }
 }
 
 /// Appends the lines of texts.
-fn put_lines(out: &mut Vec<u8>, is_short: bool, kinds: &Kinds) -> Result<(), AllocError>
-    ensures { OnOk result (out.new.items ≡ out.old.items ++ rows (kind_line_if is_short) 0 kinds.now) }
+fn put_lines(out: &mut Vec<u8>, few_ends: bool, kinds: &Kinds) -> Result<(), AllocError>
+    ensures { OnOk result (out.new.items ≡ out.old.items ++ rows (kind_line_if few_ends) 0 kinds.now) }
 {
     for place in 0..kinds.len() {
-        put_at(out, is_short, kinds, place)?;
+        put_at(out, few_ends, kinds, place)?;
     }
     Ok(())
 }
@@ -91,10 +91,10 @@ fn put_left_out(out: &mut Vec<u8>, count: usize) -> Result<(), AllocError>
 }
 
 /// Appends that, if any are.
-fn put_left_out_if(out: &mut Vec<u8>, is_short: bool, kinds: usize) -> Result<(), AllocError>
-    ensures { OnOk result (out.new.items ≡ out.old.items ++ left_out_if is_short kinds) }
+fn put_left_out_if(out: &mut Vec<u8>, few_ends: bool, kinds: usize) -> Result<(), AllocError>
+    ensures { OnOk result (out.new.items ≡ out.old.items ++ left_out_if few_ends kinds) }
 {
-    if is_short && kinds > MOST_TOLD {
+    if few_ends && kinds > MOST_TOLD {
         put_left_out(out, kinds - MOST_TOLD)
     } else {
         Ok(())
@@ -111,12 +111,12 @@ pub fn put_end_texts(
     out: &mut Vec<u8>,
     race: &Race,
     threads: &[Vec<u8>],
-    is_short: bool,
+    few_ends: bool,
     ends: &[Told<Choice, End>],
 ) -> Result<(), AllocError>
-    ensures { OnOk result (out.new.items ≡ out.old.items ++ end_texts race.now threads.now is_short ends.now) }
+    ensures { OnOk result (out.new.items ≡ out.old.items ++ end_texts race.now threads.now few_ends ends.now) }
 {
     let kinds = kinds_of(alloc, race, threads, ends)?;
-    put_lines(out, is_short, &kinds)?;
-    put_left_out_if(out, is_short, kinds.len())
+    put_lines(out, few_ends, &kinds)?;
+    put_left_out_if(out, few_ends, kinds.len())
 }

@@ -331,7 +331,8 @@ follows_end known running line lines word words read out text said at none right
           let line_there : slice_index_or (front ++ rest) (length front) [] ≡ counts =
           ap (λ l. slice_index_or (front ++ l) (length front) []) rest_is ∙ line_at_place front counts [] in
           tested_read running line lines count word words read None said at none
-          ∙ judged_so (front ++ rest) line.0 (length front) count running.seen None counts others (λ more. test_from more true (behind_line running) lines) read.expected
+          ∙ judged_so (front ++ rest) line.0 (length front) count running.seen None counts others
+          (λ more. test_from more true (behind_line running) lines) read.expected
           place line_there (left.tested front)
           ∙ (λ i. judged_by (front ++ lines_of (sym answers_are i)) count
           (sym (expected (length front) running line lines word words read None said at none) i));

@@ -30,7 +30,8 @@ place_next (first ∷ front) line = let more = place_next front line in omega (a
 -- ---- A line's expectation
 
 -- what a line expects is judged by the line of the report at its place
-pub judged_so : (report : List (List ℕ)) (line place count : ℕ) (seen : Wire) (step : Option Plain) (answer : List ℕ) (others : List Expectation) (rest : ℕ → Said)
+pub judged_so : (report : List (List ℕ)) (line place count : ℕ) (seen : Wire) (step : Option Plain) (answer : List ℕ) (others : List Expectation)
+    (rest : ℕ → Said)
     (expected : Option (List ℕ))
     → slice_get report place ≡ Some answer → slice_index_or report place [] ≡ answer → ((more : ℕ) → rest more ≡ judged_by report more others)
     → compared count line (told_step step) answer (held_at seen step) rest expected

@@ -107,7 +107,8 @@ some_line now words running run is open_yet =
 -- its row was appended
 pub row_told : (now seen : Tracer) (running after : Running) (words : List (List ℕ)) (text expected old new : List ℕ) (taken : Taken) → seen ≡ now
     → now.tracing.run ≡ Some running → now.tracing.has_ended ≡ false
-    → Takes running now.lines (parts_of words) after text expected (Ok (Some taken)) → new ≡ old ++ step_text now.style now.lines text after.seen (row_seen taken)
+    → Takes running now.lines (parts_of words) after text expected (Ok (Some taken)) → new ≡ old
+    ++ step_text now.style now.lines text after.seen (row_seen taken)
     → Traces now (trace_words now.style now.tracing now.lines words now.tracing.run)
     (record {
       style = seen.style;

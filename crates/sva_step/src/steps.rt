@@ -90,7 +90,8 @@ pub enum Step {
     /// Moves a binding to its next stage.
     ///
     /// In a scenario `advance B`. Refused by the first of these that holds: NoSuchBinding, Resetting, NotYet,
-    /// QueueFull, NumbersSpent. A Quiet binding is refused by none of the last four.
+    /// QueueFull, NumbersSpent. A Quiet binding is refused by none of the last four. A Live or a Lost one is always
+    /// refused: Resetting in reset, else NotYet.
     Advance {
         /// The number of an unreleased binding, below 2^63.
         binding: u64,
@@ -105,7 +106,8 @@ pub enum Step {
     },
     /// Files the head of an endpoint's page request queue under its binding (Intel VT-d, "Page Request Queue").
     ///
-    /// In a scenario `serve E`. Refused by the first of these that holds: NoSuchEndpoint, Resetting, OutOfMemory.
+    /// In a scenario `serve E`. Refused by the first of these that holds: NoSuchEndpoint, Resetting, OutOfMemory. The
+    /// last doesn't apply where the queue is empty.
     Serve {
         /// The number of the endpoint, below the config's count (at most 8).
         endpoint: u64,

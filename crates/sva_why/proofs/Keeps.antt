@@ -1,5 +1,6 @@
 -- What stays at an endpoint whose page requests are disabled.
-use Rattle.std.proofs.Common.{◌≡◌, ◌≢◌, ◌⊎◌, ◌∙◌, inl, inr, ap, arith, refl, subst, sym, ℕ, zero, suc, ◌<◌, true, false, Bool, List, [], ◌∷◌, Option, Some, None, length, map}
+use Rattle.std.proofs.Common.{◌≡◌, ◌≢◌, ◌⊎◌, ◌∙◌, inl, inr, ap, arith, refl, subst, sym, ℕ, zero, suc, ◌<◌, true, false, Bool}
+use Rattle.std.proofs.Common.{List, [], ◌∷◌, Option, Some, None, length, map}
 use Rattle.std.proofs.lemmas.Option.{same_Some, slice_get-map, slice_get_within}
 use Rattle.std.specs.Prelude.{◌==◌, ◌||◌, option_map, slice_get, slice_index_or, slice_set, if◌then◌else◌}
 use Rattle.sva_lemmas.proofs.Words.{ℕ_cases}
@@ -172,10 +173,13 @@ answered_stays wire endpoint index group at message own code stuck other =
 pub stays : StaysByMoves
 stays wire Move.NewSpace endpoint index group stuck other = in_same wire endpoint index group stuck (moved wire Move.NewSpace) refl
 stays wire (Move.DropSpace space) endpoint index group stuck other = in_same wire endpoint index group stuck (moved wire (Move.DropSpace space)) refl
-stays wire (Move.Map space page frame write) endpoint index group stuck other = in_same wire endpoint index group stuck (moved wire (Move.Map space page frame write)) refl
+stays wire (Move.Map space page frame write) endpoint index group stuck other =
+    in_same wire endpoint index group stuck (moved wire (Move.Map space page frame write)) refl
 stays wire Move.NewBinding endpoint index group stuck other = in_same wire endpoint index group stuck (moved wire Move.NewBinding) refl
-stays wire (Move.Bind at space binding pasid) endpoint index group stuck other = in_same wire endpoint index group stuck (moved wire (Move.Bind at space binding pasid)) refl
-stays wire (Move.Stop at binding pasid) endpoint index group stuck other = in_same wire endpoint index group stuck (moved wire (Move.Stop at binding pasid)) refl
+stays wire (Move.Bind at space binding pasid) endpoint index group stuck other =
+    in_same wire endpoint index group stuck (moved wire (Move.Bind at space binding pasid)) refl
+stays wire (Move.Stop at binding pasid) endpoint index group stuck other =
+    in_same wire endpoint index group stuck (moved wire (Move.Stop at binding pasid)) refl
 stays wire (Move.Quieten binding) endpoint index group stuck other = in_same wire endpoint index group stuck (moved wire (Move.Quieten binding)) refl
 stays wire (Move.Release binding) endpoint index group stuck other = in_same wire endpoint index group stuck (moved wire (Move.Release binding)) refl
 stays wire (Move.NewJob job) endpoint index group stuck other = in_same wire endpoint index group stuck (moved wire (Move.NewJob job)) refl
@@ -183,28 +187,45 @@ stays wire Move.Hand endpoint index group stuck other = in_same wire endpoint in
 stays wire (Move.Hold worker job) endpoint index group stuck other = in_same wire endpoint index group stuck (moved wire (Move.Hold worker job)) refl
 stays wire (Move.LetGo worker) endpoint index group stuck other = in_same wire endpoint index group stuck (moved wire (Move.LetGo worker)) refl
 stays wire Move.Discard endpoint index group stuck other = in_same wire endpoint index group stuck (moved wire Move.Discard) refl
-stays wire (Move.Complete at message answer) endpoint index group stuck other = in_same wire endpoint index group stuck (moved wire (Move.Complete at message answer)) refl
-stays wire (Move.Mark at message binding) endpoint index group stuck other = in_same wire endpoint index group stuck (moved wire (Move.Mark at message binding)) refl
+stays wire (Move.Complete at message answer) endpoint index group stuck other =
+    in_same wire endpoint index group stuck (moved wire (Move.Complete at message answer)) refl
+stays wire (Move.Mark at message binding) endpoint index group stuck other =
+    in_same wire endpoint index group stuck (moved wire (Move.Mark at message binding)) refl
 stays wire (Move.Ignore message) endpoint index group stuck other = in_same wire endpoint index group stuck (moved wire (Move.Ignore message)) refl
 stays wire (Move.Unmap space page count order) endpoint index group stuck other = unmapped_stays wire endpoint index group space page count order stuck
-stays wire (Move.Drain at binding) endpoint index group stuck other = in_unit wire endpoint index group stuck (moved wire (Move.Drain at binding)) at _ refl refl
-stays wire (Move.Invalidate at binding pasid) endpoint index group stuck other = in_unit wire endpoint index group stuck (moved wire (Move.Invalidate at binding pasid)) at _ refl refl
-stays wire (Move.Send at itag pasid extent) endpoint index group stuck other = in_unit wire endpoint index group stuck (moved wire (Move.Send at itag pasid extent)) at _ refl refl
+stays wire (Move.Drain at binding) endpoint index group stuck other =
+    in_unit wire endpoint index group stuck (moved wire (Move.Drain at binding)) at _ refl refl
+stays wire (Move.Invalidate at binding pasid) endpoint index group stuck other =
+    in_unit wire endpoint index group stuck (moved wire (Move.Invalidate at binding pasid)) at _ refl refl
+stays wire (Move.Send at itag pasid extent) endpoint index group stuck other =
+    in_unit wire endpoint index group stuck (moved wire (Move.Send at itag pasid extent)) at _ refl refl
 stays wire (Move.Pass at cookie) endpoint index group stuck other = in_unit wire endpoint index group stuck (moved wire (Move.Pass at cookie)) at _ refl refl
-stays wire (Move.File at binding request) endpoint index group stuck other = in_unit wire endpoint index group stuck (moved wire (Move.File at binding request)) at _ refl refl
+stays wire (Move.File at binding request) endpoint index group stuck other =
+    in_unit wire endpoint index group stuck (moved wire (Move.File at binding request)) at _ refl refl
 stays wire (Move.Reset at) endpoint index group stuck other = in_unit wire endpoint index group stuck (moved wire (Move.Reset at)) at _ refl refl
-stays wire (Move.Respond job pasid code) endpoint index group stuck other = in_unit wire endpoint index group stuck (moved wire (Move.Respond job pasid code)) job.endpoint _ refl refl
-stays wire (Move.Count at message vector count) endpoint index group stuck other = in_unit wire endpoint index group stuck (moved wire (Move.Count at message vector count)) at _ refl refl
-stays wire (Move.Arrive at message request) endpoint index group stuck other = in_unit wire endpoint index group stuck (moved wire (Move.Arrive at message request)) at _ refl refl
-stays wire (Move.Reopen at message) endpoint index group stuck other = in_unit wire endpoint index group stuck (moved wire (Move.Reopen at message)) at _ refl refl
-stays wire (Move.Ask at pasid page tag) endpoint index group stuck other = in_device wire endpoint index group stuck (moved wire (Move.Ask at pasid page tag)) at _ refl refl refl
-stays wire (Move.Begin at slot translation) endpoint index group stuck other = in_device wire endpoint index group stuck (moved wire (Move.Begin at slot translation)) at _ refl refl refl
+stays wire (Move.Respond job pasid code) endpoint index group stuck other =
+    in_unit wire endpoint index group stuck (moved wire (Move.Respond job pasid code)) job.endpoint _ refl refl
+stays wire (Move.Count at message vector count) endpoint index group stuck other =
+    in_unit wire endpoint index group stuck (moved wire (Move.Count at message vector count)) at _ refl refl
+stays wire (Move.Arrive at message request) endpoint index group stuck other =
+    in_unit wire endpoint index group stuck (moved wire (Move.Arrive at message request)) at _ refl refl
+stays wire (Move.Reopen at message) endpoint index group stuck other =
+    in_unit wire endpoint index group stuck (moved wire (Move.Reopen at message)) at _ refl refl
+stays wire (Move.Ask at pasid page tag) endpoint index group stuck other =
+    in_device wire endpoint index group stuck (moved wire (Move.Ask at pasid page tag)) at _ refl refl refl
+stays wire (Move.Begin at slot translation) endpoint index group stuck other =
+    in_device wire endpoint index group stuck (moved wire (Move.Begin at slot translation)) at _ refl refl refl
 stays wire (Move.End at slot) endpoint index group stuck other = in_device wire endpoint index group stuck (moved wire (Move.End at slot)) at _ refl refl refl
-stays wire (Move.Evict at pasid page) endpoint index group stuck other = in_device wire endpoint index group stuck (moved wire (Move.Evict at pasid page)) at _ refl refl refl
-stays wire (Move.Finish at vector count) endpoint index group stuck other = in_device wire endpoint index group stuck (moved wire (Move.Finish at vector count)) at _ refl refl refl
-stays wire (Move.Keep at message tag translation) endpoint index group stuck other = in_device wire endpoint index group stuck (moved wire (Move.Keep at message tag translation)) at _ refl refl refl
-stays wire (Move.Forget at message tag) endpoint index group stuck other = in_device wire endpoint index group stuck (moved wire (Move.Forget at message tag)) at _ refl refl refl
-stays wire (Move.Take at message itag pasid extent) endpoint index group stuck other = in_device wire endpoint index group stuck (moved wire (Move.Take at message itag pasid extent)) at _ refl refl refl
+stays wire (Move.Evict at pasid page) endpoint index group stuck other =
+    in_device wire endpoint index group stuck (moved wire (Move.Evict at pasid page)) at _ refl refl refl
+stays wire (Move.Finish at vector count) endpoint index group stuck other =
+    in_device wire endpoint index group stuck (moved wire (Move.Finish at vector count)) at _ refl refl refl
+stays wire (Move.Keep at message tag translation) endpoint index group stuck other =
+    in_device wire endpoint index group stuck (moved wire (Move.Keep at message tag translation)) at _ refl refl refl
+stays wire (Move.Forget at message tag) endpoint index group stuck other =
+    in_device wire endpoint index group stuck (moved wire (Move.Forget at message tag)) at _ refl refl refl
+stays wire (Move.Take at message itag pasid extent) endpoint index group stuck other =
+    in_device wire endpoint index group stuck (moved wire (Move.Take at message itag pasid extent)) at _ refl refl refl
 stays wire (Move.StartArrives at message pasid) endpoint index group stuck other =
     in_device wire endpoint index group stuck (moved wire (Move.StartArrives at message pasid)) at (with_pasid pasid On (device_of wire at)) refl
     (pasid_groups pasid On (device_of wire at)) (pasid_disabled pasid On (device_of wire at))
@@ -218,4 +239,5 @@ stays wire (Move.ResetArrives at message) endpoint index group stuck other =
 stays wire (Move.Group at pasid own page read write last) endpoint index group stuck other =
     in_world wire endpoint index group stuck (moved wire (Move.Group at pasid own page read write last)) at _ refl (λ own_endpoint. absurd (other own_endpoint))
 stays wire (Move.Request at pasid own page read write last) endpoint index group stuck other =
-    in_world wire endpoint index group stuck (moved wire (Move.Request at pasid own page read write last)) at _ refl (λ own_endpoint. absurd (other own_endpoint))
+    in_world wire endpoint index group stuck (moved wire (Move.Request at pasid own page read write last)) at _ refl
+    (λ own_endpoint. absurd (other own_endpoint))

@@ -7,7 +7,8 @@ use Rattle.sva_step.specs.declared.steps.Verdict.{Verdict}
 use Rattle.sva_model.specs.Labels.{is_set, names_none}
 use Rattle.sva_model.specs.State.{PasidState}
 use Rattle.sva_model.specs.State.PasidState.{Off, Ending}
-use Rattle.sva_model.specs.Wire.{AskWire, BindingWire, EndpointWire, FlightWire, GroupWire, HostGroupWire, JobWire, PageWire, RequestWire, StageWire, TakenWire, UseWire, Wire}
+use Rattle.sva_model.specs.Wire.{AskWire, BindingWire, EndpointWire, FlightWire, GroupWire, HostGroupWire, JobWire, PageWire}
+use Rattle.sva_model.specs.Wire.{RequestWire, StageWire, TakenWire, UseWire, Wire}
 use Rattle.sva_model.specs.Wire.StageWire.{DrainingWire, InvalidatingWire, LiveWire, LostWire, StoppingWire}
 use Rattle.sva_labels.specs.Finding.{binding_of, flight_of, has_room, has_unfinished_group, held_by, holds_back, is_mapped, is_request_of, is_use_of}
 use Rattle.sva_labels.specs.Finding.{is_wait_done, page_at, pages_in, pasid_state, submits}

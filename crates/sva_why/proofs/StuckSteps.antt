@@ -1,5 +1,6 @@
 -- What stays at an endpoint whose page requests are disabled, whatever step is taken.
-use Rattle.std.proofs.Common.{◌≡◌, ◌≢◌, ◌⊎◌, ◌∙◌, inl, inr, ap, arith, refl, subst, sym, ℕ, zero, suc, true, false, Bool, List, [], ◌∷◌, ◌++◌, Option, Some, None}
+use Rattle.std.proofs.Common.{◌≡◌, ◌≢◌, ◌⊎◌, ◌∙◌, inl, inr, ap, arith, refl, subst, sym, ℕ, zero, suc, true, false, Bool, List}
+use Rattle.std.proofs.Common.{[], ◌∷◌, ◌++◌, Option, Some, None}
 use Rattle.std.proofs.lemmas.Bool.Decides.{nat_tests}
 use Rattle.std.proofs.lemmas.Option.{same_Some}
 use Rattle.std.specs.Prelude.{◌==◌, ◌&&◌, if◌then◌else◌, slice_get}
@@ -13,7 +14,8 @@ use Rattle.sva_model.specs.Message.Message.{StartMessage, StopMessage, ResetMess
 use Rattle.sva_model.specs.Message.Message.{InvalidatedMessage, PageRequestMessage, MarkerMessage, ResetDoneMessage}
 use Rattle.sva_model.specs.Refusals.{Cause}
 use Rattle.sva_model.specs.States.{Extent}
-use Rattle.sva_model.specs.Wire.{AskWire, BindingWire, Descriptor, DeviceWire, EndpointWire, FlightWire, GroupWire, JobWire, PageRequestWire, RequestWire, StageWire}
+use Rattle.sva_model.specs.Wire.{AskWire, BindingWire, Descriptor, DeviceWire, EndpointWire, FlightWire, GroupWire, JobWire}
+use Rattle.sva_model.specs.Wire.{PageRequestWire, RequestWire, StageWire}
 use Rattle.sva_model.specs.Wire.{TranslationWire, UnitWire, Wire}
 use Rattle.sva_model.specs.Wire.Descriptor.{RangeDescriptor, PasidDescriptor, WaitDescriptor}
 use Rattle.sva_model.specs.Wire.StageWire.{LiveWire, StoppingWire, DrainingWire, InvalidatingWire, QuietWire, LostWire}
@@ -235,7 +237,8 @@ step_stays wire step.Space endpoint index group stuck other = by_moves wire step
 step_stays wire (step.DropSpace space) endpoint index group stuck other = by_moves wire (step.DropSpace space) endpoint index group stuck (tt, tt)
 step_stays wire (step.Map space page write) endpoint index group stuck other = by_moves wire (step.Map space page write) endpoint index group stuck (tt, tt)
 step_stays wire (step.Unmap space page count) endpoint index group stuck other = by_moves wire (step.Unmap space page count) endpoint index group stuck (tt, tt)
-step_stays wire (step.UnmapRange space page order) endpoint index group stuck other = by_moves wire (step.UnmapRange space page order) endpoint index group stuck (tt, tt)
+step_stays wire (step.UnmapRange space page order) endpoint index group stuck other =
+    by_moves wire (step.UnmapRange space page order) endpoint index group stuck (tt, tt)
 step_stays wire (step.Bind at space) endpoint index group stuck other = by_moves wire (step.Bind at space) endpoint index group stuck (tt, (tt, tt))
 step_stays wire (step.Unbind number) endpoint index group stuck other =
     by_moves wire (step.Unbind number) endpoint index group stuck
@@ -245,19 +248,25 @@ step_stays wire (step.Advance number) endpoint index group stuck other =
     by_moves wire (step.Advance number) endpoint index group stuck
     (binding_others endpoint index (λ binding. outcomes.advance_by binding binding.stage) (binding_of wire number)
     (λ binding. advance_others endpoint index binding binding.stage))
-step_stays wire (step.Pump at) endpoint index group stuck other = by_moves wire (step.Pump at) endpoint index group stuck (pump_others endpoint index (part_of wire at) at (unit_of wire at).queue)
-step_stays wire (step.Serve at) endpoint index group stuck other = by_moves wire (step.Serve at) endpoint index group stuck (serve_others endpoint index wire (part_of wire at) at (part_of wire at).page_queue)
+step_stays wire (step.Pump at) endpoint index group stuck other =
+    by_moves wire (step.Pump at) endpoint index group stuck (pump_others endpoint index (part_of wire at) at (unit_of wire at).queue)
+step_stays wire (step.Serve at) endpoint index group stuck other =
+    by_moves wire (step.Serve at) endpoint index group stuck (serve_others endpoint index wire (part_of wire at) at (part_of wire at).page_queue)
 step_stays wire (step.Reset at) endpoint index group stuck other = by_moves wire (step.Reset at) endpoint index group stuck (tt, tt)
-step_stays wire (step.Take worker) endpoint index group stuck other = by_moves wire (step.Take worker) endpoint index group stuck (take_others endpoint index worker wire.jobs)
-step_stays wire (step.Reply worker verdict) endpoint index group stuck other = by_moves wire (step.Reply worker verdict) endpoint index group stuck (held_others endpoint index wire worker verdict (held_by wire worker))
+step_stays wire (step.Take worker) endpoint index group stuck other =
+    by_moves wire (step.Take worker) endpoint index group stuck (take_others endpoint index worker wire.jobs)
+step_stays wire (step.Reply worker verdict) endpoint index group stuck other =
+    by_moves wire (step.Reply worker verdict) endpoint index group stuck (held_others endpoint index wire worker verdict (held_by wire worker))
 step_stays wire (step.Ask at pasid page) endpoint index group stuck other = by_moves wire (step.Ask at pasid page) endpoint index group stuck (tt, tt)
-step_stays wire (step.BeginUse at pasid page write) endpoint index group stuck other = by_moves wire (step.BeginUse at pasid page write) endpoint index group stuck (begin_others endpoint index at _ (cached (device_of wire at) pasid page))
+step_stays wire (step.BeginUse at pasid page write) endpoint index group stuck other = by_moves wire
+    (step.BeginUse at pasid page write) endpoint index group stuck (begin_others endpoint index at _ (cached (device_of wire at) pasid page))
 step_stays wire (step.EndUse at slot) endpoint index group stuck other = by_moves wire (step.EndUse at slot) endpoint index group stuck (tt, tt)
 step_stays wire (step.Evict at pasid page) endpoint index group stuck other = by_moves wire (step.Evict at pasid page) endpoint index group stuck (tt, tt)
 step_stays wire (step.Fault at pasid page read write own last) endpoint index group stuck other =
     fault_stays wire endpoint index group at pasid page read write last own stuck (ℕ_cases at endpoint)
 step_stays wire (step.Finish at vector count) endpoint index group stuck other = by_moves wire (step.Finish at vector count) endpoint index group stuck (tt, tt)
 step_stays wire (step.Quit at pasid) endpoint index group stuck other = by_moves wire (step.Quit at pasid) endpoint index group stuck (tt, tt)
-step_stays wire (step.Deliver number) endpoint index group stuck other = by_moves wire (step.Deliver number) endpoint index group stuck (flight_others endpoint index wire (flight_of wire number) other)
+step_stays wire (step.Deliver number) endpoint index group stuck other =
+    by_moves wire (step.Deliver number) endpoint index group stuck (flight_others endpoint index wire (flight_of wire number) other)
 step_stays wire (step.Look frame) endpoint index group stuck other = by_moves wire (step.Look frame) endpoint index group stuck tt
 step_stays wire (step.Bearer pasid) endpoint index group stuck other = by_moves wire (step.Bearer pasid) endpoint index group stuck tt

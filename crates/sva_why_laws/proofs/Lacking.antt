@@ -7,7 +7,8 @@ use Rattle.sva_step.specs.declared.refusals.Refusal.TheVariants as refusal
 use Rattle.sva_step.specs.declared.steps.Step.{Step}
 use Rattle.sva_step.specs.declared.steps.Step.TheVariants as step
 use Rattle.sva_step.specs.declared.steps.Verdict.{Verdict}
-use Rattle.sva_model.specs.Wire.{BindingWire, EndpointWire, GroupWire, JobWire, PageWire, PlaceWire, RequestWire, SpaceWire, TargetWire, TranslationWire, UseWire}
+use Rattle.sva_model.specs.Wire.{BindingWire, EndpointWire, GroupWire, JobWire, PageWire, PlaceWire, RequestWire, SpaceWire}
+use Rattle.sva_model.specs.Wire.{TargetWire, TranslationWire, UseWire}
 use Rattle.sva_model.specs.Wire.{Wire}
 use Rattle.sva_model.specs.Wire.PlaceWire.{FreeWire, MappedWire, WithheldWire}
 use Rattle.sva_model.specs.Wire.UseWire.{RunningWire, DeadWire}

@@ -17,11 +17,13 @@ returns-clause-read g c is = absurd (ends_not_by_reading c.args.writer.now c.wri
 
 pub returns-clause-write : goal.returns-clause-write
 returns-clause-write g c is =
-    ends_by_writing _ c.args.writer.now c.write_chart.new.writer c.write_chart.result c.in_ok-text.ensures.end.0 c.requires.writer.1 c.write_chart.ensures.told is
+    ends_by_writing _ c.args.writer.now c.write_chart.new.writer c.write_chart.result c.in_ok-text.ensures.end.0 c.requires.writer.1
+    c.write_chart.ensures.told is
 
 pub returns-clause-memory : goal.returns-clause-memory
 returns-clause-memory g c is =
-    ends_for_memory _ c.args.writer.now c.write_chart.new.writer c.write_chart.result c.in_ok-text.ensures.end.0 c.requires.writer.1 c.write_chart.ensures.told is
+    ends_for_memory _ c.args.writer.now c.write_chart.new.writer c.write_chart.result c.in_ok-text.ensures.end.0 c.requires.writer.1
+    c.write_chart.ensures.told is
 
 pub returns-in_err-text-clause-charted : goal.returns-in_err-text-clause-charted
 returns-in_err-text-clause-charted g c =

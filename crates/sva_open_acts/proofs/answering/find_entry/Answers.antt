@@ -7,4 +7,5 @@ use Rattle.sva_open_acts.proofs.answering.find_entry.Goals as goal
 pub returns : goal.returns
 returns c =
     c.copied.ensures
-    ∙ find_from_yields_List (is_entry_of c.args.pasid) _ _ c.find.result c.find.ensures.ran (YieldsList-from_slice c.args.list.now cc) (λ x b q k. search (rules, tests))
+    ∙ find_from_yields_List (is_entry_of c.args.pasid) _ _ c.find.result c.find.ensures.ran (YieldsList-from_slice c.args.list.now cc)
+    (λ x b q k. search (rules, tests))

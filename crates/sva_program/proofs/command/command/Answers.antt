@@ -30,4 +30,5 @@ returns c =
     let judging_is = c.in_ok-judging.ensures
     ∙ ap (λ (a : App). with_subcommand a (with_rule (with_rule (new_app (codes "judge")) most_rule) (flag_rule (codes "run"))).top) exploring_is in
     IfOk-weaker c.with_trace.result _ _ (λ r added. added
-    ∙ ap (λ (a : App). with_subcommand a (with_rule (with_rule (new_app (codes "trace")) (flag_rule (codes "live"))) (flag_rule (codes "why"))).top) judging_is) c.with_trace.ensures
+    ∙ ap (λ (a : App). with_subcommand a (with_rule (with_rule (new_app (codes "trace")) (flag_rule (codes "live"))) (flag_rule (codes "why"))).top)
+    judging_is) c.with_trace.ensures

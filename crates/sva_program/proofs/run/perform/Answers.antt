@@ -79,8 +79,12 @@ returns-in-Plain-clause-report g c =
     let input = g.R.Read.remaining c.args.reader.now.inner in
     let old = g.W.Write.contents c.args.writer.now.inner in
     let new = g.W.Write.contents found.new.writer.inner in
-    subst (λ a. Reports a input old new c.ran-in-Plain.result) (sym c.in-Plain.is)
-    (found.result, c.ran-in-Plain.ensures, (printed plain_of input old new found.result found.ensures.printed (λ read. ap (λ told. g.W.Write.contents told.inner) (found.ensures.read read).0)))
+    subst (λ a. Reports a input old new c.ran-in-Plain.result) (sym c.in-Plain.is) (
+      found.result,
+      c.ran-in-Plain.ensures,
+      (printed plain_of input old new found.result found.ensures.printed
+          (λ read. ap (λ told. g.W.Write.contents told.inner) (found.ensures.read read).0)),
+    )
 
 pub returns-in-Plain-clause-cause : goal.returns-in-Plain-clause-cause
 returns-in-Plain-clause-cause g c =
@@ -95,8 +99,12 @@ returns-in-Test-clause-report g c =
     let input = g.R.Read.remaining c.args.reader.now.inner in
     let old = g.W.Write.contents c.args.writer.now.inner in
     let new = g.W.Write.contents found.new.writer.inner in
-    subst (λ a. Reports a input old new c.ran-in-Test.result) (sym c.in-Test.is)
-    (found.result, c.ran-in-Test.ensures, (printed test_of input old new found.result found.ensures.printed (λ read. ap (λ told. g.W.Write.contents told.inner) (found.ensures.read read).0)))
+    subst (λ a. Reports a input old new c.ran-in-Test.result) (sym c.in-Test.is) (
+      found.result,
+      c.ran-in-Test.ensures,
+      (printed test_of input old new found.result found.ensures.printed
+          (λ read. ap (λ told. g.W.Write.contents told.inner) (found.ensures.read read).0)),
+    )
 
 pub returns-in-Test-clause-cause : goal.returns-in-Test-clause-cause
 returns-in-Test-clause-cause g c =
@@ -111,8 +119,12 @@ returns-in-Show-clause-report g c =
     let input = g.R.Read.remaining c.args.reader.now.inner in
     let old = g.W.Write.contents c.args.writer.now.inner in
     let new = g.W.Write.contents found.new.writer.inner in
-    subst (λ a. Reports a input old new c.ran-in-Show.result) (sym c.in-Show.is)
-    (found.result, c.ran-in-Show.ensures, (printed show_of input old new found.result found.ensures.printed (λ read. ap (λ told. g.W.Write.contents told.inner) (found.ensures.read read).0)))
+    subst (λ a. Reports a input old new c.ran-in-Show.result) (sym c.in-Show.is) (
+      found.result,
+      c.ran-in-Show.ensures,
+      (printed show_of input old new found.result found.ensures.printed
+          (λ read. ap (λ told. g.W.Write.contents told.inner) (found.ensures.read read).0)),
+    )
 
 pub returns-in-Show-clause-cause : goal.returns-in-Show-clause-cause
 returns-in-Show-clause-cause g c =
@@ -127,8 +139,12 @@ returns-in-Why-clause-report g c =
     let input = g.R.Read.remaining c.args.reader.now.inner in
     let old = g.W.Write.contents c.args.writer.now.inner in
     let new = g.W.Write.contents found.new.writer.inner in
-    subst (λ a. Reports a input old new c.ran-in-Why.result) (sym c.in-Why.is)
-    (found.result, c.ran-in-Why.ensures, (printed whys_of input old new found.result found.ensures.printed (λ read. ap (λ told. g.W.Write.contents told.inner) (found.ensures.read read).0)))
+    subst (λ a. Reports a input old new c.ran-in-Why.result) (sym c.in-Why.is) (
+      found.result,
+      c.ran-in-Why.ensures,
+      (printed whys_of input old new found.result found.ensures.printed
+          (λ read. ap (λ told. g.W.Write.contents told.inner) (found.ensures.read read).0)),
+    )
 
 pub returns-in-Why-clause-cause : goal.returns-in-Why-clause-cause
 returns-in-Why-clause-cause g c =
@@ -147,7 +163,8 @@ returns-in-Explore-clause-report g c =
       found.result,
       c.explored.ensures,
       (reported (λ text. Explores text (wanted_of c.in-Explore.most c.in-Explore.whys c.in-Explore.few_ends) old new found.result) input old new found.result
-          (subst (λ wanted. IfSome input (λ text. Explores text wanted old new found.result)) c.wanted_of-wanted.ensures found.ensures.explored) (λ read. ap (λ told. g.W.Write.contents told.inner) (found.ensures.read read).0)),
+          (subst (λ wanted. IfSome input (λ text. Explores text wanted old new found.result)) c.wanted_of-wanted.ensures found.ensures.explored)
+          (λ read. ap (λ told. g.W.Write.contents told.inner) (found.ensures.read read).0)),
     )
 
 pub returns-in-Explore-clause-cause : goal.returns-in-Explore-clause-cause
@@ -183,8 +200,11 @@ returns-in-Trace-clause-report g c =
     let input = g.R.Read.remaining c.args.reader.now.inner in
     let old = g.W.Write.contents c.args.writer.now.inner in
     let new = g.W.Write.contents found.new.writer.inner in
-    subst (λ a. Reports a input old new c.ran-in-Trace.result) (sym c.in-Trace.is)
-    (found.result, c.ran-in-Trace.ensures, (subst (λ style. IfSome input (λ text. Prints (trace_of style text) old new found.result)) c.style_of.ensures found.ensures.printed))
+    subst (λ a. Reports a input old new c.ran-in-Trace.result) (sym c.in-Trace.is) (
+      found.result,
+      c.ran-in-Trace.ensures,
+      (subst (λ style. IfSome input (λ text. Prints (trace_of style text) old new found.result)) c.style_of.ensures found.ensures.printed),
+    )
 
 pub returns-in-Trace-clause-cause : goal.returns-in-Trace-clause-cause
 returns-in-Trace-clause-cause g c =

@@ -5,7 +5,7 @@ use Rattle.sva_race_ends.proofs.telling.put_end_texts.Goals as goal
 
 pub returns : goal.returns
 returns c =
-    let short = c.args.is_short in
+    let short = c.args.few_ends in
     let out = c.args.out.now.items in
     let lines = c.put_lines.new.out.items in
     let last = c.put_left_out_if in

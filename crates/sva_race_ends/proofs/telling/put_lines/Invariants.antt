@@ -6,5 +6,5 @@ use Rattle.sva_race_ends.proofs.telling.put_lines.Given as goal
 -- what was said and what is left make the whole
 abbrev pub invariant-loop-place : goal.invariant-loop-place
 invariant-loop-place l =
-    l.out.items ++ rows (kind_line_if l.is_short) l.place (drop l.place l.kinds)
-    ≡ l.initial.out.items ++ rows (kind_line_if l.is_short) 0 l.kinds
+    l.out.items ++ rows (kind_line_if l.few_ends) l.place (drop l.place l.kinds)
+    ≡ l.initial.out.items ++ rows (kind_line_if l.few_ends) 0 l.kinds

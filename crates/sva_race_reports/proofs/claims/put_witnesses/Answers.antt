@@ -22,5 +22,6 @@ loop-place-preserved c =
 
 pub returns : goal.returns
 returns c =
-    witnesses_end c.args.race.now c.args.threads.now c.args.whys c.args.found.now c.args.asked.now c.loop-place.place c.loop-place.before c.loop-place.out.items _
+    witnesses_end c.args.race.now c.args.threads.now c.args.whys c.args.found.now c.args.asked.now c.loop-place.place c.loop-place.before
+    c.loop-place.out.items _
     c.loop-place-test.false c.loop-place.invariant.said

@@ -8,7 +8,8 @@ use Rattle.sva_script_reports.proofs.testing.answer_line.Goals as goal
 pub returns-in-Ok-Step : goal.returns-in-Ok-Step
 returns-in-Ok-Step c =
     let words = map {A = Bor (List ℕ)} {B = List ℕ} (λ word. word.now) c.args.words.now in
-    answers_if c.args.run.now c.take.new.self c.args.number words c.take.new.plain.items c.put_reply.new.out.items c.take.new.expected.items c.take.new.taken false
+    answers_if c.args.run.now c.take.new.self c.args.number words c.take.new.plain.items c.put_reply.new.out.items c.take.new.expected.items
+    c.take.new.taken false
     c.put_reply.result c.stopped.result c.stopped.ensures c.put_reply.ensures
     (step_answered c.args.run.now c.take.new.self c.args.number words c.take.new.plain.items c.take.new.expected.items c.clear.new.self.items
     c.put_reply.new.out.items c.take.new.taken
@@ -18,7 +19,8 @@ returns-in-Ok-Step c =
 pub returns-in-Ok-End : goal.returns-in-Ok-End
 returns-in-Ok-End c =
     let words = map {A = Bor (List ℕ)} {B = List ℕ} (λ word. word.now) c.args.words.now in
-    answers_if c.args.run.now c.take.new.self c.args.number words c.put_end.new.plain.items c.put_end.new.answer.items c.take.new.expected.items c.take.new.taken true
+    answers_if c.args.run.now c.take.new.self c.args.number words c.put_end.new.plain.items c.put_end.new.answer.items c.take.new.expected.items
+    c.take.new.taken true
     c.put_end.result c.stopped-in-Ok-End.result c.stopped-in-Ok-End.ensures c.put_end.ensures
     (λ both. end_answered c.args.run.now c.take.new.self c.args.number words c.take.new.plain.items c.take.new.expected.items c.clear.new.self.items
     c.put_end.new.plain.items c.put_end.new.answer.items c.counts.result c.take.new.taken

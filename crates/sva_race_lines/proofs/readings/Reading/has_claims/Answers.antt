@@ -6,4 +6,5 @@ use Rattle.sva_race_lines.proofs.readings.Reading.has_claims.Goals as goal
 pub returns : goal.returns
 returns c =
     let same : vec_len c.self.inside.claims ≡ length c.self.inside.claims.items = omega (arith, c.self.inside.claims.ok.0) in
-    ap (ltb 0) (c.len.ensures ∙ same ∙ sym (length-map c.self.inside.claims.items claim_seen) ∙ ap (λ (reading : Reading). length reading.claims) c.self.view_is)
+    ap (ltb 0) (c.len.ensures ∙ same ∙ sym (length-map c.self.inside.claims.items claim_seen)
+    ∙ ap (λ (reading : Reading). length reading.claims) c.self.view_is)

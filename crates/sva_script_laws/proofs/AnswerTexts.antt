@@ -37,13 +37,13 @@ digits_clean (suc places) number text clean =
     one_digit (number / 10 == 0) digit text (digits_onto places 10 false (number / 10) (digit ∷ text)) last
     (digits_clean places (number / 10) (digit ∷ text) last)
 
-decimal_clean : (number : ℕ) → NoEnd (decimal number)
+pub decimal_clean : (number : ℕ) → NoEnd (decimal number)
 unfolding digits
 decimal_clean number = digits_clean 64 number [] refl
 
 -- ---- Answers
 
-number_behind : (word : List ℕ) (number : ℕ) → NoEnd word → NoEnd (word ++ decimal number)
+pub number_behind : (word : List ℕ) (number : ℕ) → NoEnd word → NoEnd (word ++ decimal number)
 number_behind word number clean = no_end-both word (decimal number) clean (decimal_clean number)
 
 frames_clean : (frames : List ℕ) → NoEnd (frames_text frames)

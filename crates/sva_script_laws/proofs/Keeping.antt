@@ -38,12 +38,12 @@ use Rattle.sva_script_laws.proofs.Written.{Clean, comment_kept, lines_clean, lin
 
 -- ---- What was read in parts
 
-both : {A B : Type 0} (read : Result A LineFault) (next : A → Result B LineFault) (value : B) → (read >>= next) ≡ Ok value
+pub both : {A B : Type 0} (read : Result A LineFault) (next : A → Result B LineFault) (value : B) → (read >>= next) ≡ Ok value
     → (found : A) × (read ≡ Ok found) × (next found ≡ Ok value)
 both (Ok found) next value is = (found, refl, is)
 both (Err wrong) next value is = absurd (cc is)
 
-one : {A : Type 0} (line : ℕ) (read : Result A Cause) (value : A) → at_line line read ≡ Ok value → read ≡ Ok value
+pub one : {A : Type 0} (line : ℕ) (read : Result A Cause) (value : A) → at_line line read ≡ Ok value → read ≡ Ok value
 one line (Ok found) value is = cc is
 one line (Err cause) value is = absurd (cc is)
 
@@ -183,7 +183,7 @@ kept_all before n count (line ∷ lines) script clean read = by_skip (is_skipped
 
 -- ---- The whole
 
-small_read : (large : Bool) (read : Result Script LineFault) (script : Script) → cond large (fault 0 TooLarge) read ≡ Ok script
+pub small_read : (large : Bool) (read : Result Script LineFault) (script : Script) → cond large (fault 0 TooLarge) read ≡ Ok script
     → (large ≡ false) × (read ≡ Ok script)
 small_read true read script is = absurd (cc is)
 small_read false read script is = (refl, is)

@@ -43,7 +43,7 @@ counted config steps fits =
     } = λ i. record { free = sym (free-counted w) i; mapped = sym (mapped-counted w) i; withheld = sym (withheld-counted w) i } in
     ap counts_text same ∙ ap counts_at runs.1
 
-reported : (config : Config) (steps : List Step) → is_fit config ≡ true
+pub reported : (config : Config) (steps : List Step) → is_fit config ≡ true
     → script_report (record { config = config; steps = steps }) ≡ report_from (first_wire config) steps
 unfolding steps_report
 reported config steps fit =

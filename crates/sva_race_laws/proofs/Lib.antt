@@ -1,0 +1,13 @@
+pub mod StepTexts
+pub mod Writing
+pub mod ReadTexts
+pub mod StepNumbers
+pub mod Accepting
+pub mod Taking
+pub mod OwnSteps
+pub mod Moments
+pub mod Configs
+pub mod ThreadNames
+pub mod Threads
+pub mod Scenarios
+pub mod Replaying

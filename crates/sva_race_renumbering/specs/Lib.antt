@@ -1,0 +1,5 @@
+pub mod Unnumbered
+pub mod Nameless
+pub mod Plain
+pub mod Moments
+pub mod Laws

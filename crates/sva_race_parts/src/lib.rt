@@ -25,7 +25,7 @@ pub use devices::{
     Budget, Device, MANNERS, again_step, ask_step, cached_count, evict_step, fault_step,
     group_pasid, if_left, left_of, page_count, use_step,
 };
-pub use equal::{same_counts, same_latest, same_left, same_taken, same_told};
+pub use equal::{same_counts, same_latest, same_left, same_reply, same_taken};
 pub use latest::{Latest, is_noted, last_step, note_request};
 pub use lists::{budgets, repeated};
 pub use names::known;

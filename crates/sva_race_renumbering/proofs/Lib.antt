@@ -6,3 +6,4 @@ pub mod Plain
 pub mod Parting
 pub mod Unnamed
 pub mod Compared
+pub mod Columns

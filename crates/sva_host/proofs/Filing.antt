@@ -1,11 +1,10 @@
 -- A page request is filed.
-use Rattle.std.proofs.Common.{◌≡◌, refl, ap, sym, ◌∙◌, subst, ℕ, suc, ◌+◌, ◌<◌, ◌≤◌, Bool, true, false, arith}
+use Rattle.std.proofs.Common.{◌≡◌, refl, ap, sym, ◌∙◌, subst, ℕ, ◌+◌, ◌<◌, ◌≤◌, Bool, true, false, arith}
 use Rattle.std.specs.Prelude.{not, nat_lt, if◌then◌else◌, is_some, is_err, Ok, Err, IsOk, OnOk, OnErr, Result, Option, Some, None, option_map, List, []}
 use Rattle.std.specs.Prelude.{◌∷◌, ◌++◌, length, find, drop, slice_get, slice_set}
 use Rattle.std.specs.List.{list_any, sum_by}
 use Rattle.std.proofs.lemmas.Bool.{ltb-true}
 use Rattle.std.proofs.lemmas.List.{length-set}
-use Rattle.std.proofs.lemmas.List.Sums.{sum_by-cons}
 use Rattle.sva_step.specs.declared.answers.Answer.{Answer}
 use Rattle.sva_step.specs.declared.answers.Answer.TheVariants as answer
 use Rattle.sva_step.specs.declared.refusals.Refusal.{Refusal}
@@ -13,7 +12,7 @@ use Rattle.sva_step.specs.declared.refusals.Refusal.TheVariants as refusal
 use Rattle.sva_step.specs.declared.steps.Step.TheVariants as step
 use Rattle.sva_model.specs.Refusals.{Cause, unless_refused}
 use Rattle.sva_model.specs.Steps.{Reply}
-use Rattle.sva_model.specs.Wire.{Wire, EndpointWire, BindingWire, PageRequestWire, HostGroupWire}
+use Rattle.sva_model.specs.Wire.{Wire, EndpointWire, BindingWire, PageRequestWire}
 use Rattle.sva_labels.specs.Finding.{part_of, bearer}
 use Rattle.sva_labels.specs.Causes.{resetting, causes_of}
 use Rattle.sva_labels.specs.Host.{Decision, checked, decide_of}

@@ -1,24 +1,22 @@
 -- Where the port of an endpoint is, if it is there: with these a step has an answer for each goal (but for four of `finish`), and none is searched for.
 use mathlib.Core.List.{Mem, not-mem-nil}
-use Rattle.std.proofs.Common.{◌≡◌, ◌≢◌, refl, sym, subst, ℕ, Bool, ◌<◌}
-use Rattle.std.specs.Prelude.{Option, Result, Ok, Err, List, [], length}
+use Rattle.std.proofs.Common.{◌≡◌, ◌≢◌, ◌∙◌, ap, refl, ℕ, Bool, ◌<◌, arith}
+use Rattle.std.specs.Prelude.{Option, Result, Ok, Err, List, [], length, nat_lt}
+use Rattle.std.specs.Vec.{vec_len}
+use Rattle.sva_model.specs.Wire.{Wire}
 use Rattle.sva_step.specs.declared.refusals.Refusal.{Refusal}
 use Rattle.sva_step.specs.declared.refusals.Refusal.TheVariants as refusal
 use Rattle.sva_step.specs.declared.steps.Step.TheVariants as step
 use Rattle.sva_host_state.specs.declared.host_state.HostState.TheInside.{Inside as HostState}
-use Rattle.sva_host_state.specs.declared.host_state.Port.{Port}
-use Rattle.sva_host_state.specs.Inner.{wire_of, new_port, IsHostState}
+use Rattle.sva_host_state.specs.Inner.{wire_of}
 use Rattle.sva_host_state.specs.Steps.{ByLabels, PortFor}
-use Rattle.sva_host_state.proofs.Ports.{below, port_found}
+use Rattle.sva_host_state.proofs.Ports.{below}
 
--- a place that was read through a slice is within it
-pub within : (host : HostState) (w : _) (e at : ℕ) (slice : List Port) → IsHostState host
-    → wire_of host ≡ w → PortFor w e (Ok at) → slice ≡ host.ports.items
-    → at < length slice
-within host w e at slice h view for same =
-    let is = port_found host w e at slice new_port h view for same in
-    subst (λ (ports : List Port). at < length ports) (sym same)
-    (subst (λ (k : ℕ). k < length host.ports.items) (sym for.0) (below host.ports.items e is.there))
+-- the port that is found is there
+pub within : (host : HostState) (w : Wire) (e at : ℕ) → wire_of host ≡ w → PortFor w e (Ok at) → at < vec_len host.ports
+within host w e at view for =
+    let there = below host.ports.items e (ap (λ (v : Wire). nat_lt e (length v.parts)) view ∙ for.1) in
+    omega (arith, there, for.0)
 
 -- the steps of an endpoint that isn't there
 pub ask_nowhere : (w : _) (e t q : ℕ) (y : Refusal) → PortFor w e (Err y) → ByLabels w (step.Ask e t q) (Err y) w

@@ -378,6 +378,11 @@ pub seen_there : (host : HostState) (v : Wire) (g : Bool) (n e k : ℕ) (stage :
 seen_there host v g n e k stage a m h view is =
     subst (λ (s : StageWire). IsSeenIn s n host.bindings) is.at (stage_there host v n is.binding h view is.found)
 
+-- what is seen of a host with other ports and bindings, and the next cookie
+abbrev pub wire_with : HostState → List Port → List TableEntry → Wire
+wire_with host ports bindings =
+    record (wire_of (record host { bindings = bindings; next_cookie = host.next_cookie + 1 })) { parts = map part_seen ports }
+
 -- and both have changed
 pub submitted :
     (host : HostState) (v : Wire) (g : Bool) (n e k : ℕ) (stage : StageWire) (a : Answer) (m : Move) (ds : ℕ → List Descriptor) (next : ℕ → StageWire)
@@ -395,15 +400,15 @@ pub submitted :
           with_stage n (next w.next_cookie) w.bindings;
       next_cookie = w.next_cookie + 1;
     })
-    → AdvancesBy v g n (Ok a) (wire_of (record host { ports = record { items = items }; bindings = after; next_cookie = host.next_cookie + 1 }))
+    → AdvancesBy v g n (Ok a) (wire_with host items after)
 submitted host v g n e k stage a m ds next port items after view is there written moves by =
     subst (λ (d : Decision). Does d v (Ok a)
-    (wire_of (record host { ports = record { items = items }; bindings = after; next_cookie = host.next_cookie + 1 }))) (sym is.decides)
+    (wire_with host items after)) (sym is.decides)
     (refl, done ∙ ap (λ (w : Wire). all_moved w (m ∷ [])) view)
   where
-    done : wire_of (record host { ports = record { items = items }; bindings = after; next_cookie = host.next_cookie + 1 }) ≡ moved (wire_of host) m
+    done : wire_with host items after ≡ moved (wire_of host) m
     done =
-        ap (λ (ports : List Port). wire_of (record host { ports = record { items = ports }; bindings = after; next_cookie = host.next_cookie + 1 })) written
+        ap (λ (ports : List Port). wire_with host ports after) written
         ∙ (λ i. record (with_unit_seen host e port (λ (u : UnitWire). with_descriptors u (ds host.next_cookie) host.next_cookie) there i) {
           bindings = moves.seen i;
           next_cookie = host.next_cookie + 1;

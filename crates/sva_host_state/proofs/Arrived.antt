@@ -24,11 +24,10 @@ suits w n e kind sound arriving =
     let (k, there) = stands n w.in_flight f arriving.found in
     sound.flight_suits k f there
 
--- the port of its endpoint, read through a slice
-pub port_there : (host : HostState) (v : Wire) (n e : ℕ) (kind : Kind) (slice : List Port) (d : Port) → IsHostState host → wire_of host ≡ v → IsSound v
-    → IsArriving v n e kind
-    → slice ≡ host.ports.items → IsPort host e (slice_index_or slice e d)
-port_there host v n e kind slice d h view sound arriving same = port_found host v e e slice d h view (arriving_port v n e kind sound arriving) same
+-- the port of its endpoint
+pub port_there : (host : HostState) (v : Wire) (n e : ℕ) (kind : Kind) (port : Port) → IsHostState host → wire_of host ≡ v → IsSound v
+    → IsArriving v n e kind → port ≡ slice_index_or host.ports.items e port → IsPort host e port
+port_there host v n e kind port h view sound arriving same = port_found host v e e port h view (arriving_port v n e kind sound arriving) same
 
 -- The messages in flight are numbered.
 

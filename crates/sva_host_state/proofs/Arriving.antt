@@ -98,11 +98,9 @@ below_true a b h = grind (arith, nat_tests)
 pub arriving_port : (w : Wire) (n e : ℕ) (kind : Kind) → IsSound w → IsArriving w n e kind → PortFor w e (Ok e)
 arriving_port w n e kind sound arriving = (refl, below_true e (length w.parts) (goes_to w n e kind sound arriving))
 
-pub arriving_within : (host : HostState) (v : Wire) (n e : ℕ) (kind : Kind) (slice : List Port) → wire_of host ≡ v → IsSound v → IsArriving v n e kind
-    → slice ≡ host.ports.items → e < length slice
-arriving_within host v n e kind slice view sound arriving same =
-    subst (λ (ports : List Port). e < length ports) (sym same)
-    (below host.ports.items e (ap (λ (w : Wire). nat_lt e (length w.parts)) view ∙ below_true e (length v.parts) (goes_to v n e kind sound arriving)))
+pub arriving_within : (host : HostState) (v : Wire) (n e : ℕ) (kind : Kind) → wire_of host ≡ v → IsSound v → IsArriving v n e kind → e < length host.ports.items
+arriving_within host v n e kind view sound arriving =
+    below host.ports.items e (ap (λ (w : Wire). nat_lt e (length w.parts)) view ∙ below_true e (length v.parts) (goes_to v n e kind sound arriving))
 
 -- what is found, of what the host is seen as
 pub seen_found : (host : HostState) (v : Wire) (n e : ℕ) (kind : Kind) → wire_of host ≡ v → IsArriving v n e kind

@@ -51,15 +51,15 @@ pub record CanBind (host : HostState) (e n : ℕ) : Type 0 where
   pub space : not (is_space (wire_of host) n) ≡ false
   pub is_open : not (unit_of (wire_of host) e).is_open ≡ false
 
-pub can_bind : (host : HostState) (v : Wire) (e n at : ℕ) (slice : List Port) (d : Port) (b c : Bool) → IsHostState host → wire_of host ≡ v
-    → PortFor v e (Ok at) → slice ≡ host.ports.items
-    → b ≡ memory.has_space host.address_spaces n → b ≡ true → c ≡ (slice_index_or slice at d).unit.unit.is_open → c ≡ true → CanBind host e n
-can_bind host v e n at slice d b c h view for same has is_there tells is_open =
-    let port = port_found host v e at slice d h view for same in
+pub can_bind : (host : HostState) (v : Wire) (e n at : ℕ) (port : Port) (b c : Bool) → IsHostState host → wire_of host ≡ v
+    → PortFor v e (Ok at) → port ≡ slice_index_or host.ports.items at port
+    → b ≡ memory.has_space host.address_spaces n → b ≡ true → c ≡ port.unit.unit.is_open → c ≡ true → CanBind host e n
+can_bind host v e n at port b c h view for same has is_there tells is_open =
+    let found = port_found host v e at port h view for same in
     record {
-      there = ap not port.there;
+      there = ap not found.there;
       space = ap not (sym has ∙ is_there);
-      is_open = ap (λ p. not p.unit.is_open) port.part ∙ ap not (sym tells ∙ is_open);
+      is_open = ap (λ p. not p.unit.is_open) found.part ∙ ap not (sym tells ∙ is_open);
     }
 
 pub some_mapped : {A B : Type 0} (f : A → B) (o : Option A) → is_some (option_map f o) ≡ is_some o

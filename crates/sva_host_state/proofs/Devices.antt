@@ -1,6 +1,6 @@
 -- The steps of an endpoint's device, by labels.
 use Rattle.std.proofs.Common.{◌≡◌, refl, ap, sym, ◌∙◌, subst, ℕ, ◌+◌}
-use Rattle.std.specs.Prelude.{Ok, Err, IsErr, IsErrAnd, List, [], ◌∷◌}
+use Rattle.std.specs.Prelude.{Ok, Err, IsErr, IsErrAnd, List, [], ◌∷◌, map}
 use Rattle.sva_step.specs.declared.answers.Answer.{Answer}
 use Rattle.sva_step.specs.declared.refusals.Refusal.{Refusal}
 use Rattle.sva_step.specs.declared.steps.Step.{Step}
@@ -19,7 +19,7 @@ use Rattle.sva_parts_by_labels.specs.Device.{device_seen}
 use Rattle.sva_parts_by_labels.specs.Flights.{kind_seen}
 use Rattle.sva_host_state.specs.declared.host_state.HostState.TheInside.{Inside as HostState}
 use Rattle.sva_host_state.specs.declared.host_state.Port.{Port}
-use Rattle.sva_host_state.specs.Inner.{wire_of}
+use Rattle.sva_host_state.specs.Inner.{part_seen, wire_of}
 use Rattle.sva_host_state.specs.Steps.{Does, ByLabels, Sends}
 use Rattle.sva_host_state.proofs.Ports.{IsPort, with_tables, with_tables_seen}
 use Rattle.sva_host_state.proofs.Sent.{sent_seen, unsent_same, unsent, sent_decided}
@@ -39,12 +39,16 @@ pub went : (w v after : Wire) (s : Step) (r : Reply) (x : Refusal) → w ≡ v �
 went w v after s r x same answered is =
     subst (λ (u : Wire). ByLabels u s r after) same (subst (λ (a : Reply). ByLabels w s a after) (sym (is_err r x answered)) is)
 
+-- what is seen of a host with other ports and messages
+abbrev pub wire_with : HostState → List Port → InFlight → Wire
+wire_with host ports bag = record (wire_of (record host { in_flight = bag })) { parts = map part_seen ports }
+
 -- a step that was done, with its ports as they were written
 pub ended : (host : HostState) (v : Wire) (s : Step) (a b : Answer) (items others : List Port) (bag : InFlight) → wire_of host ≡ v → items ≡ others → a ≡ b
-    → ByLabels (wire_of host) s (Ok b) (wire_of (record host { ports = record { items = others }; in_flight = bag }))
-    → ByLabels v s (Ok a) (wire_of (record host { ports = record { items = items }; in_flight = bag }))
+    → ByLabels (wire_of host) s (Ok b) (wire_with host others bag)
+    → ByLabels v s (Ok a) (wire_with host items bag)
 ended host v s a b items others bag same changed answered is =
-    let after : List Port → Wire = λ ports. wire_of (record host { ports = record { items = ports }; in_flight = bag }) in
+    let after : List Port → Wire = λ ports. wire_with host ports bag in
     subst (λ (u : Wire). ByLabels u s (Ok a) (after items)) same
     (subst (λ (ports : List Port). ByLabels (wire_of host) s (Ok a) (after ports)) (sym changed)
     (subst (λ (said : Answer). ByLabels (wire_of host) s (Ok said) (after others)) (sym answered) is))

@@ -120,28 +120,28 @@ few_cookies w n d e plan is =
 
 -- What is read of a unit.
 
-pub target_is : (host : HostState) (v : Wire) (e n cookie first : ℕ) (slice : List Port) (d : Port) (p : TableEntry) → wire_of host ≡ v
-    → e < length host.ports.items → slice ≡ host.ports.items → Some p ≡ place_between e n host.bindings
+pub target_is : (host : HostState) (v : Wire) (e n cookie first : ℕ) (port : Port) (p : TableEntry) → wire_of host ≡ v
+    → e < length host.ports.items → port ≡ slice_index_or host.ports.items e port → Some p ≡ place_between e n host.bindings
     → first ≡ host.next_cookie → cookie ≡ count_below e (submits v n)
-    → target_by_stage (slice_index_or slice e d).unit.unit (first + cookie) (stage_or_quiet p.stage) ≡ target_at v n e
-target_is host v e n cookie first slice d p view within same found starts given =
-    λ i. target_by (unit_there host v e slice d view within same i) (next i) (bound_there host v e n (Some p) view found i)
+    → target_by_stage port.unit.unit (first + cookie) (stage_or_quiet p.stage) ≡ target_at v n e
+target_is host v e n cookie first port p view within same found starts given =
+    λ i. target_by (unit_there host v e port view within same i) (next i) (bound_there host v e n (Some p) view found i)
   where
     next : first + cookie ≡ cookie_at v n e
     next = (λ i. (starts i) + (given i)) ∙ ap (λ (w : Wire). w.next_cookie + count_below e (submits v n)) view
 
-pub submits_is : (host : HostState) (v : Wire) (e n : ℕ) (slice : List Port) (d : Port) (p : TableEntry) → wire_of host ≡ v
-    → e < length host.ports.items → slice ≡ host.ports.items → Some p ≡ place_between e n host.bindings
-    → ((slice_index_or slice e d).unit.unit.is_open && is_before_invalidating (stage_or_quiet p.stage)) ≡ submits v n e
-submits_is host v e n slice d p view within same found =
-    λ i. submits_by (unit_there host v e slice d view within same i) (bound_there host v e n (Some p) view found i)
+pub submits_is : (host : HostState) (v : Wire) (e n : ℕ) (port : Port) (p : TableEntry) → wire_of host ≡ v
+    → e < length host.ports.items → port ≡ slice_index_or host.ports.items e port → Some p ≡ place_between e n host.bindings
+    → (port.unit.unit.is_open && is_before_invalidating (stage_or_quiet p.stage)) ≡ submits v n e
+submits_is host v e n port p view within same found =
+    λ i. submits_by (unit_there host v e port view within same i) (bound_there host v e n (Some p) view found i)
 
-pub submits_there : (host : HostState) (v : Wire) (e n : ℕ) (slice : List Port) (d : Port) (p : TableEntry) (a b : Bool) → wire_of host ≡ v
-    → e < length host.ports.items → slice ≡ host.ports.items → Some p ≡ place_between e n host.bindings
-    → a ≡ (slice_index_or slice e d).unit.unit.is_open → b ≡ is_before_invalidating (stage_or_quiet p.stage)
+pub submits_there : (host : HostState) (v : Wire) (e n : ℕ) (port : Port) (p : TableEntry) (a b : Bool) → wire_of host ≡ v
+    → e < length host.ports.items → port ≡ slice_index_or host.ports.items e port → Some p ≡ place_between e n host.bindings
+    → a ≡ port.unit.unit.is_open → b ≡ is_before_invalidating (stage_or_quiet p.stage)
     → (a && b) ≡ submits v n e
-submits_there host v e n slice d p a b view within same found opened before =
-    (λ i. opened i && before i) ∙ submits_is host v e n slice d p view within same found
+submits_there host v e n port p a b view within same found opened before =
+    (λ i. opened i && before i) ∙ submits_is host v e n port p view within same found
 
 -- The plan.
 

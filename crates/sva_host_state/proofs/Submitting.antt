@@ -127,11 +127,11 @@ port_for host w n q count order e is there =
     let seen : length (map part_seen host.ports.items) ≡ length host.ports.items = length-map host.ports.items part_seen in
     (refl, less_so e (length (map part_seen host.ports.items)) (omega arith))
 
--- the port of the next one, read through a slice
-pub port_now : (host : HostState) (w : Wire) (n q count order e : ℕ) (slice : List Port) (d : Port) → IsHostState host
-    → wire_of host ≡ submitted_to w n q count order e → e < length w.parts → slice ≡ host.ports.items → IsPort host e (slice_index_or slice e d)
-port_now host w n q count order e slice d h is there same =
-    port_found host (wire_of host) e e slice d h refl (port_for host w n q count order e is there) same
+-- the port of the next one
+pub port_now : (host : HostState) (w : Wire) (n q count order e : ℕ) (port : Port) → IsHostState host
+    → wire_of host ≡ submitted_to w n q count order e → e < length w.parts → port ≡ slice_index_or host.ports.items e port → IsPort host e port
+port_now host w n q count order e port h is there same =
+    port_found host (wire_of host) e e port h refl (port_for host w n q count order e is there) same
 
 -- the next endpoint is as it was
 pub part_now : (host : HostState) (w : Wire) (n q count order e : ℕ) (port : Port) → wire_of host ≡ submitted_to w n q count order e

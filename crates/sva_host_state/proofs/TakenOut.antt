@@ -17,13 +17,12 @@ use Rattle.sva_host_state.proofs.Ports.{part_there}
 pub parts_seen : (host : HostState) (v : Wire) → wire_of host ≡ v → length v.parts ≡ length host.ports.items
 parts_seen host v view = sym (ap (λ (u : Wire). length u.parts) view) ∙ length-map host.ports.items part_seen
 
--- the unit of an endpoint that is there, read through a slice
-pub unit_there : (host : HostState) (v : Wire) (e : ℕ) (slice : List Port) (d : Port) → wire_of host ≡ v
-    → e < length host.ports.items → slice ≡ host.ports.items
-    → (slice_index_or slice e d).unit.unit ≡ unit_of v e
-unit_there host v e slice d view there same =
-    ap (λ (ports : List Port). (slice_index_or ports e d).unit.unit) same
-    ∙ sym (ap (λ p. p.unit) (part_there host.ports.items e d there))
+-- the unit of an endpoint that is there
+pub unit_there : (host : HostState) (v : Wire) (e : ℕ) (port : Port) → wire_of host ≡ v
+    → e < length host.ports.items → port ≡ slice_index_or host.ports.items e port → port.unit.unit ≡ unit_of v e
+unit_there host v e port view there same =
+    ap (λ (p : Port). p.unit.unit) same
+    ∙ sym (ap (λ p. p.unit) (part_there host.ports.items e port there))
     ∙ ap (λ (u : Wire). unit_of u e) view
 
 pub bound_there : (host : HostState) (v : Wire) (e n : ℕ) (o : Option TableEntry) → wire_of host ≡ v → o ≡ place_between e n host.bindings

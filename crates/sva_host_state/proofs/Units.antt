@@ -1,7 +1,7 @@
 -- Ports whose unit changes, seen.
 use Rattle.std.proofs.Common.{◌≡◌, refl, ap, sym, ◌∙◌, subst, ℕ, ◌+◌}
 use Rattle.std.specs.Prelude.{Ok, List, [], ◌∷◌, map, length, slice_set, slice_index_or}
-use Rattle.std.specs.List.{refill}
+use Rattle.std.specs.Vec.{with_item}
 use Rattle.std.proofs.lemmas.List.{map-set}
 use Rattle.sva_step.specs.declared.answers.Answer.{Answer}
 use Rattle.sva_step.specs.declared.steps.Step.{Step}
@@ -21,12 +21,12 @@ use Rattle.sva_host_state.specs.declared.host_state.Port.{Port}
 use Rattle.sva_host_state.specs.declared.host_state.HostState.TheInside.{Inside as HostState}
 use Rattle.sva_host_state.specs.Steps.{Does, ByLabels, PortFor, Sends}
 use Rattle.sva_host_state.specs.Inner.{part_seen, wire_of, AreStaged, IsHostState}
-use Rattle.sva_host_state.proofs.Ports.{IsPort, AllSound, written, same_port, sound_set}
+use Rattle.sva_host_state.proofs.Ports.{IsPort, AllSound, IsFew, few_set, same_port, sound_set}
 use Rattle.sva_host_state.proofs.Sent.{sent_seen, sent_decided}
 
 -- the host with another unit at an endpoint
 abbrev pub with_unit_in : HostState → (e : ℕ) → Port → UnitSeen → HostState
-with_unit_in host e port unit = record host { ports = record { items = slice_set host.ports.items e (record port { unit = unit }) } }
+with_unit_in host e port unit = record host { ports = with_item host.ports e (record port { unit = unit }) }
 
 -- the unit of a part, with its page request queue
 abbrev pub unit_in : EndpointWire → UnitSeen
@@ -61,19 +61,22 @@ with_unit_seen host e port change is = with_part_seen host e port (λ u. seen.wi
 pub with_unit_host : (host after : HostState) (e : ℕ) (port : Port) (unit : UnitSeen) → IsHostState host → IsSound port.device
     → after.ports.items ≡ slice_set host.ports.items e (record port { unit = unit }) → AreStaged after.bindings → IsHostState after
 with_unit_host host after e port unit h sound same staged =
-    record { sound = subst AllSound (sym same) (sound_set host.ports.items e (record port { unit = unit }) sound h.sound); staged = staged }
+    record {
+      few = subst IsFew (sym same) (few_set host.ports.items e (record port { unit = unit }) h.few);
+      sound = subst AllSound (sym same) (sound_set host.ports.items e (record port { unit = unit }) sound h.sound);
+      staged = staged;
+    }
 
--- a port whose unit was changed through a slice
-pub unit_rewritten : (host : HostState) (w : Wire) (e at : ℕ) (read slice : List Port) (d f : Port) (unit : UnitSeen) (after : UnitSeen → UnitSeen)
+-- a port whose unit was changed
+pub unit_rewritten : (host : HostState) (w : Wire) (e at : ℕ) (read port : Port) (unit : UnitSeen) (after : UnitSeen → UnitSeen)
     → wire_of host ≡ w → PortFor w e (Ok at)
-    → read ≡ host.ports.items → slice ≡ host.ports.items → unit ≡ after (slice_index_or slice at f).unit
-    → refill (length host.ports.items) host.ports.items (slice_set slice at (record { device = (slice_index_or slice at f).device; unit = unit }))
-    ≡ slice_set host.ports.items e (record (slice_index_or read at d) { unit = after (slice_index_or read at d).unit })
-unit_rewritten host w e at read slice d f unit after view for same other is =
+    → read ≡ slice_index_or host.ports.items at read → port ≡ slice_index_or host.ports.items at port → unit ≡ after port.unit
+    → slice_set host.ports.items at (record { device = port.device; unit = unit })
+    ≡ slice_set host.ports.items e (record read { unit = after read.unit })
+unit_rewritten host w e at read port unit after view for same other is =
     let items = host.ports.items in
-    let one = same_port host w e at read slice d f view for same other in
-    written items slice at _ other
-    ∙ (λ i. slice_set items (for.0 i) (record { device = (slice_index_or slice at f).device; unit = is i }))
+    let one = same_port host w e at read port view for same other in
+    (λ i. slice_set items (for.0 i) (record { device = port.device; unit = is i }))
     ∙ (λ i. slice_set items e (record (one i) { unit = after (one i).unit }))
 
 -- a step that was done, with its ports as they were written

@@ -1,5 +1,5 @@
 -- What the parts of a host are seen as, and what holds of them.
-use Rattle.std.specs.Prelude.{None, IsSome, List, [], map, replicate, All}
+use Rattle.std.specs.Prelude.{◌≤◌, None, IsSome, List, [], length, map, replicate, All}
 use Rattle.sva_model.specs.Wire.{Wire, EndpointWire}
 use Rattle.sva_endpoint.specs.Tables.{fresh}
 use Rattle.sva_endpoint.specs.Laws.{IsSound}
@@ -40,7 +40,9 @@ wire_of host =
 abbrev pub AreStaged : List TableEntry → Type 0
 AreStaged places = All (λ (place : TableEntry). IsSome place.stage) places
 
--- what holds of every host: the devices of its endpoints are sound, and each binding's stage stands in its place
+-- what holds of every host: it has no more endpoints than a config may have, their devices are sound, and each binding's stage stands
+-- in its place
 pub record IsHostState (host : HostState) : Type 0 where
+  pub few : length host.ports.items ≤ 8
   pub sound : All (λ (port : Port). IsSound port.device) host.ports.items
   pub staged : AreStaged host.bindings

@@ -4,7 +4,6 @@ ghost use Rattle.std.specs.Prelude.{◌≡◌, ◌≤◌, ◌^◌, IfOk, replica
 ghost use Rattle.sva_labels.specs.Host.{first_wire};
 ghost use Rattle.sva_host_state.specs.Inner.{new_port};
 
-use arrayvec::ArrayVec;
 use std::alloc::{AllocError, Global};
 use std::marker::Model;
 use sva_address_spaces::AddressSpaces;
@@ -12,7 +11,7 @@ use sva_endpoint::Endpoint;
 use sva_iommu::RemappingUnit;
 use sva_msg::Bag;
 use sva_pasid::Table;
-use sva_step::{Config, MOST_ENDPOINTS};
+use sva_step::Config;
 
 /// An endpoint with the remapping unit that serves it.
 #[derive(Drop)]
@@ -41,7 +40,7 @@ pub struct HostState {
     /// The bindings that aren't released, with their stages.
     pub bindings: Table,
     /// The endpoints, each with its unit.
-    pub ports: ArrayVec<Port, MOST_ENDPOINTS>,
+    pub ports: Vec<Port>,
     /// The messages between host and endpoints.
     pub in_flight: Bag,
     /// How many workers there are.
@@ -76,7 +75,7 @@ impl HostState {
         Ok(HostState {
             address_spaces: AddressSpaces::open(alloc, config.frames as u32, config.first)?,
             bindings: Table::new(alloc),
-            ports: new_ports(config.endpoints),
+            ports: new_ports(alloc, config.endpoints)?,
             in_flight: Bag::new(alloc, config.first),
             workers: config.workers,
             next_binding: config.first,
@@ -86,13 +85,12 @@ impl HostState {
 }
 
 /// So many endpoints that do nothing yet, each with a unit of which nothing was asked.
-fn new_ports(count: u64) -> ArrayVec<Port, MOST_ENDPOINTS>
-    requires { count ≤ 8 }
-    ensures { result.items ≡ replicate count new_port }
+fn new_ports(alloc: Global, count: u64) -> Result<Vec<Port>, AllocError>
+    ensures { IfOk result (λ ports. ports.items ≡ replicate count new_port) }
 {
-    let mut ports = ArrayVec::new();
+    let mut ports = Vec::with_capacity(alloc, count as usize)?;
     for _number in 0..count {
-        ports.push(Port::default());
+        ports.push(Port::default())?;
     }
-    ports
+    Ok(ports)
 }

@@ -1,12 +1,11 @@
 use Rattle.std.proofs.Common.{◌≡◌, ℕ, refl, ap, sym, ◌∙◌, arith}
-use Rattle.std.specs.Prelude.{true, false, not, [], ◌∷◌, List, length, slice_index_or}
+use Rattle.std.specs.Prelude.{true, false, not, [], ◌∷◌}
 use Rattle.sva_model.specs.Wire.{Wire, UnitWire}
 use Rattle.sva_model.specs.Wire.StageWire.{DrainingWire, InvalidatingWire}
 use Rattle.sva_model.specs.Wire.Descriptor.{PasidDescriptor, WaitDescriptor}
 use Rattle.sva_labels.specs.Finding.{has_room, is_wait_done}
 use Rattle.sva_labels.specs.Moves.{with_descriptors}
 use Rattle.sva_iommu.specs.Seen.{UnitSeen, with_unit}
-use Rattle.sva_host_state.specs.declared.host_state.Port.{Port}
 use Rattle.sva_host_state.proofs.Advances.{invalidates, home_is, port_for, seen_there, submitted}
 use Rattle.sva_host_state.proofs.Bound.{kind_in}
 use Rattle.sva_host_state.proofs.Moving.{moved_on, if_staged}
@@ -15,22 +14,13 @@ use Rattle.sva_host_state.proofs.TakenOut.{parts_seen, unit_there}
 use Rattle.sva_host_state.proofs.Units.{unit_rewritten, with_unit_host}
 use Rattle.sva_host_bindings.proofs.advancing.invalidate.Goals as goal
 
-pub bounds-deref_mut-endpoint : goal.bounds-deref_mut-endpoint
-bounds-deref_mut-endpoint c =
+pub index_mut-requires : goal.index_mut-requires
+index_mut-requires c =
     let all = invalidates c.args.host.now c.args.groups_open c.args.binding c.args.endpoint c.args.pasid c.requires.may in
     let is = all.submits in
     let there = home_is c.args.host.now _ c.args.binding c.args.endpoint _ _ _ _ c.requires.sound is in
     let long = parts_seen c.host.inside c.args.host.now c.host.view_is in
-    let same = ap (λ (ports : List Port). length ports) c.deref_mut.ensures.value in
-    omega (arith, there, long, same)
-
-pub offset_bounds-deref_mut-endpoint : goal.offset_bounds-deref_mut-endpoint
-offset_bounds-deref_mut-endpoint c =
-    let all = invalidates c.args.host.now c.args.groups_open c.args.binding c.args.endpoint c.args.pasid c.requires.may in
-    let is = all.submits in
-    let there = home_is c.args.host.now _ c.args.binding c.args.endpoint _ _ _ _ c.requires.sound is in
-    let long = parts_seen c.host.inside c.args.host.now c.host.view_is in
-    omega (arith, there, c.requires.sound.few_parts)
+    omega (arith, there, long)
 
 pub submit_pasid-requires-clause-opened : goal.submit_pasid-requires-clause-opened
 submit_pasid-requires-clause-opened c =
@@ -38,8 +28,8 @@ submit_pasid-requires-clause-opened c =
     let is = all.submits in
     let there = home_is c.args.host.now _ c.args.binding c.args.endpoint _ _ _ _ c.requires.sound is in
     let long = parts_seen c.host.inside c.args.host.now c.host.view_is in
-    let unit = unit_there c.host.inside c.args.host.now c.args.endpoint c.deref_mut.result.now c.index-deref_mut-endpoint.result c.host.view_is
-    (omega (arith, there, long)) c.deref_mut.ensures.value in
+    let unit = unit_there c.host.inside c.args.host.now c.args.endpoint c.index_mut.result.now c.host.view_is
+    (omega (arith, there, long)) c.index_mut.ensures.value in
     ap (λ (u : UnitWire). u.is_open) unit ∙ is.is_open
 
 pub submit_pasid-requires-clause-room : goal.submit_pasid-requires-clause-room
@@ -48,8 +38,8 @@ submit_pasid-requires-clause-room c =
     let is = all.submits in
     let there = home_is c.args.host.now _ c.args.binding c.args.endpoint _ _ _ _ c.requires.sound is in
     let long = parts_seen c.host.inside c.args.host.now c.host.view_is in
-    let unit = unit_there c.host.inside c.args.host.now c.args.endpoint c.deref_mut.result.now c.index-deref_mut-endpoint.result c.host.view_is
-    (omega (arith, there, long)) c.deref_mut.ensures.value in
+    let unit = unit_there c.host.inside c.args.host.now c.args.endpoint c.index_mut.result.now c.host.view_is
+    (omega (arith, there, long)) c.index_mut.ensures.value in
     ap (λ (u : UnitWire). has_room u 2) unit ∙ is.room
 
 pub submit_pasid-requires-clause-later : goal.submit_pasid-requires-clause-later
@@ -58,8 +48,8 @@ submit_pasid-requires-clause-later c =
     let is = all.submits in
     let there = home_is c.args.host.now _ c.args.binding c.args.endpoint _ _ _ _ c.requires.sound is in
     let long = parts_seen c.host.inside c.args.host.now c.host.view_is in
-    let unit = unit_there c.host.inside c.args.host.now c.args.endpoint c.deref_mut.result.now c.index-deref_mut-endpoint.result c.host.view_is
-    (omega (arith, there, long)) c.deref_mut.ensures.value in
+    let unit = unit_there c.host.inside c.args.host.now c.args.endpoint c.index_mut.result.now c.host.view_is
+    (omega (arith, there, long)) c.index_mut.ensures.value in
     let next : c.host.inside.next_cookie ≡ c.args.host.now.next_cookie = ap (λ (w : Wire). w.next_cookie) c.host.view_is in
     let low = c.requires.sound.waits_given c.args.endpoint there in
     let same = ap (λ (u : UnitWire). u.waits_end) unit in
@@ -79,21 +69,13 @@ invalidate-requires c =
     kind_in (DrainingWire all.cookie) c.args.binding c.host.inside.bindings
     (seen_there c.host.inside c.args.host.now _ c.args.binding c.args.endpoint _ _ _ _ c.host.invariant c.host.view_is is)
 
-pub bounds-deref-endpoint : goal.bounds-deref-endpoint
-bounds-deref-endpoint c =
+pub index-requires : goal.index-requires
+index-requires c =
     let all = invalidates c.args.host.now c.args.groups_open c.args.binding c.args.endpoint c.args.pasid c.requires.may in
     let is = all.submits in
     let there = home_is c.args.host.now _ c.args.binding c.args.endpoint _ _ _ _ c.requires.sound is in
     let long = parts_seen c.host.inside c.args.host.now c.host.view_is in
-    let same = ap (λ (ports : List Port). length ports) c.deref.ensures.0 in
-    omega (arith, there, long, same)
-
-pub offset_bounds-deref-endpoint : goal.offset_bounds-deref-endpoint
-offset_bounds-deref-endpoint c =
-    let all = invalidates c.args.host.now c.args.groups_open c.args.binding c.args.endpoint c.args.pasid c.requires.may in
-    let is = all.submits in
-    let there = home_is c.args.host.now _ c.args.binding c.args.endpoint _ _ _ _ c.requires.sound is in
-    omega (arith, there, c.requires.sound.few_parts)
+    omega (arith, there, long)
 
 -- the wait is done and no group is open: the state itself doesn't refuse
 pub returns-then-not-invalidate-clause-step : goal.returns-then-not-invalidate-clause-step
@@ -102,8 +84,8 @@ returns-then-not-invalidate-clause-step c =
     let is = all.submits in
     let there = home_is c.args.host.now _ c.args.binding c.args.endpoint _ _ _ _ c.requires.sound is in
     let long = parts_seen c.host.inside c.args.host.now c.host.view_is in
-    let unit = unit_there c.host.inside c.args.host.now c.args.endpoint c.deref.result.now c.index-deref-endpoint.result c.host.view_is
-    (omega (arith, there, long)) c.deref.ensures.0 in
+    let unit = unit_there c.host.inside c.args.host.now c.args.endpoint c.index.result.now c.host.view_is
+    (omega (arith, there, long)) c.index.ensures in
     let seen = seen_there c.host.inside c.args.host.now _ c.args.binding c.args.endpoint _ _ _ _ c.host.invariant c.host.view_is is in
     let done = ap (λ (u : UnitWire). is_wait_done u all.cookie) unit ∙ all.is_done in
     let wrong : false ≡ true = sym c.if-not-invalidate.true ∙ c.invalidate.ensures.due all.cookie seen done ∙ ap not all.closed in
@@ -112,6 +94,7 @@ returns-then-not-invalidate-clause-step c =
 pub invariant_of-host : goal.invariant_of-host
 invariant_of-host c =
     record {
+      few = c.host.invariant.few;
       sound = c.host.invariant.sound;
       staged = if_staged c.invalidate.result _ c.args.binding c.host.inside.bindings c.invalidate.new.bindings
           c.invalidate.ensures.moves c.host.invariant.staged;
@@ -122,14 +105,13 @@ invariant_of-host-2 c =
     let all = invalidates c.args.host.now c.args.groups_open c.args.binding c.args.endpoint c.args.pasid c.requires.may in
     let is = all.submits in
     let for = port_for c.args.host.now _ c.args.binding c.args.endpoint _ _ _ _ c.requires.sound is in
-    let port = port_found c.host.inside c.args.host.now c.args.endpoint c.args.endpoint c.deref_mut.result.now c.index-deref_mut-endpoint.result
-    c.host.invariant c.host.view_is for c.deref_mut.ensures.value in
+    let port = port_found c.host.inside c.args.host.now c.args.endpoint c.args.endpoint c.index_mut.result.now
+    c.host.invariant c.host.view_is for c.index_mut.ensures.value in
     let change = λ (u : UnitSeen). with_unit u
     (with_descriptors u.unit (PasidDescriptor c.args.pasid ∷ WaitDescriptor c.host.inside.next_cookie false ∷ []) c.host.inside.next_cookie) in
-    let written = unit_rewritten c.host.inside c.args.host.now c.args.endpoint c.args.endpoint c.deref_mut.result.now c.deref_mut.result.now
-    c.index-deref_mut-endpoint.result c.index-deref_mut-endpoint.result c.submit_pasid.new.self change c.host.view_is for
-    c.deref_mut.ensures.value c.deref_mut.ensures.value c.submit_pasid.ensures in
-    with_unit_host c.host.inside _ c.args.endpoint (slice_index_or c.deref_mut.result.now c.args.endpoint c.index-deref_mut-endpoint.result) _
+    let written = unit_rewritten c.host.inside c.args.host.now c.args.endpoint c.args.endpoint c.index_mut.result.now c.index_mut.result.now c.submit_pasid.new.self change c.host.view_is for
+    c.index_mut.ensures.value c.index_mut.ensures.value c.submit_pasid.ensures in
+    with_unit_host c.host.inside _ c.args.endpoint c.index_mut.result.now _
     c.host.invariant port.sound written
     (if_staged c.invalidate.result _ c.args.binding c.host.inside.bindings c.invalidate.new.bindings c.invalidate.ensures.moves c.host.invariant.staged)
 
@@ -138,16 +120,15 @@ returns-clause-step c =
     let all = invalidates c.args.host.now c.args.groups_open c.args.binding c.args.endpoint c.args.pasid c.requires.may in
     let is = all.submits in
     let for = port_for c.args.host.now _ c.args.binding c.args.endpoint _ _ _ _ c.requires.sound is in
-    let port = port_found c.host.inside c.args.host.now c.args.endpoint c.args.endpoint c.deref_mut.result.now c.index-deref_mut-endpoint.result
-    c.host.invariant c.host.view_is for c.deref_mut.ensures.value in
+    let port = port_found c.host.inside c.args.host.now c.args.endpoint c.args.endpoint c.index_mut.result.now
+    c.host.invariant c.host.view_is for c.index_mut.ensures.value in
     let change = λ (u : UnitSeen). with_unit u
     (with_descriptors u.unit (PasidDescriptor c.args.pasid ∷ WaitDescriptor c.host.inside.next_cookie false ∷ []) c.host.inside.next_cookie) in
-    let written = unit_rewritten c.host.inside c.args.host.now c.args.endpoint c.args.endpoint c.deref_mut.result.now c.deref_mut.result.now
-    c.index-deref_mut-endpoint.result c.index-deref_mut-endpoint.result c.submit_pasid.new.self change c.host.view_is for
-    c.deref_mut.ensures.value c.deref_mut.ensures.value c.submit_pasid.ensures in
+    let written = unit_rewritten c.host.inside c.args.host.now c.args.endpoint c.args.endpoint c.index_mut.result.now c.index_mut.result.now c.submit_pasid.new.self change c.host.view_is for
+    c.index_mut.ensures.value c.index_mut.ensures.value c.submit_pasid.ensures in
     submitted c.host.inside c.args.host.now _ c.args.binding c.args.endpoint _ _ _ _ (λ (k : ℕ). PasidDescriptor c.args.pasid ∷ WaitDescriptor k false
     ∷ []) InvalidatingWire
-    (slice_index_or c.deref_mut.result.now c.args.endpoint c.index-deref_mut-endpoint.result) _ c.invalidate.new.bindings c.host.view_is is port
+    c.index_mut.result.now _ c.invalidate.new.bindings c.host.view_is is port
     written
     (moved_on c.invalidate.result _ c.args.binding c.host.inside.bindings c.invalidate.new.bindings c.invalidate.ensures.moves c.if-not-invalidate.false)
     (λ w. refl)

@@ -1,11 +1,10 @@
-use Rattle.std.proofs.Common.{◌≡◌, ◌<◌, ◌≤◌, ◌^◌, ap, sym, subst, ◌∙◌, arith}
-use Rattle.std.specs.Prelude.{Ok, List, length}
-use Rattle.sva_host_state.specs.declared.host_state.Port.{Port}
+use Rattle.std.proofs.Common.{◌≡◌, ◌<◌, ◌≤◌, ◌^◌, ap, sym, ◌∙◌, arith}
+use Rattle.std.specs.Prelude.{Ok}
 use Rattle.sva_model.specs.Wire.{Wire}
 use Rattle.sva_labels.specs.Finding.{has_room}
-use Rattle.sva_host_state.specs.Bindings.{binding_seen, stage_or_quiet}
+use Rattle.sva_host_state.specs.Bindings.{stage_or_quiet}
 use Rattle.sva_host_state.specs.Advancing.{is_due}
-use Rattle.sva_host_state.proofs.Bound.{binding_at, home_there, home_within}
+use Rattle.sva_host_state.proofs.Bound.{binding_at, home_within}
 use Rattle.sva_host_state.proofs.TakenOut.{unit_there}
 use Rattle.sva_host_state.proofs.Advances.{no_such_binding, quiet_goes, in_reset, not_yet, settles_next, queue_full, cookies_spent, goes_on}
 use Rattle.sva_host_bindings.proofs.advancing.may_advance.Goals as goal
@@ -22,23 +21,18 @@ returns-then-is_quiet c =
     (binding_at c.host.inside c.args.host.now c.args.binding _ c.host.view_is c.in-Some.ensures)
     (sym c.is_quiet.ensures ∙ c.if-is_quiet.true)
 
-pub bounds-deref-place : goal.bounds-deref-place
-bounds-deref-place c =
-    subst (λ (ports : List Port). c.in-Some.place.now.endpoint < length ports) (sym c.deref.ensures.0)
+pub index-requires : goal.index-requires
+index-requires c =
+    let within =
     (home_within c.host.inside c.args.host.now c.args.binding _ c.host.view_is c.requires
-    (binding_at c.host.inside c.args.host.now c.args.binding _ c.host.view_is c.in-Some.ensures))
-
-pub offset_bounds-deref-place : goal.offset_bounds-deref-place
-offset_bounds-deref-place c =
-    let there = home_there c.args.host.now c.args.binding (binding_seen c.in-Some.place.now) c.requires
-    (binding_at c.host.inside c.args.host.now c.args.binding _ c.host.view_is c.in-Some.ensures) in
-    omega (arith, there, c.requires.few_parts)
+    (binding_at c.host.inside c.args.host.now c.args.binding _ c.host.view_is c.in-Some.ensures)) in
+    omega (arith, within)
 
 pub returns-then-not-is_open : goal.returns-then-not-is_open
 returns-then-not-is_open c =
     let found = binding_at c.host.inside c.args.host.now c.args.binding _ c.host.view_is c.in-Some.ensures in
-    let unit = unit_there c.host.inside c.args.host.now c.in-Some.place.now.endpoint c.deref.result.now c.index-deref-place.result c.host.view_is
-    (home_within c.host.inside c.args.host.now c.args.binding _ c.host.view_is c.requires found) c.deref.ensures.0 in
+    let unit = unit_there c.host.inside c.args.host.now c.in-Some.place.now.endpoint c.index.result.now c.host.view_is
+    (home_within c.host.inside c.args.host.now c.args.binding _ c.host.view_is c.requires found) c.index.ensures in
     in_reset c.args.host.now c.args.groups_open c.args.binding _ found
     (sym c.is_quiet.ensures ∙ c.if-is_quiet.false)
     (sym (c.is_open.ensures ∙ ap (λ u. u.is_open) unit) ∙ c.if-not-is_open.true)
@@ -46,8 +40,8 @@ returns-then-not-is_open c =
 pub returns-then-not-is_due : goal.returns-then-not-is_due
 returns-then-not-is_due c =
     let found = binding_at c.host.inside c.args.host.now c.args.binding _ c.host.view_is c.in-Some.ensures in
-    let unit = unit_there c.host.inside c.args.host.now c.in-Some.place.now.endpoint c.deref.result.now c.index-deref-place.result c.host.view_is
-    (home_within c.host.inside c.args.host.now c.args.binding _ c.host.view_is c.requires found) c.deref.ensures.0 in
+    let unit = unit_there c.host.inside c.args.host.now c.in-Some.place.now.endpoint c.index.result.now c.host.view_is
+    (home_within c.host.inside c.args.host.now c.args.binding _ c.host.view_is c.requires found) c.index.ensures in
     not_yet c.args.host.now c.args.groups_open c.args.binding _ found
     (sym c.is_quiet.ensures ∙ c.if-is_quiet.false)
     (sym (c.is_open.ensures ∙ ap (λ u. u.is_open) unit) ∙ c.if-not-is_open.false)
@@ -56,8 +50,8 @@ returns-then-not-is_due c =
 pub returns-then-descriptors-eq0 : goal.returns-then-descriptors-eq0
 returns-then-descriptors-eq0 c =
     let found = binding_at c.host.inside c.args.host.now c.args.binding _ c.host.view_is c.in-Some.ensures in
-    let unit = unit_there c.host.inside c.args.host.now c.in-Some.place.now.endpoint c.deref.result.now c.index-deref-place.result c.host.view_is
-    (home_within c.host.inside c.args.host.now c.args.binding _ c.host.view_is c.requires found) c.deref.ensures.0 in
+    let unit = unit_there c.host.inside c.args.host.now c.in-Some.place.now.endpoint c.index.result.now c.host.view_is
+    (home_within c.host.inside c.args.host.now c.args.binding _ c.host.view_is c.requires found) c.index.ensures in
     ap Ok c.next_course-then-descriptors-eq0.ensures
     ∙ settles_next c.args.host.now c.args.groups_open c.args.binding _ found
     (sym c.is_quiet.ensures ∙ c.if-is_quiet.false)
@@ -68,8 +62,8 @@ returns-then-descriptors-eq0 c =
 pub returns-then-not-has_room : goal.returns-then-not-has_room
 returns-then-not-has_room c =
     let found = binding_at c.host.inside c.args.host.now c.args.binding _ c.host.view_is c.in-Some.ensures in
-    let unit = unit_there c.host.inside c.args.host.now c.in-Some.place.now.endpoint c.deref.result.now c.index-deref-place.result c.host.view_is
-    (home_within c.host.inside c.args.host.now c.args.binding _ c.host.view_is c.requires found) c.deref.ensures.0 in
+    let unit = unit_there c.host.inside c.args.host.now c.in-Some.place.now.endpoint c.index.result.now c.host.view_is
+    (home_within c.host.inside c.args.host.now c.args.binding _ c.host.view_is c.requires found) c.index.ensures in
     queue_full c.args.host.now c.args.groups_open c.args.binding _ found
     (sym c.is_quiet.ensures ∙ c.if-is_quiet.false)
     (sym (c.is_open.ensures ∙ ap (λ u. u.is_open) unit) ∙ c.if-not-is_open.false)
@@ -80,8 +74,8 @@ returns-then-not-has_room c =
 pub returns-then-host-ge-NUMBERS : goal.returns-then-host-ge-NUMBERS
 returns-then-host-ge-NUMBERS c =
     let found = binding_at c.host.inside c.args.host.now c.args.binding _ c.host.view_is c.in-Some.ensures in
-    let unit = unit_there c.host.inside c.args.host.now c.in-Some.place.now.endpoint c.deref.result.now c.index-deref-place.result c.host.view_is
-    (home_within c.host.inside c.args.host.now c.args.binding _ c.host.view_is c.requires found) c.deref.ensures.0 in
+    let unit = unit_there c.host.inside c.args.host.now c.in-Some.place.now.endpoint c.index.result.now c.host.view_is
+    (home_within c.host.inside c.args.host.now c.args.binding _ c.host.view_is c.requires found) c.index.ensures in
     let next : c.host.inside.next_cookie ≡ c.args.host.now.next_cookie = ap (λ (w : Wire). w.next_cookie) c.host.view_is in
     let over : 2 ^ 63 ≤ c.args.host.now.next_cookie = omega (arith, c.if-host-ge-NUMBERS.true, next) in
     cookies_spent c.args.host.now c.args.groups_open c.args.binding _ found
@@ -95,8 +89,8 @@ returns-then-host-ge-NUMBERS c =
 pub returns : goal.returns
 returns c =
     let found = binding_at c.host.inside c.args.host.now c.args.binding _ c.host.view_is c.in-Some.ensures in
-    let unit = unit_there c.host.inside c.args.host.now c.in-Some.place.now.endpoint c.deref.result.now c.index-deref-place.result c.host.view_is
-    (home_within c.host.inside c.args.host.now c.args.binding _ c.host.view_is c.requires found) c.deref.ensures.0 in
+    let unit = unit_there c.host.inside c.args.host.now c.in-Some.place.now.endpoint c.index.result.now c.host.view_is
+    (home_within c.host.inside c.args.host.now c.args.binding _ c.host.view_is c.requires found) c.index.ensures in
     let next : c.host.inside.next_cookie ≡ c.args.host.now.next_cookie = ap (λ (w : Wire). w.next_cookie) c.host.view_is in
     let under : c.args.host.now.next_cookie < 2 ^ 63 = omega (arith, c.if-host-ge-NUMBERS.false, next) in
     ap Ok c.next_course-2.ensures

@@ -1,28 +1,20 @@
 use Rattle.std.proofs.Common.{◌≡◌, ap, sym, ◌∙◌, arith}
-use Rattle.std.specs.Prelude.{true, false, List, length}
+use Rattle.std.specs.Prelude.{true, false}
 use Rattle.sva_model.specs.Wire.{UnitWire}
 use Rattle.sva_model.specs.Wire.StageWire.{InvalidatingWire}
 use Rattle.sva_labels.specs.Finding.{is_wait_done}
-use Rattle.sva_host_state.specs.declared.host_state.Port.{Port}
 use Rattle.sva_host_state.proofs.Advances.{settles, settling_home, invalidating_there, settled}
 use Rattle.sva_host_state.proofs.Bound.{kind_in}
 use Rattle.sva_host_state.proofs.Moving.{moved_on}
 use Rattle.sva_host_state.proofs.TakenOut.{parts_seen, unit_there}
 use Rattle.sva_host_bindings.proofs.advancing.settle.Goals as goal
 
-pub bounds-deref-endpoint : goal.bounds-deref-endpoint
-bounds-deref-endpoint c =
+pub index-requires : goal.index-requires
+index-requires c =
     let is = settles c.args.host.now c.requires.may.0 c.args.binding c.args.endpoint c.requires.may.1 c.requires.may.0 in
     let there = settling_home c.args.host.now _ c.args.binding c.args.endpoint c.requires.sound is in
     let long = parts_seen c.host.inside c.args.host.now c.host.view_is in
-    let same = ap (λ (ports : List Port). length ports) c.deref.ensures.0 in
-    omega (arith, there, long, same)
-
-pub offset_bounds-deref-endpoint : goal.offset_bounds-deref-endpoint
-offset_bounds-deref-endpoint c =
-    let is = settles c.args.host.now c.requires.may.0 c.args.binding c.args.endpoint c.requires.may.1 c.requires.may.0 in
-    let there = settling_home c.args.host.now _ c.args.binding c.args.endpoint c.requires.sound is in
-    omega (arith, there, c.requires.sound.few_parts)
+    omega (arith, there, long)
 
 pub settle-requires : goal.settle-requires
 settle-requires c =
@@ -36,8 +28,8 @@ returns-then-not-settle-clause-step c h =
     let is = settles c.args.host.now c.requires.may.0 c.args.binding c.args.endpoint c.requires.may.1 h in
     let there = settling_home c.args.host.now _ c.args.binding c.args.endpoint c.requires.sound is in
     let long = parts_seen c.host.inside c.args.host.now c.host.view_is in
-    let unit = unit_there c.host.inside c.args.host.now c.args.endpoint c.deref.result.now c.index-deref-endpoint.result c.host.view_is
-    (omega (arith, there, long)) c.deref.ensures.0 in
+    let unit = unit_there c.host.inside c.args.host.now c.args.endpoint c.index.result.now c.host.view_is
+    (omega (arith, there, long)) c.index.ensures in
     let seen = invalidating_there c.host.inside c.args.host.now _ c.args.binding c.args.endpoint c.host.invariant c.host.view_is is in
     let done = ap (λ (u : UnitWire). is_wait_done u is.cookie) unit ∙ is.is_done in
     let wrong : false ≡ true = sym c.if-not-settle.true ∙ c.settle.ensures.due is.cookie seen done in

@@ -31,6 +31,7 @@ returns-then-is_err c =
 
 pub invariant_of-host-then-is_err : goal.invariant_of-host-then-is_err
 invariant_of-host-then-is_err c = record {
+  few = c.host.invariant.few;
   sound = c.host.invariant.sound;
   staged = back_staged c.host.inside.bindings c.begin.new.self c.take_back.new.self c.args.endpoint c.args.space c.host.inside.next_binding
       c.in-Ok.pasid c.in-Ok.ensures.places c.take_back.ensures c.host.invariant.staged;

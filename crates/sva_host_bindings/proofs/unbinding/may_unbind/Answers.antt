@@ -1,9 +1,6 @@
-use Rattle.std.proofs.Common.{◌≡◌, ◌<◌, ◌≤◌, ◌^◌, ap, sym, subst, ◌∙◌, arith}
-use Rattle.std.specs.Prelude.{List, length}
-use Rattle.sva_host_state.specs.declared.host_state.Port.{Port}
+use Rattle.std.proofs.Common.{◌≡◌, ◌<◌, ◌≤◌, ◌^◌, ap, sym, ◌∙◌, arith}
 use Rattle.sva_model.specs.Wire.{Wire}
-use Rattle.sva_host_state.specs.Bindings.{binding_seen}
-use Rattle.sva_host_state.proofs.Bound.{binding_at, home_there, home_within}
+use Rattle.sva_host_state.proofs.Bound.{binding_at, home_within}
 use Rattle.sva_host_state.proofs.TakenOut.{unit_there}
 use Rattle.sva_host_state.proofs.Unbinds.{no_such_binding, lost_ends, not_live, in_reset, messages_spent, is_stopped}
 use Rattle.sva_host_bindings.proofs.unbinding.may_unbind.Goals as goal
@@ -23,31 +20,26 @@ returns-then-not-is_live c =
     (sym c.is_lost.ensures ∙ c.if-is_lost.false)
     (sym c.is_live.ensures ∙ c.if-not-is_live.true)
 
-pub bounds-deref-place : goal.bounds-deref-place
-bounds-deref-place c =
-    subst (λ (ports : List Port). c.in-Some.place.now.endpoint < length ports) (sym c.deref.ensures.0)
+pub index-requires : goal.index-requires
+index-requires c =
+    let within =
     (home_within c.host.inside c.args.host.now c.args.binding _ c.host.view_is c.requires
-    (binding_at c.host.inside c.args.host.now c.args.binding _ c.host.view_is c.in-Some.ensures))
-
-pub offset_bounds-deref-place : goal.offset_bounds-deref-place
-offset_bounds-deref-place c =
-    let there = home_there c.args.host.now c.args.binding (binding_seen c.in-Some.place.now) c.requires
-    (binding_at c.host.inside c.args.host.now c.args.binding _ c.host.view_is c.in-Some.ensures) in
-    omega (arith, there, c.requires.few_parts)
+    (binding_at c.host.inside c.args.host.now c.args.binding _ c.host.view_is c.in-Some.ensures)) in
+    omega (arith, within)
 
 pub returns-then-not-is_open : goal.returns-then-not-is_open
 returns-then-not-is_open c =
     let found = binding_at c.host.inside c.args.host.now c.args.binding _ c.host.view_is c.in-Some.ensures in
-    let unit = unit_there c.host.inside c.args.host.now c.in-Some.place.now.endpoint c.deref.result.now c.index-deref-place.result c.host.view_is
-    (home_within c.host.inside c.args.host.now c.args.binding _ c.host.view_is c.requires found) c.deref.ensures.0 in
+    let unit = unit_there c.host.inside c.args.host.now c.in-Some.place.now.endpoint c.index.result.now c.host.view_is
+    (home_within c.host.inside c.args.host.now c.args.binding _ c.host.view_is c.requires found) c.index.ensures in
     in_reset c.args.host.now c.args.binding _ found (sym c.is_lost.ensures ∙ c.if-is_lost.false) (sym c.is_live.ensures ∙ c.if-not-is_live.false)
     (sym (c.is_open.ensures ∙ ap (λ u. u.is_open) unit) ∙ c.if-not-is_open.true)
 
 pub returns-then-left-eq0 : goal.returns-then-left-eq0
 returns-then-left-eq0 c =
     let found = binding_at c.host.inside c.args.host.now c.args.binding _ c.host.view_is c.in-Some.ensures in
-    let unit = unit_there c.host.inside c.args.host.now c.in-Some.place.now.endpoint c.deref.result.now c.index-deref-place.result c.host.view_is
-    (home_within c.host.inside c.args.host.now c.args.binding _ c.host.view_is c.requires found) c.deref.ensures.0 in
+    let unit = unit_there c.host.inside c.args.host.now c.in-Some.place.now.endpoint c.index.result.now c.host.view_is
+    (home_within c.host.inside c.args.host.now c.args.binding _ c.host.view_is c.requires found) c.index.ensures in
     let next : c.host.inside.in_flight.next ≡ c.args.host.now.next_message = ap (λ (w : Wire). w.next_message) c.host.view_is in
     let over : 2 ^ 63 ≤ c.args.host.now.next_message = omega (arith, c.left.ensures.left, c.if-left-eq0.true, next) in
     messages_spent c.args.host.now c.args.binding _ found (sym c.is_lost.ensures ∙ c.if-is_lost.false) (sym c.is_live.ensures ∙ c.if-not-is_live.false)
@@ -56,8 +48,8 @@ returns-then-left-eq0 c =
 pub returns : goal.returns
 returns c =
     let found = binding_at c.host.inside c.args.host.now c.args.binding _ c.host.view_is c.in-Some.ensures in
-    let unit = unit_there c.host.inside c.args.host.now c.in-Some.place.now.endpoint c.deref.result.now c.index-deref-place.result c.host.view_is
-    (home_within c.host.inside c.args.host.now c.args.binding _ c.host.view_is c.requires found) c.deref.ensures.0 in
+    let unit = unit_there c.host.inside c.args.host.now c.in-Some.place.now.endpoint c.index.result.now c.host.view_is
+    (home_within c.host.inside c.args.host.now c.args.binding _ c.host.view_is c.requires found) c.index.ensures in
     let next : c.host.inside.in_flight.next ≡ c.args.host.now.next_message = ap (λ (w : Wire). w.next_message) c.host.view_is in
     let under : c.args.host.now.next_message < 2 ^ 63 = omega (arith, c.left.ensures.left, c.if-left-eq0.false, next) in
     is_stopped c.args.host.now c.args.binding _ found (sym c.is_lost.ensures ∙ c.if-is_lost.false) (sym c.is_live.ensures ∙ c.if-not-is_live.false)

@@ -1,5 +1,5 @@
 use Rattle.std.proofs.Common.{sym, ap, subst, arith, refl}
-use Rattle.std.specs.Prelude.{is_ok, slice_index_or}
+use Rattle.std.specs.Prelude.{is_ok}
 use Rattle.sva_step.specs.declared.answers.Answer.TheVariants as answer
 use Rattle.sva_step.specs.declared.steps.Step.TheVariants as step
 use Rattle.sva_endpoint.specs.Calls as call
@@ -16,15 +16,15 @@ use Rattle.sva_host_endpoints.proofs.endpoints.ask.Goals as goal
 
 pub returns-in_err-asking : goal.returns-in_err-asking
 returns-in_err-asking c =
-    let is = port_found c.host.inside _ c.args.endpoint c.in_ok-at.at _ c.index-deref-at.result c.host.invariant c.host.view_is c.in_ok-at.ensures
-    c.deref.ensures.0 in
+    let is = port_found c.host.inside _ c.args.endpoint c.in_ok-at.at c.index.result.now c.host.invariant c.host.view_is c.in_ok-at.ensures
+    c.index.ensures in
     kept _ _ (step.Ask c.args.endpoint c.args.pasid c.args.page) _ _ c.host.view_is c.from_residual-in_err-asking.ensures
     (ask_refused c.host.inside c.args.endpoint c.args.pasid c.args.page _ _ is c.in_err-asking.ensures.answer)
 
 pub returns-in_err-send : goal.returns-in_err-send
 returns-in_err-send c =
-    let is = port_found c.host.inside _ c.args.endpoint c.in_ok-at.at _ c.index-deref-at.result c.host.invariant c.host.view_is c.in_ok-at.ensures
-    c.deref.ensures.0 in
+    let is = port_found c.host.inside _ c.args.endpoint c.in_ok-at.at c.index.result.now c.host.invariant c.host.view_is c.in_ok-at.ensures
+    c.index.ensures in
     went _ _ (wire_of (record c.host.inside { in_flight = c.send.new.bag })) (step.Ask c.args.endpoint c.args.pasid c.args.page) _ _ c.host.view_is
     c.from_residual-in_err-send.ensures
     (ask_unsent c.host.inside c.args.endpoint c.args.pasid c.args.page _ c.in_ok-asking.asking c.kind.result _ _ is c.in_ok-asking.ensures.answer
@@ -32,29 +32,29 @@ returns-in_err-send c =
 
 pub invariant_of-host-2 : goal.invariant_of-host-2
 invariant_of-host-2 c =
-    let is = port_found c.host.inside _ c.args.endpoint c.in_ok-at.at _ c.index-deref-at.result c.host.invariant c.host.view_is c.in_ok-at.ensures
-    c.deref.ensures.0 in
+    let is = port_found c.host.inside _ c.args.endpoint c.in_ok-at.at c.index.result.now c.host.invariant c.host.view_is c.in_ok-at.ensures
+    c.index.ensures in
     let tables = λ (s : Tables). after_ask s c.args.pasid c.args.page in
-    with_tables_host c.host.inside c.args.endpoint (slice_index_or c.deref.result.now c.in_ok-at.at c.index-deref-at.result) _ c.send.new.bag _
+    with_tables_host c.host.inside _ c.args.endpoint c.index.result.now _
     c.host.invariant
     (sound_after _ (call.Ask c.args.pasid c.args.page) (ap is_ok (sym c.in_ok-asking.ensures.answer)) is.sound)
-    (rewritten c.host.inside _ c.args.endpoint c.in_ok-at.at _ _ c.index-deref-at.result c.index-deref_mut-at.result c.ask.new.self tables
-    c.host.view_is c.in_ok-at.ensures c.deref.ensures.0 c.deref_mut.ensures.value
-    (left_by_ask (slice_index_or c.deref_mut.result.now c.in_ok-at.at c.index-deref_mut-at.result).device c.ask.new.self
+    (rewritten c.host.inside _ c.args.endpoint c.in_ok-at.at c.index.result.now c.index_mut.result.now c.ask.new.self tables
+    c.host.view_is c.in_ok-at.ensures c.index.ensures c.index_mut.ensures.value
+    (left_by_ask c.index_mut.result.now.device c.ask.new.self
     c.args.pasid c.args.page c.in_ok-asking.asking
-    (slice_index_or c.deref.result.now c.in_ok-at.at c.index-deref-at.result).device c.in_ok-asking.ensures.answer c.ask.ensures))
+    c.index.result.now.device c.in_ok-asking.ensures.answer c.ask.ensures)) refl
 
 pub returns : goal.returns
 returns c =
-    let is = port_found c.host.inside _ c.args.endpoint c.in_ok-at.at _ c.index-deref-at.result c.host.invariant c.host.view_is c.in_ok-at.ensures
-    c.deref.ensures.0 in
+    let is = port_found c.host.inside _ c.args.endpoint c.in_ok-at.at c.index.result.now c.host.invariant c.host.view_is c.in_ok-at.ensures
+    c.index.ensures in
     let tables = λ (s : Tables). after_ask s c.args.pasid c.args.page in
     ended c.host.inside _ (step.Ask c.args.endpoint c.args.pasid c.args.page) (answer.Tag c.in_ok-asking.asking.tag) _ _ _ c.send.new.bag c.host.view_is
-    (rewritten c.host.inside _ c.args.endpoint c.in_ok-at.at _ _ c.index-deref-at.result c.index-deref_mut-at.result c.ask.new.self tables
-    c.host.view_is c.in_ok-at.ensures c.deref.ensures.0 c.deref_mut.ensures.value
-    (left_by_ask (slice_index_or c.deref_mut.result.now c.in_ok-at.at c.index-deref_mut-at.result).device c.ask.new.self
+    (rewritten c.host.inside _ c.args.endpoint c.in_ok-at.at c.index.result.now c.index_mut.result.now c.ask.new.self tables
+    c.host.view_is c.in_ok-at.ensures c.index.ensures c.index_mut.ensures.value
+    (left_by_ask c.index_mut.result.now.device c.ask.new.self
     c.args.pasid c.args.page c.in_ok-asking.asking
-    (slice_index_or c.deref.result.now c.in_ok-at.at c.index-deref-at.result).device c.in_ok-asking.ensures.answer c.ask.ensures))
+    c.index.result.now.device c.in_ok-asking.ensures.answer c.ask.ensures))
     refl
     (ask_done c.host.inside c.args.endpoint c.args.pasid c.args.page _ c.in_ok-asking.asking c.kind.result c.send.new.bag is c.in_ok-asking.ensures.answer
     c.kind.ensures c.in_ok-send.ensures.sends)
@@ -73,16 +73,8 @@ returns-in_err-at c =
     kept _ _ (step.Ask c.args.endpoint c.args.pasid c.args.page) _ _ refl c.from_residual.ensures
     (ask_nowhere c.args.host.now c.args.endpoint c.args.pasid c.args.page _ c.in_err-at.ensures)
 
-pub deref-requires : goal.deref-requires
-deref-requires c = omega arith
-
-pub offset_bounds-deref-at : goal.offset_bounds-deref-at
-offset_bounds-deref-at c =
-    let there = within c.host.inside _ c.args.endpoint c.in_ok-at.at _ c.host.invariant c.host.view_is c.in_ok-at.ensures c.deref.ensures.0 in
-    omega (arith, there, c.deref.type_inv)
-
-pub bounds-deref-at : goal.bounds-deref-at
-bounds-deref-at c = within c.host.inside _ c.args.endpoint c.in_ok-at.at _ c.host.invariant c.host.view_is c.in_ok-at.ensures c.deref.ensures.0
+pub index-requires : goal.index-requires
+index-requires c = within c.host.inside _ c.args.endpoint c.in_ok-at.at c.host.view_is c.in_ok-at.ensures
 
 pub may_ask-requires : goal.may_ask-requires
 may_ask-requires c = tt
@@ -106,23 +98,15 @@ pub from_residual-requires-in_err-send : goal.from_residual-requires-in_err-send
 from_residual-requires-in_err-send c κs = (none_in _, (none_in _, none_in _))
 
 pub invariant_of-host : goal.invariant_of-host
-invariant_of-host c = record { sound = c.host.invariant.sound; staged = c.host.invariant.staged }
+invariant_of-host c = record { few = c.host.invariant.few; sound = c.host.invariant.sound; staged = c.host.invariant.staged }
 
-pub deref_mut-requires : goal.deref_mut-requires
-deref_mut-requires c = omega arith
-
-pub offset_bounds-deref_mut-at : goal.offset_bounds-deref_mut-at
-offset_bounds-deref_mut-at c =
-    let there = within c.host.inside _ c.args.endpoint c.in_ok-at.at _ c.host.invariant c.host.view_is c.in_ok-at.ensures c.deref_mut.ensures.value in
-    omega (arith, there, c.deref_mut.ensures.fits)
-
-pub bounds-deref_mut-at : goal.bounds-deref_mut-at
-bounds-deref_mut-at c = within c.host.inside _ c.args.endpoint c.in_ok-at.at _ c.host.invariant c.host.view_is c.in_ok-at.ensures c.deref_mut.ensures.value
+pub index_mut-requires : goal.index_mut-requires
+index_mut-requires c = within c.host.inside _ c.args.endpoint c.in_ok-at.at c.host.view_is c.in_ok-at.ensures
 
 pub ask-requires : goal.ask-requires
 ask-requires c =
     subst (λ (p : Port). MayAsk p.device c.in_ok-asking.asking)
     (sym
-    (same_port c.host.inside _ c.args.endpoint c.in_ok-at.at _ _ c.index-deref-at.result c.index-deref_mut-at.result c.host.view_is
-    c.in_ok-at.ensures c.deref.ensures.0 c.deref_mut.ensures.value))
+    (same_port c.host.inside _ c.args.endpoint c.in_ok-at.at c.index.result.now c.index_mut.result.now c.host.view_is
+    c.in_ok-at.ensures c.index.ensures c.index_mut.ensures.value))
     c.in_ok-asking.ensures.may

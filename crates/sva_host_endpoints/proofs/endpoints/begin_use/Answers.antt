@@ -1,5 +1,5 @@
-use Rattle.std.proofs.Common.{sym, ap, subst, refl, arith}
-use Rattle.std.specs.Prelude.{is_ok, slice_index_or}
+use Rattle.std.proofs.Common.{sym, ap, subst, refl}
+use Rattle.std.specs.Prelude.{is_ok}
 use Rattle.sva_step.specs.declared.answers.Answer.TheVariants as answer
 use Rattle.sva_step.specs.declared.steps.Step.TheVariants as step
 use Rattle.sva_endpoint.specs.Calls as call
@@ -16,37 +16,36 @@ use Rattle.sva_host_endpoints.proofs.endpoints.begin_use.Goals as goal
 
 pub returns-in_err-using-clause-step : goal.returns-in_err-using-clause-step
 returns-in_err-using-clause-step c =
-    let is = port_found c.host.inside _ c.args.endpoint c.in_ok-at.at _ c.index-deref-at.result c.host.invariant c.host.view_is c.in_ok-at.ensures
-    c.deref.ensures.0 in
+    let is = port_found c.host.inside _ c.args.endpoint c.in_ok-at.at c.index.result.now c.host.invariant c.host.view_is c.in_ok-at.ensures
+    c.index.ensures in
     kept _ _ (step.BeginUse c.args.endpoint c.args.pasid c.args.page c.args.write) _ _ c.host.view_is c.from_residual-in_err-using.ensures
     (use_refused c.host.inside c.args.endpoint c.args.pasid c.args.page c.args.write _ _ is c.in_err-using.ensures.answer)
 
 pub invariant_of-host : goal.invariant_of-host
 invariant_of-host c =
-    let is = port_found c.host.inside _ c.args.endpoint c.in_ok-at.at _ c.index-deref-at.result c.host.invariant c.host.view_is c.in_ok-at.ensures
-    c.deref.ensures.0 in
+    let is = port_found c.host.inside _ c.args.endpoint c.in_ok-at.at c.index.result.now c.host.invariant c.host.view_is c.in_ok-at.ensures
+    c.index.ensures in
     let tables = λ (s : Tables). after_begin_use s c.args.pasid c.args.page in
-    with_tables_host c.host.inside c.args.endpoint (slice_index_or c.deref.result.now c.in_ok-at.at c.index-deref-at.result) _
-    c.host.inside.in_flight _ c.host.invariant
+    with_tables_host c.host.inside _ c.args.endpoint c.index.result.now _ c.host.invariant
     (sound_after _ (call.BeginUse c.args.pasid c.args.page c.args.write) (ap is_ok (sym c.in_ok-using.ensures.answer)) is.sound)
-    (rewritten c.host.inside _ c.args.endpoint c.in_ok-at.at _ _ c.index-deref-at.result c.index-deref_mut-at.result c.begin_use.new.self
-    tables c.host.view_is c.in_ok-at.ensures c.deref.ensures.0 c.deref_mut.ensures.value
-    (left_by_use (slice_index_or c.deref_mut.result.now c.in_ok-at.at c.index-deref_mut-at.result).device
+    (rewritten c.host.inside _ c.args.endpoint c.in_ok-at.at c.index.result.now c.index_mut.result.now c.begin_use.new.self
+    tables c.host.view_is c.in_ok-at.ensures c.index.ensures c.index_mut.ensures.value
+    (left_by_use c.index_mut.result.now.device
     c.begin_use.new.self c.args.pasid c.args.page c.args.write c.in_ok-using.using
-    (slice_index_or c.deref.result.now c.in_ok-at.at c.index-deref-at.result).device c.in_ok-using.ensures.answer c.begin_use.ensures))
+    c.index.result.now.device c.in_ok-using.ensures.answer c.begin_use.ensures)) refl
 
 pub returns-clause-step : goal.returns-clause-step
 returns-clause-step c =
-    let is = port_found c.host.inside _ c.args.endpoint c.in_ok-at.at _ c.index-deref-at.result c.host.invariant c.host.view_is c.in_ok-at.ensures
-    c.deref.ensures.0 in
+    let is = port_found c.host.inside _ c.args.endpoint c.in_ok-at.at c.index.result.now c.host.invariant c.host.view_is c.in_ok-at.ensures
+    c.index.ensures in
     let tables = λ (s : Tables). after_begin_use s c.args.pasid c.args.page in
     ended c.host.inside _ (step.BeginUse c.args.endpoint c.args.pasid c.args.page c.args.write)
     (answer.Use c.in_ok-using.using.slot c.in_ok-using.using.begun.frame) _ _ _ c.host.inside.in_flight c.host.view_is
-    (rewritten c.host.inside _ c.args.endpoint c.in_ok-at.at _ _ c.index-deref-at.result c.index-deref_mut-at.result c.begin_use.new.self
-    tables c.host.view_is c.in_ok-at.ensures c.deref.ensures.0 c.deref_mut.ensures.value
-    (left_by_use (slice_index_or c.deref_mut.result.now c.in_ok-at.at c.index-deref_mut-at.result).device
+    (rewritten c.host.inside _ c.args.endpoint c.in_ok-at.at c.index.result.now c.index_mut.result.now c.begin_use.new.self
+    tables c.host.view_is c.in_ok-at.ensures c.index.ensures c.index_mut.ensures.value
+    (left_by_use c.index_mut.result.now.device
     c.begin_use.new.self c.args.pasid c.args.page c.args.write c.in_ok-using.using
-    (slice_index_or c.deref.result.now c.in_ok-at.at c.index-deref-at.result).device c.in_ok-using.ensures.answer c.begin_use.ensures))
+    c.index.result.now.device c.in_ok-using.ensures.answer c.begin_use.ensures))
     (refl)
     (use_done c.host.inside c.args.endpoint c.args.pasid c.args.page c.args.write _ c.in_ok-using.using is c.in_ok-using.ensures.answer)
 
@@ -56,7 +55,7 @@ returns-in_err-at-clause-memory c = not_for_memory _ _ c.from_residual.ensures (
 pub returns-in_err-using-clause-memory : goal.returns-in_err-using-clause-memory
 returns-in_err-using-clause-memory c =
     not_for_memory _ _ c.from_residual-in_err-using.ensures
-    (use_other (slice_index_or c.deref.result.now c.in_ok-at.at c.index-deref-at.result).device c.args.pasid c.args.page
+    (use_other c.index.result.now.device c.args.pasid c.args.page
     c.args.write _ c.in_err-using.ensures.answer)
 
 pub port-requires : goal.port-requires
@@ -73,16 +72,8 @@ returns-in_err-at-clause-step c =
     kept _ _ (step.BeginUse c.args.endpoint c.args.pasid c.args.page c.args.write) _ _ refl c.from_residual.ensures
     (begin_use_nowhere c.args.host.now c.args.endpoint c.args.pasid c.args.page c.args.write _ c.in_err-at.ensures)
 
-pub deref-requires : goal.deref-requires
-deref-requires c = omega arith
-
-pub offset_bounds-deref-at : goal.offset_bounds-deref-at
-offset_bounds-deref-at c =
-    let there = within c.host.inside _ c.args.endpoint c.in_ok-at.at _ c.host.invariant c.host.view_is c.in_ok-at.ensures c.deref.ensures.0 in
-    omega (arith, there, c.deref.type_inv)
-
-pub bounds-deref-at : goal.bounds-deref-at
-bounds-deref-at c = within c.host.inside _ c.args.endpoint c.in_ok-at.at _ c.host.invariant c.host.view_is c.in_ok-at.ensures c.deref.ensures.0
+pub index-requires : goal.index-requires
+index-requires c = within c.host.inside _ c.args.endpoint c.in_ok-at.at c.host.view_is c.in_ok-at.ensures
 
 pub may_begin_use-requires : goal.may_begin_use-requires
 may_begin_use-requires c = tt
@@ -93,23 +84,15 @@ branch-using-requires c κs = (none_in _, none_in _)
 pub from_residual-requires-in_err-using : goal.from_residual-requires-in_err-using
 from_residual-requires-in_err-using c κs = (none_in _, (none_in _, none_in _))
 
-pub deref_mut-requires : goal.deref_mut-requires
-deref_mut-requires c = omega arith
-
-pub offset_bounds-deref_mut-at : goal.offset_bounds-deref_mut-at
-offset_bounds-deref_mut-at c =
-    let there = within c.host.inside _ c.args.endpoint c.in_ok-at.at _ c.host.invariant c.host.view_is c.in_ok-at.ensures c.deref_mut.ensures.value in
-    omega (arith, there, c.deref_mut.ensures.fits)
-
-pub bounds-deref_mut-at : goal.bounds-deref_mut-at
-bounds-deref_mut-at c = within c.host.inside _ c.args.endpoint c.in_ok-at.at _ c.host.invariant c.host.view_is c.in_ok-at.ensures c.deref_mut.ensures.value
+pub index_mut-requires : goal.index_mut-requires
+index_mut-requires c = within c.host.inside _ c.args.endpoint c.in_ok-at.at c.host.view_is c.in_ok-at.ensures
 
 pub begin_use-requires : goal.begin_use-requires
 begin_use-requires c =
     subst (λ (p : Port). MayBeginUse p.device c.in_ok-using.using)
     (sym
-    (same_port c.host.inside _ c.args.endpoint c.in_ok-at.at _ _ c.index-deref-at.result c.index-deref_mut-at.result c.host.view_is
-    c.in_ok-at.ensures c.deref.ensures.0 c.deref_mut.ensures.value))
+    (same_port c.host.inside _ c.args.endpoint c.in_ok-at.at c.index.result.now c.index_mut.result.now c.host.view_is
+    c.in_ok-at.ensures c.index.ensures c.index_mut.ensures.value))
     c.in_ok-using.ensures.may
 
 pub returns-clause-memory : goal.returns-clause-memory

@@ -1,5 +1,5 @@
-use Rattle.std.proofs.Common.{sym, ap, refl, arith, ◌∙◌}
-use Rattle.std.specs.Prelude.{is_ok, slice_index_or}
+use Rattle.std.proofs.Common.{sym, ap, refl, ◌∙◌}
+use Rattle.std.specs.Prelude.{is_ok}
 use Rattle.sva_step.specs.declared.answers.Answer.TheVariants as answer
 use Rattle.sva_step.specs.declared.steps.Step.TheVariants as step
 use Rattle.sva_endpoint.specs.Calls as call
@@ -16,30 +16,29 @@ use Rattle.sva_host_endpoints.proofs.endpoints.evict.Goals as goal
 
 pub returns-in_err-may_evict-clause-step : goal.returns-in_err-may_evict-clause-step
 returns-in_err-may_evict-clause-step c =
-    let is = port_found c.host.inside _ c.args.endpoint c.in_ok-at.at _ c.index-deref-at.result c.host.invariant c.host.view_is c.in_ok-at.ensures
-    c.deref.ensures.0 in
+    let is = port_found c.host.inside _ c.args.endpoint c.in_ok-at.at c.index.result.now c.host.invariant c.host.view_is c.in_ok-at.ensures
+    c.index.ensures in
     kept _ _ (step.Evict c.args.endpoint c.args.pasid c.args.page) _ _ c.host.view_is c.from_residual-in_err-may_evict.ensures
     (evict_refused c.host.inside c.args.endpoint c.args.pasid c.args.page _ _ is c.in_err-may_evict.ensures)
 
 pub invariant_of-host : goal.invariant_of-host
 invariant_of-host c =
-    let is = port_found c.host.inside _ c.args.endpoint c.in_ok-at.at _ c.index-deref-at.result c.host.invariant c.host.view_is c.in_ok-at.ensures
-    c.deref.ensures.0 in
+    let is = port_found c.host.inside _ c.args.endpoint c.in_ok-at.at c.index.result.now c.host.invariant c.host.view_is c.in_ok-at.ensures
+    c.index.ensures in
     let tables = λ (s : Tables). after_evict s c.args.pasid c.args.page in
-    with_tables_host c.host.inside c.args.endpoint (slice_index_or c.deref.result.now c.in_ok-at.at c.index-deref-at.result) _
-    c.host.inside.in_flight _ c.host.invariant
+    with_tables_host c.host.inside _ c.args.endpoint c.index.result.now _ c.host.invariant
     (sound_after _ (call.Evict c.args.pasid c.args.page) (ap is_ok (sym c.in_ok-may_evict.ensures)) is.sound)
-    (rewritten c.host.inside _ c.args.endpoint c.in_ok-at.at _ _ c.index-deref-at.result c.index-deref_mut-at.result c.evict.new.self tables
-    c.host.view_is c.in_ok-at.ensures c.deref.ensures.0 c.deref_mut.ensures.value c.evict.ensures)
+    (rewritten c.host.inside _ c.args.endpoint c.in_ok-at.at c.index.result.now c.index_mut.result.now c.evict.new.self tables
+    c.host.view_is c.in_ok-at.ensures c.index.ensures c.index_mut.ensures.value c.evict.ensures) refl
 
 pub returns-clause-step : goal.returns-clause-step
 returns-clause-step c =
-    let is = port_found c.host.inside _ c.args.endpoint c.in_ok-at.at _ c.index-deref-at.result c.host.invariant c.host.view_is c.in_ok-at.ensures
-    c.deref.ensures.0 in
+    let is = port_found c.host.inside _ c.args.endpoint c.in_ok-at.at c.index.result.now c.host.invariant c.host.view_is c.in_ok-at.ensures
+    c.index.ensures in
     let tables = λ (s : Tables). after_evict s c.args.pasid c.args.page in
     ended c.host.inside _ (step.Evict c.args.endpoint c.args.pasid c.args.page) (answer.Evicted) _ _ _ c.host.inside.in_flight c.host.view_is
-    (rewritten c.host.inside _ c.args.endpoint c.in_ok-at.at _ _ c.index-deref-at.result c.index-deref_mut-at.result c.evict.new.self tables
-    c.host.view_is c.in_ok-at.ensures c.deref.ensures.0 c.deref_mut.ensures.value c.evict.ensures)
+    (rewritten c.host.inside _ c.args.endpoint c.in_ok-at.at c.index.result.now c.index_mut.result.now c.evict.new.self tables
+    c.host.view_is c.in_ok-at.ensures c.index.ensures c.index_mut.ensures.value c.evict.ensures)
     (refl)
     (evict_done c.host.inside c.args.endpoint c.args.pasid c.args.page _ is c.in_ok-may_evict.ensures)
 
@@ -49,7 +48,7 @@ returns-in_err-at-clause-memory c = not_for_memory _ _ c.from_residual.ensures (
 pub returns-in_err-may_evict-clause-memory : goal.returns-in_err-may_evict-clause-memory
 returns-in_err-may_evict-clause-memory c =
     not_for_memory _ _ c.from_residual-in_err-may_evict.ensures
-    (evict_other (slice_index_or c.deref.result.now c.in_ok-at.at c.index-deref-at.result).device c.args.pasid c.args.page _ c.in_err-may_evict.ensures)
+    (evict_other c.index.result.now.device c.args.pasid c.args.page _ c.in_err-may_evict.ensures)
 
 pub port-requires : goal.port-requires
 port-requires c = tt
@@ -65,16 +64,8 @@ returns-in_err-at-clause-step c =
     kept _ _ (step.Evict c.args.endpoint c.args.pasid c.args.page) _ _ refl c.from_residual.ensures
     (evict_nowhere c.args.host.now c.args.endpoint c.args.pasid c.args.page _ c.in_err-at.ensures)
 
-pub deref-requires : goal.deref-requires
-deref-requires c = omega arith
-
-pub offset_bounds-deref-at : goal.offset_bounds-deref-at
-offset_bounds-deref-at c =
-    let there = within c.host.inside _ c.args.endpoint c.in_ok-at.at _ c.host.invariant c.host.view_is c.in_ok-at.ensures c.deref.ensures.0 in
-    omega (arith, there, c.deref.type_inv)
-
-pub bounds-deref-at : goal.bounds-deref-at
-bounds-deref-at c = within c.host.inside _ c.args.endpoint c.in_ok-at.at _ c.host.invariant c.host.view_is c.in_ok-at.ensures c.deref.ensures.0
+pub index-requires : goal.index-requires
+index-requires c = within c.host.inside _ c.args.endpoint c.in_ok-at.at c.host.view_is c.in_ok-at.ensures
 
 pub may_evict-requires : goal.may_evict-requires
 may_evict-requires c = tt
@@ -85,22 +76,14 @@ branch-may_evict-requires c κs = (none_in _, none_in _)
 pub from_residual-requires-in_err-may_evict : goal.from_residual-requires-in_err-may_evict
 from_residual-requires-in_err-may_evict c κs = (none_in _, (none_in _, none_in _))
 
-pub deref_mut-requires : goal.deref_mut-requires
-deref_mut-requires c = omega arith
-
-pub offset_bounds-deref_mut-at : goal.offset_bounds-deref_mut-at
-offset_bounds-deref_mut-at c =
-    let there = within c.host.inside _ c.args.endpoint c.in_ok-at.at _ c.host.invariant c.host.view_is c.in_ok-at.ensures c.deref_mut.ensures.value in
-    omega (arith, there, c.deref_mut.ensures.fits)
-
-pub bounds-deref_mut-at : goal.bounds-deref_mut-at
-bounds-deref_mut-at c = within c.host.inside _ c.args.endpoint c.in_ok-at.at _ c.host.invariant c.host.view_is c.in_ok-at.ensures c.deref_mut.ensures.value
+pub index_mut-requires : goal.index_mut-requires
+index_mut-requires c = within c.host.inside _ c.args.endpoint c.in_ok-at.at c.host.view_is c.in_ok-at.ensures
 
 pub evict-requires : goal.evict-requires
 evict-requires c =
     ap (λ (p : Port). is_ok (evicting p.device c.args.pasid c.args.page))
-    (same_port c.host.inside _ c.args.endpoint c.in_ok-at.at _ _ c.index-deref-at.result c.index-deref_mut-at.result c.host.view_is
-    c.in_ok-at.ensures c.deref.ensures.0 c.deref_mut.ensures.value)
+    (same_port c.host.inside _ c.args.endpoint c.in_ok-at.at c.index.result.now c.index_mut.result.now c.host.view_is
+    c.in_ok-at.ensures c.index.ensures c.index_mut.ensures.value)
     ∙ ap is_ok (sym c.in_ok-may_evict.ensures)
 
 pub returns-clause-memory : goal.returns-clause-memory

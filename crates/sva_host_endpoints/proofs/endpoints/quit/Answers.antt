@@ -1,5 +1,5 @@
 use Rattle.std.proofs.Common.{sym, ap, subst, refl, arith}
-use Rattle.std.specs.Prelude.{is_ok, slice_index_or}
+use Rattle.std.specs.Prelude.{is_ok}
 use Rattle.sva_step.specs.declared.answers.Answer.TheVariants as answer
 use Rattle.sva_step.specs.declared.steps.Step.TheVariants as step
 use Rattle.sva_endpoint.specs.Calls as call
@@ -16,15 +16,15 @@ use Rattle.sva_host_endpoints.proofs.endpoints.quit.Goals as goal
 
 pub returns-in_err-quitting : goal.returns-in_err-quitting
 returns-in_err-quitting c =
-    let is = port_found c.host.inside _ c.args.endpoint c.in_ok-at.at _ c.index-deref-at.result c.host.invariant c.host.view_is c.in_ok-at.ensures
-    c.deref.ensures.0 in
+    let is = port_found c.host.inside _ c.args.endpoint c.in_ok-at.at c.index.result.now c.host.invariant c.host.view_is c.in_ok-at.ensures
+    c.index.ensures in
     kept _ _ (step.Quit c.args.endpoint c.args.pasid) _ _ c.host.view_is c.from_residual-in_err-quitting.ensures
     (quit_refused c.host.inside c.args.endpoint c.args.pasid _ _ is c.in_err-quitting.ensures.answer)
 
 pub returns-in_err-send : goal.returns-in_err-send
 returns-in_err-send c =
-    let is = port_found c.host.inside _ c.args.endpoint c.in_ok-at.at _ c.index-deref-at.result c.host.invariant c.host.view_is c.in_ok-at.ensures
-    c.deref.ensures.0 in
+    let is = port_found c.host.inside _ c.args.endpoint c.in_ok-at.at c.index.result.now c.host.invariant c.host.view_is c.in_ok-at.ensures
+    c.index.ensures in
     went _ _ (wire_of (record c.host.inside { in_flight = c.send.new.bag })) (step.Quit c.args.endpoint c.args.pasid) _ _ c.host.view_is
     c.from_residual-in_err-send.ensures
     (quit_unsent c.host.inside c.args.endpoint c.args.pasid _ c.in_ok-quitting.quitting c.kind.result _ _ is c.in_ok-quitting.ensures.answer
@@ -32,29 +32,29 @@ returns-in_err-send c =
 
 pub invariant_of-host-2 : goal.invariant_of-host-2
 invariant_of-host-2 c =
-    let is = port_found c.host.inside _ c.args.endpoint c.in_ok-at.at _ c.index-deref-at.result c.host.invariant c.host.view_is c.in_ok-at.ensures
-    c.deref.ensures.0 in
+    let is = port_found c.host.inside _ c.args.endpoint c.in_ok-at.at c.index.result.now c.host.invariant c.host.view_is c.in_ok-at.ensures
+    c.index.ensures in
     let tables = λ (s : Tables). after_quit s c.args.pasid in
-    with_tables_host c.host.inside c.args.endpoint (slice_index_or c.deref.result.now c.in_ok-at.at c.index-deref-at.result) _ c.send.new.bag _
+    with_tables_host c.host.inside _ c.args.endpoint c.index.result.now _
     c.host.invariant
     (sound_after _ (call.Quit c.args.pasid) (ap is_ok (sym c.in_ok-quitting.ensures.answer)) is.sound)
-    (rewritten c.host.inside _ c.args.endpoint c.in_ok-at.at _ _ c.index-deref-at.result c.index-deref_mut-at.result c.quit.new.self tables
-    c.host.view_is c.in_ok-at.ensures c.deref.ensures.0 c.deref_mut.ensures.value
-    (left_by_quit (slice_index_or c.deref_mut.result.now c.in_ok-at.at c.index-deref_mut-at.result).device
+    (rewritten c.host.inside _ c.args.endpoint c.in_ok-at.at c.index.result.now c.index_mut.result.now c.quit.new.self tables
+    c.host.view_is c.in_ok-at.ensures c.index.ensures c.index_mut.ensures.value
+    (left_by_quit c.index_mut.result.now.device
     c.quit.new.self c.args.pasid c.in_ok-quitting.quitting
-    (slice_index_or c.deref.result.now c.in_ok-at.at c.index-deref-at.result).device c.in_ok-quitting.ensures.answer c.quit.ensures))
+    c.index.result.now.device c.in_ok-quitting.ensures.answer c.quit.ensures)) refl
 
 pub returns : goal.returns
 returns c =
-    let is = port_found c.host.inside _ c.args.endpoint c.in_ok-at.at _ c.index-deref-at.result c.host.invariant c.host.view_is c.in_ok-at.ensures
-    c.deref.ensures.0 in
+    let is = port_found c.host.inside _ c.args.endpoint c.in_ok-at.at c.index.result.now c.host.invariant c.host.view_is c.in_ok-at.ensures
+    c.index.ensures in
     let tables = λ (s : Tables). after_quit s c.args.pasid in
     ended c.host.inside _ (step.Quit c.args.endpoint c.args.pasid) (answer.Marker) _ _ _ c.send.new.bag c.host.view_is
-    (rewritten c.host.inside _ c.args.endpoint c.in_ok-at.at _ _ c.index-deref-at.result c.index-deref_mut-at.result c.quit.new.self tables
-    c.host.view_is c.in_ok-at.ensures c.deref.ensures.0 c.deref_mut.ensures.value
-    (left_by_quit (slice_index_or c.deref_mut.result.now c.in_ok-at.at c.index-deref_mut-at.result).device
+    (rewritten c.host.inside _ c.args.endpoint c.in_ok-at.at c.index.result.now c.index_mut.result.now c.quit.new.self tables
+    c.host.view_is c.in_ok-at.ensures c.index.ensures c.index_mut.ensures.value
+    (left_by_quit c.index_mut.result.now.device
     c.quit.new.self c.args.pasid c.in_ok-quitting.quitting
-    (slice_index_or c.deref.result.now c.in_ok-at.at c.index-deref-at.result).device c.in_ok-quitting.ensures.answer c.quit.ensures))
+    c.index.result.now.device c.in_ok-quitting.ensures.answer c.quit.ensures))
     (refl)
     (quit_done c.host.inside c.args.endpoint c.args.pasid _ c.in_ok-quitting.quitting c.kind.result c.send.new.bag is c.in_ok-quitting.ensures.answer
     c.kind.ensures c.in_ok-send.ensures.sends)
@@ -73,16 +73,8 @@ returns-in_err-at c =
     kept _ _ (step.Quit c.args.endpoint c.args.pasid) _ _ refl c.from_residual.ensures
     (quit_nowhere c.args.host.now c.args.endpoint c.args.pasid _ c.in_err-at.ensures)
 
-pub deref-requires : goal.deref-requires
-deref-requires c = omega arith
-
-pub offset_bounds-deref-at : goal.offset_bounds-deref-at
-offset_bounds-deref-at c =
-    let there = within c.host.inside _ c.args.endpoint c.in_ok-at.at _ c.host.invariant c.host.view_is c.in_ok-at.ensures c.deref.ensures.0 in
-    omega (arith, there, c.deref.type_inv)
-
-pub bounds-deref-at : goal.bounds-deref-at
-bounds-deref-at c = within c.host.inside _ c.args.endpoint c.in_ok-at.at _ c.host.invariant c.host.view_is c.in_ok-at.ensures c.deref.ensures.0
+pub index-requires : goal.index-requires
+index-requires c = within c.host.inside _ c.args.endpoint c.in_ok-at.at c.host.view_is c.in_ok-at.ensures
 
 pub may_quit-requires : goal.may_quit-requires
 may_quit-requires c = tt
@@ -106,23 +98,15 @@ pub from_residual-requires-in_err-send : goal.from_residual-requires-in_err-send
 from_residual-requires-in_err-send c κs = (none_in _, (none_in _, none_in _))
 
 pub invariant_of-host : goal.invariant_of-host
-invariant_of-host c = record { sound = c.host.invariant.sound; staged = c.host.invariant.staged }
+invariant_of-host c = record { few = c.host.invariant.few; sound = c.host.invariant.sound; staged = c.host.invariant.staged }
 
-pub deref_mut-requires : goal.deref_mut-requires
-deref_mut-requires c = omega arith
-
-pub offset_bounds-deref_mut-at : goal.offset_bounds-deref_mut-at
-offset_bounds-deref_mut-at c =
-    let there = within c.host.inside _ c.args.endpoint c.in_ok-at.at _ c.host.invariant c.host.view_is c.in_ok-at.ensures c.deref_mut.ensures.value in
-    omega (arith, there, c.deref_mut.ensures.fits)
-
-pub bounds-deref_mut-at : goal.bounds-deref_mut-at
-bounds-deref_mut-at c = within c.host.inside _ c.args.endpoint c.in_ok-at.at _ c.host.invariant c.host.view_is c.in_ok-at.ensures c.deref_mut.ensures.value
+pub index_mut-requires : goal.index_mut-requires
+index_mut-requires c = within c.host.inside _ c.args.endpoint c.in_ok-at.at c.host.view_is c.in_ok-at.ensures
 
 pub quit-requires : goal.quit-requires
 quit-requires c =
     subst (λ (p : Port). MayQuit p.device c.in_ok-quitting.quitting)
     (sym
-    (same_port c.host.inside _ c.args.endpoint c.in_ok-at.at _ _ c.index-deref-at.result c.index-deref_mut-at.result c.host.view_is
-    c.in_ok-at.ensures c.deref.ensures.0 c.deref_mut.ensures.value))
+    (same_port c.host.inside _ c.args.endpoint c.in_ok-at.at c.index.result.now c.index_mut.result.now c.host.view_is
+    c.in_ok-at.ensures c.index.ensures c.index_mut.ensures.value))
     c.in_ok-quitting.ensures.may

@@ -1,6 +1,5 @@
-use Rattle.std.proofs.Common.{◌≡◌, ℕ, ap, sym, subst, refl}
-use Rattle.std.specs.Prelude.{Err, option_map, IsTrue}
-use Rattle.sva_step.specs.declared.refusals.Refusal.TheVariants as refusal
+use Rattle.std.proofs.Common.{ℕ, ap, sym, subst, refl}
+use Rattle.std.specs.Prelude.{option_map, IsTrue}
 use Rattle.sva_step.specs.declared.steps.Step.TheVariants as step
 use Rattle.sva_msg.specs.Bag.{MayDeliver}
 use Rattle.sva_msg.specs.declared.messages.Kind.TheVariants.{Reset, Request, Invalidated, PageRequest, Marker, ResetDone}

@@ -1,5 +1,5 @@
 use Rattle.std.proofs.Common.{sym, subst, refl, arith}
-use Rattle.std.specs.Prelude.{Ok, slice_index_or}
+use Rattle.std.specs.Prelude.{Ok}
 use Rattle.sva_step.specs.declared.steps.Step.TheVariants as step
 use Rattle.sva_msg.specs.Bag.{InFlight}
 use Rattle.sva_endpoint.specs.Calls as call
@@ -24,42 +24,36 @@ deliver_found-requires-clause-may c =
     may_take c.host.inside _ c.args.flight.now.number c.args.flight.now.message.endpoint c.args.flight.now.message.kind
     c.host.view_is (numbered c.host.inside _ c.host.view_is c.requires.sound) c.requires.arriving
 
-pub bounds-deref_mut-at : goal.bounds-deref_mut-at
-bounds-deref_mut-at c =
+pub index_mut-requires : goal.index_mut-requires
+index_mut-requires c =
+    let within =
     arriving_within c.host.inside _ c.args.flight.now.number c.args.flight.now.message.endpoint
-    c.args.flight.now.message.kind _ c.host.view_is c.requires.sound c.requires.arriving
-    c.deref_mut.ensures.value
-
-pub offset_bounds-deref_mut-at : goal.offset_bounds-deref_mut-at
-offset_bounds-deref_mut-at c =
-    let within = arriving_within c.host.inside _ c.args.flight.now.number c.args.flight.now.message.endpoint
-    c.args.flight.now.message.kind c.deref_mut.result.now c.host.view_is
-    c.requires.sound c.requires.arriving c.deref_mut.ensures.value in
-    omega (arith, within, c.deref_mut.ensures.fits)
+    c.args.flight.now.message.kind c.host.view_is c.requires.sound c.requires.arriving in
+    omega (arith, within)
 
 pub invariant_of-host : goal.invariant_of-host
 invariant_of-host c =
     let e = c.args.flight.now.message.endpoint in
     let for = arriving_port _ c.args.flight.now.number e c.args.flight.now.message.kind c.requires.sound c.requires.arriving in
-    let is = port_found c.host.inside _ e e c.deref_mut.result.now c.index-deref_mut-at.result c.host.invariant c.host.view_is for
-    c.deref_mut.ensures.value in
+    let is = port_found c.host.inside _ e e c.index_mut.result.now c.host.invariant c.host.view_is for
+    c.index_mut.ensures.value in
     let tables = λ (s : Tables). after_receive s c.args.flight.now.message.kind in
-    with_tables_host c.host.inside e (slice_index_or c.deref_mut.result.now e c.index-deref_mut-at.result) _ c.deliver_found.new.self _ c.host.invariant
+    with_tables_host c.host.inside _ e c.index_mut.result.now _ c.host.invariant
     (sound_after _ (call.Receive c.args.flight.now.message.kind) refl is.sound)
-    (rewritten c.host.inside _ e e c.deref_mut.result.now c.deref_mut.result.now c.index-deref_mut-at.result c.index-deref_mut-at.result
-    c.receive-received.new.self tables c.host.view_is for c.deref_mut.ensures.value c.deref_mut.ensures.value c.receive-received.ensures.after)
+    (rewritten c.host.inside _ e e c.index_mut.result.now c.index_mut.result.now
+    c.receive-received.new.self tables c.host.view_is for c.index_mut.ensures.value c.index_mut.ensures.value c.receive-received.ensures.after) refl
 
 pub returns : goal.returns
 returns c =
     let e = c.args.flight.now.message.endpoint in
     let for = arriving_port _ c.args.flight.now.number e c.args.flight.now.message.kind c.requires.sound c.requires.arriving in
-    let is = port_found c.host.inside _ e e c.deref_mut.result.now c.index-deref_mut-at.result c.host.invariant c.host.view_is for
-    c.deref_mut.ensures.value in
+    let is = port_found c.host.inside _ e e c.index_mut.result.now c.host.invariant c.host.view_is for
+    c.index_mut.ensures.value in
     let tables = λ (s : Tables). after_receive s c.args.flight.now.message.kind in
-    let port : Port = slice_index_or c.deref_mut.result.now e c.index-deref_mut-at.result in
+    let port : Port = c.index_mut.result.now in
     ended c.host.inside _ (step.Deliver c.args.flight.now.number) c.receive-received.result.answer _ _ _ c.deliver_found.new.self c.host.view_is
-    (rewritten c.host.inside _ e e c.deref_mut.result.now c.deref_mut.result.now c.index-deref_mut-at.result c.index-deref_mut-at.result
-    c.receive-received.new.self tables c.host.view_is for c.deref_mut.ensures.value c.deref_mut.ensures.value c.receive-received.ensures.after)
+    (rewritten c.host.inside _ e e c.index_mut.result.now c.index_mut.result.now
+    c.receive-received.new.self tables c.host.view_is for c.index_mut.ensures.value c.index_mut.ensures.value c.receive-received.ensures.after)
     c.receive-received.ensures.answer
     (subst
     (λ (bag : InFlight).

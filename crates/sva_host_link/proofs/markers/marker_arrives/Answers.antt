@@ -1,8 +1,8 @@
-use Rattle.std.proofs.Common.{refl, ap, sym, ◌∙◌, arith}
+use Rattle.std.proofs.Common.{ap, sym, ◌∙◌, arith}
 use Rattle.std.specs.Prelude.{None}
 use Rattle.sva_msg.specs.declared.messages.Kind.TheVariants.{Marker}
 use Rattle.sva_host_state.proofs.Arrived.{numbered}
-use Rattle.sva_host_state.proofs.Arriving.{may_take, stands_at, goes_to, arriving_within}
+use Rattle.sva_host_state.proofs.Arriving.{may_take, stands_at, arriving_within}
 use Rattle.sva_host_state.proofs.TakenOut.{unit_there}
 use Rattle.sva_host_state.proofs.Marking.{markable, bearer_there, none_borne, stopping_there, dropped, marked}
 use Rattle.sva_host_link.proofs.markers.marker_arrives.Goals as goal
@@ -16,27 +16,20 @@ deliver_found-requires-clause-may c =
     (Marker c.args.pasid) c.host.view_is (numbered c.host.inside _ c.host.view_is c.requires.sound)
     c.requires.arriving
 
-pub bounds-deref-endpoint : goal.bounds-deref-endpoint
-bounds-deref-endpoint c =
+pub index-requires : goal.index-requires
+index-requires c =
+    let within =
     arriving_within c.host.inside c.args.host.now c.args.flight.now.number c.args.flight.now.message.endpoint
-    (Marker c.args.pasid) c.deref.result.now c.host.view_is
-    c.requires.sound c.requires.arriving
-    c.deref.ensures.0
-
-pub offset_bounds-deref-endpoint : goal.offset_bounds-deref-endpoint
-offset_bounds-deref-endpoint c =
-    let there = goes_to c.args.host.now c.args.flight.now.number c.args.flight.now.message.endpoint
-    (Marker c.args.pasid) c.requires.sound c.requires.arriving in
-    omega (arith, there, c.requires.sound.few_parts)
+    (Marker c.args.pasid) c.host.view_is
+    c.requires.sound c.requires.arriving in
+    omega (arith, within)
 
 pub returns-then-not-is_open-clause-step : goal.returns-then-not-is_open-clause-step
 returns-then-not-is_open-clause-step c =
     let within = arriving_within c.host.inside c.args.host.now c.args.flight.now.number
-    c.args.flight.now.message.endpoint (Marker c.args.pasid) c.host.inside.ports.items
-    c.host.view_is c.requires.sound c.requires.arriving refl in
-    let unit = unit_there c.host.inside c.args.host.now c.args.flight.now.message.endpoint c.deref.result.now
-    c.index-deref-endpoint.result c.host.view_is within
-    c.deref.ensures.0 in
+    c.args.flight.now.message.endpoint (Marker c.args.pasid) c.host.view_is c.requires.sound c.requires.arriving in
+    let unit = unit_there c.host.inside c.args.host.now c.args.flight.now.message.endpoint c.index.result.now c.host.view_is within
+    c.index.ensures in
     dropped c.host.inside c.args.host.now c.args.flight.now.number c.args.flight.now.message.endpoint c.args.pasid c.deliver_found.new.self c.host.view_is
     (numbered c.host.inside _ c.host.view_is c.requires.sound) c.requires.arriving
     (sym (c.is_open.ensures ∙ ap (λ u. u.is_open) unit) ∙ c.if-not-is_open.true) c.deliver_found.ensures
@@ -44,11 +37,9 @@ returns-then-not-is_open-clause-step c =
 pub unreachable-requires : goal.unreachable-requires
 unreachable-requires c =
     let within = arriving_within c.host.inside c.args.host.now c.args.flight.now.number
-    c.args.flight.now.message.endpoint (Marker c.args.pasid) c.host.inside.ports.items
-    c.host.view_is c.requires.sound c.requires.arriving refl in
-    let unit = unit_there c.host.inside c.args.host.now c.args.flight.now.message.endpoint c.deref.result.now
-    c.index-deref-endpoint.result c.host.view_is within
-    c.deref.ensures.0 in
+    c.args.flight.now.message.endpoint (Marker c.args.pasid) c.host.view_is c.requires.sound c.requires.arriving in
+    let unit = unit_there c.host.inside c.args.host.now c.args.flight.now.message.endpoint c.index.result.now c.host.view_is within
+    c.index.ensures in
     none_borne c.args.host.now c.args.flight.now.message.endpoint c.args.pasid
     (markable c.args.host.now c.args.flight.now.number c.args.flight.now.message.endpoint c.args.pasid c.requires.sound c.requires.arriving
     (sym (c.is_open.ensures ∙ ap (λ u. u.is_open) unit) ∙ c.if-not-is_open.false))
@@ -57,11 +48,9 @@ unreachable-requires c =
 pub mark-requires : goal.mark-requires
 mark-requires c =
     let within = arriving_within c.host.inside c.args.host.now c.args.flight.now.number
-    c.args.flight.now.message.endpoint (Marker c.args.pasid) c.host.inside.ports.items
-    c.host.view_is c.requires.sound c.requires.arriving refl in
-    let unit = unit_there c.host.inside c.args.host.now c.args.flight.now.message.endpoint c.deref.result.now
-    c.index-deref-endpoint.result c.host.view_is within
-    c.deref.ensures.0 in
+    c.args.flight.now.message.endpoint (Marker c.args.pasid) c.host.view_is c.requires.sound c.requires.arriving in
+    let unit = unit_there c.host.inside c.args.host.now c.args.flight.now.message.endpoint c.index.result.now c.host.view_is within
+    c.index.ensures in
     stopping_there c.host.inside c.args.host.now c.args.flight.now.message.endpoint c.args.pasid c.in-Some.place.now
     c.host.invariant c.host.view_is c.requires.sound
     (markable c.args.host.now c.args.flight.now.number c.args.flight.now.message.endpoint c.args.pasid c.requires.sound c.requires.arriving
@@ -71,11 +60,9 @@ mark-requires c =
 pub returns-clause-step : goal.returns-clause-step
 returns-clause-step c =
     let within = arriving_within c.host.inside c.args.host.now c.args.flight.now.number
-    c.args.flight.now.message.endpoint (Marker c.args.pasid) c.host.inside.ports.items
-    c.host.view_is c.requires.sound c.requires.arriving refl in
-    let unit = unit_there c.host.inside c.args.host.now c.args.flight.now.message.endpoint c.deref.result.now
-    c.index-deref-endpoint.result c.host.view_is within
-    c.deref.ensures.0 in
+    c.args.flight.now.message.endpoint (Marker c.args.pasid) c.host.view_is c.requires.sound c.requires.arriving in
+    let unit = unit_there c.host.inside c.args.host.now c.args.flight.now.message.endpoint c.index.result.now c.host.view_is within
+    c.index.ensures in
     marked c.host.inside c.args.host.now c.args.flight.now.number c.args.flight.now.message.endpoint c.args.pasid
     c.in-Some.place.now c.deliver_found.new.self c.mark.new.bindings
     c.host.view_is (numbered c.host.inside _ c.host.view_is c.requires.sound) c.requires.arriving

@@ -1,10 +1,10 @@
 use Rattle.std.proofs.Common.{refl}
-use Rattle.std.specs.Prelude.{List, slice_index_or}
+use Rattle.std.specs.Prelude.{map}
 use Rattle.sva_step.specs.declared.answers.Answer.TheVariants as answer
 use Rattle.sva_step.specs.declared.steps.Step.TheVariants as step
 use Rattle.sva_queue.specs.declared.heads.Next.TheVariants as Next
 use Rattle.sva_host_state.specs.declared.host_state.Port.{Port}
-use Rattle.sva_host_state.specs.Inner.{wire_of}
+use Rattle.sva_host_state.specs.Inner.{part_seen, wire_of}
 use Rattle.sva_host_state.proofs.Ports.{port_found}
 use Rattle.sva_host_state.proofs.Devices.{went}
 use Rattle.sva_host_state.proofs.Units.{unit_rewritten, with_unit_host, ended_by}
@@ -18,33 +18,30 @@ returns-in_err-send c =
 
 pub send-requires-2 : goal.send-requires-2
 send-requires-2 c =
-    let slice : List Port = c.deref_mut.result.now in
-    let port : Port = slice_index_or slice c.args.at c.index-deref_mut-at.result in
-    let is = port_found c.host.inside _ c.args.at c.args.at slice c.index-deref_mut-at.result c.host.invariant c.host.view_is
-    (place_for c.args.host.now c.args.at c.requires.there) c.deref_mut.ensures.value in
+    let port : Port = c.index_mut.result.now in
+    let is = port_found c.host.inside _ c.args.at c.args.at c.index_mut.result.now c.host.invariant c.host.view_is
+    (place_for c.args.host.now c.args.at c.requires.there) c.index_mut.ensures.value in
     head_of c.host.inside _ c.args.at port (Next.Send c.args.sending) c.host.view_is is c.requires
 
 pub invariant_of-host-2 : goal.invariant_of-host-2
 invariant_of-host-2 c =
     let for = place_for c.args.host.now c.args.at c.requires.there in
-    let slice : List Port = c.deref_mut.result.now in
-    let port : Port = slice_index_or slice c.args.at c.index-deref_mut-at.result in
-    let is = port_found c.host.inside _ c.args.at c.args.at slice c.index-deref_mut-at.result c.host.invariant c.host.view_is for
-    c.deref_mut.ensures.value in
+    let port : Port = c.index_mut.result.now in
+    let is = port_found c.host.inside _ c.args.at c.args.at c.index_mut.result.now c.host.invariant c.host.view_is for
+    c.index_mut.ensures.value in
     with_unit_host c.host.inside _ c.args.at port (after_send c.args.sending port.unit) c.host.invariant is.sound
-    (unit_rewritten c.host.inside _ c.args.at c.args.at slice slice c.index-deref_mut-at.result c.index-deref_mut-at.result c.send-2.new.self
-    (after_send c.args.sending) c.host.view_is for c.deref_mut.ensures.value c.deref_mut.ensures.value c.send-2.ensures) c.host.invariant.staged
+    (unit_rewritten c.host.inside _ c.args.at c.args.at c.index_mut.result.now c.index_mut.result.now c.send-2.new.self
+    (after_send c.args.sending) c.host.view_is for c.index_mut.ensures.value c.index_mut.ensures.value c.send-2.ensures) c.host.invariant.staged
 
 pub returns : goal.returns
 returns c =
     let for = place_for c.args.host.now c.args.at c.requires.there in
-    let slice : List Port = c.deref_mut.result.now in
-    let port : Port = slice_index_or slice c.args.at c.index-deref_mut-at.result in
-    let is = port_found c.host.inside _ c.args.at c.args.at slice c.index-deref_mut-at.result c.host.invariant c.host.view_is for
-    c.deref_mut.ensures.value in
+    let port : Port = c.index_mut.result.now in
+    let is = port_found c.host.inside _ c.args.at c.args.at c.index_mut.result.now c.host.invariant c.host.view_is for
+    c.index_mut.ensures.value in
     ended_by c.host.inside _ (step.Pump c.args.at) (answer.Itag c.args.sending.itag) (answer.Itag c.args.sending.itag)
-    (λ items. wire_of (record c.host.inside { ports = record { items = items }; in_flight = c.send.new.bag })) _ _ c.host.view_is
-    (unit_rewritten c.host.inside _ c.args.at c.args.at slice slice c.index-deref_mut-at.result c.index-deref_mut-at.result c.send-2.new.self
-    (after_send c.args.sending) c.host.view_is for c.deref_mut.ensures.value c.deref_mut.ensures.value c.send-2.ensures)
+    (λ items. record (wire_of (record c.host.inside { in_flight = c.send.new.bag })) { parts = map part_seen items }) _ _ c.host.view_is
+    (unit_rewritten c.host.inside _ c.args.at c.args.at c.index_mut.result.now c.index_mut.result.now c.send-2.new.self
+    (after_send c.args.sending) c.host.view_is for c.index_mut.ensures.value c.index_mut.ensures.value c.send-2.ensures)
     refl
     (pump_sent c.host.inside _ c.args.at port c.args.sending _ c.send.new.bag c.host.view_is is c.requires c.message.ensures c.in_ok-send.ensures.sends)

@@ -1,10 +1,10 @@
 use Rattle.std.proofs.Common.{sym, ap, refl, ◌∙◌}
-use Rattle.std.specs.Prelude.{List, slice_index_or}
+use Rattle.std.specs.Prelude.{List, map}
 use Rattle.sva_step.specs.declared.answers.Answer.TheVariants as answer
 use Rattle.sva_step.specs.declared.steps.Step.TheVariants as step
 use Rattle.sva_iommu.specs.Changes.{reset_begun}
 use Rattle.sva_host_state.specs.declared.host_state.Port.{Port}
-use Rattle.sva_host_state.specs.Inner.{wire_of}
+use Rattle.sva_host_state.specs.Inner.{part_seen, wire_of}
 use Rattle.sva_host_state.proofs.Ports.{port_found, same_port}
 use Rattle.sva_host_state.proofs.Resetting.{reset_begins}
 use Rattle.sva_host_state.proofs.Units.{with_unit_host, unit_rewritten, ended_by}
@@ -12,25 +12,22 @@ use Rattle.sva_host_link.proofs.resets.reset.Goals as goal
 
 pub invariant_of-host-2 : goal.invariant_of-host-2
 invariant_of-host-2 c =
-    let is = port_found c.host.inside _ c.args.endpoint c.in_ok-at.at c.deref_mut.result.now c.index-deref_mut-at.result c.host.invariant c.host.view_is
-    c.in_ok-at.ensures c.deref_mut.ensures.value in
-    with_unit_host c.host.inside _ c.args.endpoint (slice_index_or c.deref_mut.result.now c.in_ok-at.at c.index-deref_mut-at.result) _ c.host.invariant
+    let is = port_found c.host.inside _ c.args.endpoint c.in_ok-at.at c.index_mut.result.now c.host.invariant c.host.view_is
+    c.in_ok-at.ensures c.index_mut.ensures.value in
+    with_unit_host c.host.inside _ c.args.endpoint c.index_mut.result.now _ c.host.invariant
     is.sound
-    (unit_rewritten c.host.inside _ c.args.endpoint c.in_ok-at.at c.deref_mut.result.now c.deref_mut.result.now c.index-deref_mut-at.result
-    c.index-deref_mut-at.result c.reset.new.self reset_begun c.host.view_is c.in_ok-at.ensures
-    c.deref_mut.ensures.value c.deref_mut.ensures.value c.reset.ensures) c.host.invariant.staged
+    (unit_rewritten c.host.inside _ c.args.endpoint c.in_ok-at.at c.index_mut.result.now c.index_mut.result.now c.reset.new.self reset_begun c.host.view_is c.in_ok-at.ensures
+    c.index_mut.ensures.value c.index_mut.ensures.value c.reset.ensures) c.host.invariant.staged
 
 pub returns : goal.returns
 returns c =
-    let is = port_found c.host.inside _ c.args.endpoint c.in_ok-at.at c.deref_mut.result.now c.index-deref_mut-at.result c.host.invariant c.host.view_is
-    c.in_ok-at.ensures c.deref_mut.ensures.value in
-    let same = same_port c.host.inside _ c.args.endpoint c.in_ok-at.at c.deref.result.now c.deref_mut.result.now c.index-deref-at.result
-    c.index-deref_mut-at.result c.host.view_is c.in_ok-at.ensures c.deref.ensures.0 c.deref_mut.ensures.value in
+    let is = port_found c.host.inside _ c.args.endpoint c.in_ok-at.at c.index_mut.result.now c.host.invariant c.host.view_is
+    c.in_ok-at.ensures c.index_mut.ensures.value in
+    let same = same_port c.host.inside _ c.args.endpoint c.in_ok-at.at c.index.result.now c.index_mut.result.now c.host.view_is c.in_ok-at.ensures c.index.ensures c.index_mut.ensures.value in
     ended_by c.host.inside _ (step.Reset c.args.endpoint) answer.Resetting answer.Resetting
-    (λ (ports : List Port). wire_of (record c.host.inside { ports = record { items = ports }; in_flight = c.send.new.bag })) _ _ c.host.view_is
-    (unit_rewritten c.host.inside _ c.args.endpoint c.in_ok-at.at c.deref_mut.result.now c.deref_mut.result.now c.index-deref_mut-at.result
-    c.index-deref_mut-at.result c.reset.new.self reset_begun c.host.view_is c.in_ok-at.ensures
-    c.deref_mut.ensures.value c.deref_mut.ensures.value c.reset.ensures)
+    (λ (ports : List Port). record (wire_of (record c.host.inside { in_flight = c.send.new.bag })) { parts = map part_seen ports }) _ _ c.host.view_is
+    (unit_rewritten c.host.inside _ c.args.endpoint c.in_ok-at.at c.index_mut.result.now c.index_mut.result.now c.reset.new.self reset_begun c.host.view_is c.in_ok-at.ensures
+    c.index_mut.ensures.value c.index_mut.ensures.value c.reset.ensures)
     refl
-    (reset_begins c.host.inside c.args.endpoint (slice_index_or c.deref_mut.result.now c.in_ok-at.at c.index-deref_mut-at.result) c.send.new.bag is
+    (reset_begins c.host.inside c.args.endpoint c.index_mut.result.now c.send.new.bag is
     (ap (λ (p : Port). p.unit.unit.is_open) same ∙ sym c.is_open.ensures ∙ c.if-not-is_open.false) c.in_ok-send.ensures.sends)

@@ -1,5 +1,4 @@
 use Rattle.std.proofs.Common.{refl, arith}
-use Rattle.std.specs.Prelude.{slice_index_or}
 use Rattle.sva_step.specs.declared.answers.Answer.TheVariants as answer
 use Rattle.sva_step.specs.declared.steps.Step.TheVariants as step
 use Rattle.sva_msg.specs.declared.messages.Kind.TheVariants.{Reset}
@@ -25,51 +24,43 @@ deliver_found-requires-clause-may c =
     (may_take c.host.inside _ c.args.flight.now.number c.args.flight.now.message.endpoint Reset c.host.view_is
     c.send.ensures.numbered c.requires.arriving) c.in_ok-send.ensures.sends.1
 
-pub bounds-deref_mut-at : goal.bounds-deref_mut-at
-bounds-deref_mut-at c =
-    arriving_within c.host.inside _ c.args.flight.now.number c.args.flight.now.message.endpoint Reset c.deref_mut.result.now c.host.view_is c.requires.sound
-    c.requires.arriving c.deref_mut.ensures.value
-
-pub offset_bounds-deref_mut-at : goal.offset_bounds-deref_mut-at
-offset_bounds-deref_mut-at c =
-    let within = arriving_within c.host.inside _ c.args.flight.now.number c.args.flight.now.message.endpoint Reset
-    c.deref_mut.result.now c.host.view_is c.requires.sound
-    c.requires.arriving c.deref_mut.ensures.value in
-    omega (arith, within, c.deref_mut.ensures.fits)
+pub index_mut-requires : goal.index_mut-requires
+index_mut-requires c =
+    let within =
+    arriving_within c.host.inside _ c.args.flight.now.number c.args.flight.now.message.endpoint Reset c.host.view_is c.requires.sound
+    c.requires.arriving in
+    omega (arith, within)
 
 pub invariant_of-host-2 : goal.invariant_of-host-2
 invariant_of-host-2 c =
     let for = arriving_port _ c.args.flight.now.number c.args.flight.now.message.endpoint Reset c.requires.sound c.requires.arriving in
     let is = port_found c.host.inside _ c.args.flight.now.message.endpoint c.args.flight.now.message.endpoint
-    c.deref_mut.result.now c.index-deref_mut-at.result c.host.invariant c.host.view_is
-    for c.deref_mut.ensures.value in
+    c.index_mut.result.now c.host.invariant c.host.view_is
+    for c.index_mut.ensures.value in
     let tables = λ (s : Tables). after_receive s Reset in
-    with_tables_host c.host.inside c.args.flight.now.message.endpoint
-    (slice_index_or c.deref_mut.result.now c.args.flight.now.message.endpoint c.index-deref_mut-at.result) _
-    c.deliver_found.new.self _ c.host.invariant
+    with_tables_host c.host.inside _ c.args.flight.now.message.endpoint
+    c.index_mut.result.now _ c.host.invariant
     (sound_after _ (call.Receive Reset) refl is.sound)
     (rewritten c.host.inside _ c.args.flight.now.message.endpoint c.args.flight.now.message.endpoint
-    c.deref_mut.result.now c.deref_mut.result.now c.index-deref_mut-at.result
-    c.index-deref_mut-at.result c.receive-received.new.self tables c.host.view_is for c.deref_mut.ensures.value c.deref_mut.ensures.value
-    c.receive-received.ensures.after)
+    c.index_mut.result.now c.index_mut.result.now c.receive-received.new.self tables c.host.view_is for c.index_mut.ensures.value c.index_mut.ensures.value
+    c.receive-received.ensures.after) refl
 
 pub returns : goal.returns
 returns c =
     let for = arriving_port _ c.args.flight.now.number c.args.flight.now.message.endpoint Reset c.requires.sound c.requires.arriving in
     let is = port_found c.host.inside _ c.args.flight.now.message.endpoint c.args.flight.now.message.endpoint
-    c.deref_mut.result.now c.index-deref_mut-at.result c.host.invariant c.host.view_is
-    for c.deref_mut.ensures.value in
+    c.index_mut.result.now c.host.invariant c.host.view_is
+    for c.index_mut.ensures.value in
     let tables = λ (s : Tables). after_receive s Reset in
     let arriving = here c.host.inside _ _ _ _ c.host.view_is c.requires.arriving in
     let may = may_take c.host.inside _ c.args.flight.now.number c.args.flight.now.message.endpoint Reset c.host.view_is
     c.send.ensures.numbered c.requires.arriving in
     ended c.host.inside _ (step.Deliver c.args.flight.now.number) c.receive-received.result.answer answer.Reset _ _ c.deliver_found.new.self c.host.view_is
     (rewritten c.host.inside _ c.args.flight.now.message.endpoint c.args.flight.now.message.endpoint
-    c.deref_mut.result.now c.deref_mut.result.now c.index-deref_mut-at.result
-    c.index-deref_mut-at.result c.receive-received.new.self tables c.host.view_is for c.deref_mut.ensures.value c.deref_mut.ensures.value
+    c.index_mut.result.now c.index_mut.result.now c.receive-received.new.self tables c.host.view_is for c.index_mut.ensures.value c.index_mut.ensures.value
     c.receive-received.ensures.after)
     c.receive-received.ensures.answer
     (reset_delivered c.host.inside c.args.flight.now.number c.args.flight.now.message.endpoint
-    (slice_index_or c.deref_mut.result.now c.args.flight.now.message.endpoint c.index-deref_mut-at.result)
+    c.index_mut.result.now
     c.send.new.bag c.deliver_found.new.self c.send.ensures.numbered may is arriving
     c.in_ok-send.ensures.sends c.deliver_found.ensures)

@@ -22,8 +22,8 @@ pub returns-then-not-is_open : goal.returns-then-not-is_open
 returns-then-not-is_open c =
     let long = parts_seen c.host.inside c.args.host.now c.host.view_is in
     let within : c.unit.result < length c.host.inside.ports.items = omega (arith, long, c.unit.ensures, c.requires) in
-    let unit = unit_there c.host.inside c.args.host.now c.unit.result c.deref.result.now c.index-deref-unit.result c.host.view_is within
-    c.deref.ensures.0 in
+    let unit = unit_there c.host.inside c.args.host.now c.unit.result c.index.result.now c.host.view_is within
+    c.index.ensures in
     response_closed c.args.host.now (job_seen c.args.job.now) c.args.verdict
     (ap (λ (e : ℕ). (unit_of c.args.host.now e).is_open) (sym c.unit.ensures) ∙ sym (c.is_open.ensures ∙ ap (λ u. u.is_open) unit) ∙ c.if-not-is_open.true)
 
@@ -31,8 +31,8 @@ pub returns-in_err-code : goal.returns-in_err-code
 returns-in_err-code c =
     let long = parts_seen c.host.inside c.args.host.now c.host.view_is in
     let within : c.unit.result < length c.host.inside.ports.items = omega (arith, long, c.unit.ensures, c.requires) in
-    let unit = unit_there c.host.inside c.args.host.now c.unit.result c.deref.result.now c.index-deref-unit.result c.host.view_is within
-    c.deref.ensures.0 in
+    let unit = unit_there c.host.inside c.args.host.now c.unit.result c.index.result.now c.host.view_is within
+    c.index.ensures in
     let is_open = ap (λ (e : ℕ). (unit_of c.args.host.now e).is_open) (sym c.unit.ensures) ∙ sym (c.is_open.ensures ∙ ap (λ u. u.is_open) unit)
     ∙ c.if-not-is_open.false in
     let found =
@@ -45,8 +45,8 @@ pub returns : goal.returns
 returns c =
     let long = parts_seen c.host.inside c.args.host.now c.host.view_is in
     let within : c.unit.result < length c.host.inside.ports.items = omega (arith, long, c.unit.ensures, c.requires) in
-    let unit = unit_there c.host.inside c.args.host.now c.unit.result c.deref.result.now c.index-deref-unit.result c.host.view_is within
-    c.deref.ensures.0 in
+    let unit = unit_there c.host.inside c.args.host.now c.unit.result c.index.result.now c.host.view_is within
+    c.index.ensures in
     let is_open = ap (λ (e : ℕ). (unit_of c.args.host.now e).is_open) (sym c.unit.ensures) ∙ sym (c.is_open.ensures ∙ ap (λ u. u.is_open) unit)
     ∙ c.if-not-is_open.false in
     let found =

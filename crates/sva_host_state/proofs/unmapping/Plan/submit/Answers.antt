@@ -1,12 +1,12 @@
 use Rattle.std.proofs.Common.{◌∙◌, ◌+◌, ◌<◌, ◌≤◌, ◌^◌, ℕ, suc, ap, refl, sym, subst, arith}
-use Rattle.std.specs.Prelude.{List, length, slice_index_or}
+use Rattle.std.specs.Prelude.{List, length, map}
 use Rattle.sva_model.specs.Wire.{Wire, EndpointWire}
 use Rattle.sva_labels.specs.Finding.{has_room}
 use Rattle.sva_labels.specs.Moves.{descriptors_for, with_descriptors}
 use Rattle.sva_iommu.specs.Seen.{UnitSeen, with_unit}
 use Rattle.sva_host_state.specs.declared.host_state.HostState.TheInside.{Inside as HostState}
 use Rattle.sva_host_state.specs.declared.host_state.Port.{Port}
-use Rattle.sva_host_state.specs.Inner.{wire_of, AreStaged, IsHostState}
+use Rattle.sva_host_state.specs.Inner.{part_seen, wire_of, AreStaged, IsHostState}
 use Rattle.sva_host_state.specs.Unmapping.{IsPlan}
 use Rattle.sva_host_state.proofs.TakenOut.{parts_seen}
 use Rattle.sva_host_state.proofs.Units.{unit_rewritten, with_unit_host}
@@ -21,13 +21,12 @@ loop-endpoint-init c = (
   c.host.invariant,
 )
 
-pub bounds-deref_mut-endpoint : goal.bounds-deref_mut-endpoint
-bounds-deref_mut-endpoint c =
+pub index_mut-requires : goal.index_mut-requires
+index_mut-requires c =
     let n = c.requires.plan.0 in
     let long = long_so_far c.loop-endpoint.host-inside c.args.host.now n c.args.page c.args.count c.args.order
     c.loop-endpoint.endpoint (c.loop-endpoint.invariant.0 n c.requires.plan.1) in
     let parts = parts_seen c.host.inside c.args.host.now c.host.view_is in
-    let same = ap (λ (l : List Port). length l) c.deref_mut.ensures.value in
     omega arith
 
 pub submit_ranges-requires-clause-opened : goal.submit_ranges-requires-clause-opened
@@ -38,10 +37,10 @@ submit_ranges-requires-clause-opened c =
     let is = c.loop-endpoint.invariant.0 n plan in
     let e = c.loop-endpoint.endpoint in
     let parts = parts_seen c.host.inside w c.host.view_is in
-    let most = c.len-endpoint-end.ensures.fits in
+    let most = c.host.invariant.few in
     let there : e < length w.parts = omega arith in
-    let at = port_now c.loop-endpoint.host-inside w n c.args.page c.args.count c.args.order e c.deref_mut.result.now c.index-deref_mut-endpoint.result
-    c.loop-endpoint.invariant.1 is there c.deref_mut.ensures.value in
+    let at = port_now c.loop-endpoint.host-inside w n c.args.page c.args.count c.args.order e c.index_mut.result.now
+    c.loop-endpoint.invariant.1 is there c.index_mut.ensures.value in
     let asked = asked_some w n e c.in-Some.pasid (sym c.in-Some.is
     ∙ planned_at w n (suc c.args.count) e _ c.args.self.now plan there (omega arith)) in
     ap (λ (p : EndpointWire). p.unit.is_open)
@@ -56,10 +55,10 @@ submit_ranges-requires-clause-room c =
     let is = c.loop-endpoint.invariant.0 n plan in
     let e = c.loop-endpoint.endpoint in
     let parts = parts_seen c.host.inside w c.host.view_is in
-    let most = c.len-endpoint-end.ensures.fits in
+    let most = c.host.invariant.few in
     let there : e < length w.parts = omega arith in
-    let at = port_now c.loop-endpoint.host-inside w n c.args.page c.args.count c.args.order e c.deref_mut.result.now c.index-deref_mut-endpoint.result
-    c.loop-endpoint.invariant.1 is there c.deref_mut.ensures.value in
+    let at = port_now c.loop-endpoint.host-inside w n c.args.page c.args.count c.args.order e c.index_mut.result.now
+    c.loop-endpoint.invariant.1 is there c.index_mut.ensures.value in
     let asked = asked_some w n e c.in-Some.pasid (sym c.in-Some.is
     ∙ planned_at w n (suc c.args.count) e _ c.args.self.now plan there (omega arith)) in
     ap (λ (p : EndpointWire). has_room p.unit (suc c.args.count))
@@ -75,8 +74,8 @@ submit_ranges-requires-clause-later c =
     let e = c.loop-endpoint.endpoint in
     let parts = parts_seen c.host.inside w c.host.view_is in
     let there : e < length w.parts = omega arith in
-    let at = port_now c.loop-endpoint.host-inside w n c.args.page c.args.count c.args.order e c.deref_mut.result.now c.index-deref_mut-endpoint.result
-    c.loop-endpoint.invariant.1 is there c.deref_mut.ensures.value in
+    let at = port_now c.loop-endpoint.host-inside w n c.args.page c.args.count c.args.order e c.index_mut.result.now
+    c.loop-endpoint.invariant.1 is there c.index_mut.ensures.value in
     let low = given_there w n e c.requires.given there in
     let same = ap (λ (p : EndpointWire). p.unit.waits_end)
     (part_now c.loop-endpoint.host-inside w n c.args.page c.args.count c.args.order e _ is there at) in
@@ -91,7 +90,7 @@ submit_ranges-requires-clause-number c =
     let is = c.loop-endpoint.invariant.0 n plan in
     let e = c.loop-endpoint.endpoint in
     let parts = parts_seen c.host.inside w c.host.view_is in
-    let most = c.len-endpoint-end.ensures.fits in
+    let most = c.host.invariant.few in
     let there : e < length w.parts = omega arith in
     let asked = asked_some w n e c.in-Some.pasid (sym c.in-Some.is
     ∙ planned_at w n (suc c.args.count) e _ c.args.self.now plan there (omega arith)) in
@@ -107,7 +106,7 @@ overflow_add-host c =
     let is = c.loop-endpoint.invariant.0 n plan in
     let e = c.loop-endpoint.endpoint in
     let parts = parts_seen c.host.inside w c.host.view_is in
-    let most = c.len-endpoint-end.ensures.fits in
+    let most = c.host.invariant.few in
     let there : e < length w.parts = omega arith in
     let asked = asked_some w n e c.in-Some.pasid (sym c.in-Some.is
     ∙ planned_at w n (suc c.args.count) e _ c.args.self.now plan there (omega arith)) in
@@ -124,23 +123,22 @@ loop-endpoint-preserved c =
     let host = c.loop-endpoint.host-inside in
     let is = c.loop-endpoint.invariant in
     let parts = parts_seen c.host.inside w c.host.view_is in
-    let most = c.len-endpoint-end.ensures.fits in
+    let most = c.host.invariant.few in
     let there : e < length w.parts = omega arith in
     let for = port_for host w n c.args.page c.args.count c.args.order e so_far there in
     elim c.match-self-endpoint.branch [
       | in-Some x ↦
-          let slice = x.deref_mut.result.now in
-          let port : Port = slice_index_or slice e x.index-deref_mut-endpoint.result in
-          let at = port_now host w n c.args.page c.args.count c.args.order e slice x.index-deref_mut-endpoint.result is.1 so_far there
-          x.deref_mut.ensures.value in
+          let port : Port = x.index_mut.result.now in
+          let at = port_now host w n c.args.page c.args.count c.args.order e x.index_mut.result.now is.1 so_far there
+          x.index_mut.ensures.value in
           let asked = λ (m : ℕ) (of : IsPlan w m (suc c.args.count) c.args.self.now). asked_some w m e x.in-Some.pasid (sym x.in-Some.is
           ∙ planned_at w m (suc c.args.count) e _ c.args.self.now of there (omega arith)) in
           let after : UnitSeen → UnitSeen = λ (u : UnitSeen).
           with_unit u (with_descriptors u.unit (descriptors_for x.in-Some.pasid c.args.page c.args.count c.args.order host.next_cookie) host.next_cookie) in
-          let rewritten = unit_rewritten host (wire_of host) e e slice slice x.index-deref_mut-endpoint.result x.index-deref_mut-endpoint.result
-          x.submit_ranges.new.self after refl for x.deref_mut.ensures.value x.deref_mut.ensures.value x.submit_ranges.ensures in (
+          let rewritten = unit_rewritten host (wire_of host) e e x.index_mut.result.now x.index_mut.result.now
+          x.submit_ranges.new.self after refl for x.index_mut.ensures.value x.index_mut.ensures.value x.submit_ranges.ensures in (
             λ m of. ap wire_of x.host-inside-is
-                ∙ ap (λ (items : List Port). wire_of (record host { ports = record { items = items }; next_cookie = host.next_cookie + 1 })) rewritten
+                ∙ ap (λ (items : List Port). record (wire_of (record host { next_cookie = host.next_cookie + 1 })) { parts = map part_seen items }) rewritten
                 ∙ gets host w m c.args.page c.args.count c.args.order e x.in-Some.pasid port (is.0 m of) there at (asked m of).0 (asked m of).1,
             with_unit_host host c.match-self-endpoint.host-inside e port (after port.unit) is.1 at.sound
                 (ap (λ (h : HostState). h.ports.items) x.host-inside-is ∙ rewritten)

@@ -11,14 +11,16 @@ use std::alloc::Global;
 use std::io::{Read, Write};
 use sva_driver_reports::Ruling;
 use sva_reports::{DriveFault, Told, read_all, write_all};
+use sva_search::Watch;
 
 /// Reads a driver to its end, and writes what comes of judging it, as `judge_text` has it. After `Write` a prefix of the
-/// text was written, after `Read` or `Memory` nothing.
-pub fn judge<R: Read, W: Write>(
+/// text was written, after `Read` or `Memory` nothing. The watch is told before that how far the search is.
+pub fn judge<R: Read, W: Write, P: Watch>(
     alloc: Global,
     most: u64,
     reader: &mut Told<R>,
     writer: &mut Told<W>,
+    watch: &mut P,
 ) -> Result<Option<Ruling>, DriveFault>
     requires reader { IsNew reader.old }
     requires writer { IsNew writer.old }
@@ -32,22 +34,23 @@ pub fn judge<R: Read, W: Write>(
     ensures turns { reader.new.calls ≤ MOST_TURNS }
 {
     let text = read_all(alloc, reader)?;
-    tell_judged(alloc, most, text.as_slice(), writer)
+    tell_judged(alloc, most, text.as_slice(), writer, watch)
 }
 
 /// Writes what comes of judging a driver.
-fn tell_judged<W: Write>(
+fn tell_judged<W: Write, P: Watch>(
     alloc: Global,
     most: u64,
     text: &[u8],
     writer: &mut Told<W>,
+    watch: &mut P,
 ) -> Result<Option<Ruling>, DriveFault>
     requires { IsNew writer.old }
     ensures judged { Judges text.now most (W.contents writer.old.inner) (W.contents writer.new.inner) result }
     ensures told { Tells writer.old writer.new result }
 {
     let mut out = Vec::new(alloc);
-    match judge_text(alloc, most, text, &mut out) {
+    match judge_text(alloc, most, text, &mut out, watch) {
         Ok(said) => {
             write_all(writer, out.as_slice())?;
             Ok(said)

@@ -11,9 +11,15 @@ use sva_driver_texts::{Read, Text, choose_line, put_refused, read_driver, read_t
 use sva_judge::{Judging, Spot, Verdict, judge, start, take};
 use sva_open_wrongs::{Wrong, first_wrong};
 use sva_script_reading::put_number;
+use sva_search::Watch;
 
 /// The verdict on the driver of a text, which is given back: at most so many moments are looked at.
-fn verdict_on(alloc: Global, most: u64, text: Text) -> Result<(Text, Verdict), AllocError>
+fn verdict_on<P: Watch>(
+    alloc: Global,
+    most: u64,
+    text: Text,
+    watch: &mut P,
+) -> Result<(Text, Verdict), AllocError>
     ensures text { IfOk result (λ made. made.0 ≡ text) }
     ensures verdict { IfOk result (λ made. IsJudged text.driver most made.1) }
 {
@@ -24,7 +30,7 @@ fn verdict_on(alloc: Global, most: u64, text: Text) -> Result<(Text, Verdict), A
         said,
     } = text;
     let judging = Judging { driver };
-    let verdict = judge(alloc, &judging, most as usize)?;
+    let verdict = judge(alloc, &judging, most as usize, watch)?;
     let Judging { driver } = judging;
     Ok((
         Text {
@@ -38,22 +44,29 @@ fn verdict_on(alloc: Global, most: u64, text: Text) -> Result<(Text, Verdict), A
 }
 
 /// Judges what was read of a text, and appends its report.
-fn judge_read(alloc: Global, most: u64, text: Text, out: &mut Vec<u8>) -> Result<Ruling, AllocError>
+fn judge_read<P: Watch>(
+    alloc: Global,
+    most: u64,
+    text: Text,
+    out: &mut Vec<u8>,
+    watch: &mut P,
+) -> Result<Ruling, AllocError>
     requires { out.old.items ≡ [] }
     ensures { IfOk result (λ said. judged.IsToldBy text most said out.new.items) }
 {
-    let (text, verdict) = verdict_on(alloc, most, text)?;
+    let (text, verdict) = verdict_on(alloc, most, text, watch)?;
     put_report(alloc, out, &text, &verdict)?;
     Ok(ruling_of(&verdict))
 }
 
 /// Reads a driver, judges it and writes its report: at most so many moments are looked at. Where lines are wrong, that
-/// is written alone, and `None` given.
-pub fn judge_text(
+/// is written alone, and `None` given. The watch is told how far the search is.
+pub fn judge_text<P: Watch>(
     alloc: Global,
     most: u64,
     text: &[u8],
     out: &mut Vec<u8>,
+    watch: &mut P,
 ) -> Result<Option<Ruling>, AllocError>
     requires { out.old.items ≡ [] }
     ensures { IfOk result (λ said. judged.IsTextJudged text.now most said out.new.items) }
@@ -61,7 +74,7 @@ pub fn judge_text(
     match read_driver(alloc, text, out)? {
         None => Ok(None),
         Some(read) => {
-            let said = judge_read(alloc, most, read, out)?;
+            let said = judge_read(alloc, most, read, out, watch)?;
             Ok(Some(said))
         }
     }

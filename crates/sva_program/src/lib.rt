@@ -4,9 +4,12 @@
 
 mod command;
 mod help;
+mod progress;
 mod run;
 mod storming;
 
 pub use command::Asked;
+pub use progress::Progress;
 pub use run::{Ending, main_with, unread};
 pub use sva_scenario::Told;
+pub use sva_search::{Unwatched, Watch};

@@ -25,6 +25,7 @@ use sva_race_reports::{Judged, Wanted, explore};
 use sva_scenario::{DriveFault, Outcome, Told, check, drive, write_all};
 use sva_script_reports::{Saying, print};
 use sva_script_traces::{Columns, Style, trace};
+use sva_search::Watch;
 
 /// The steps were run, all claims of a race hold, a driver is safe, or help was shown.
 const DONE: u8 = 0;
@@ -55,12 +56,14 @@ pub enum Ending {
 /// A whole run of svahost on its words, the program's name first: the status that it exits with. The command line is
 /// judged before anything is read. Each command writes what it makes of all that the reader gives, `trace` line by line; what a
 /// fault is, `errors` is told in a line. Help and the version go to the writer, what is wrong with the words to `errors`.
-pub fn main_with<X: AllocGlobal + Threads + Wait + Sync, R: Read, W: Write, E: Write>(
+/// The watch is told how far a search is; no contract says what.
+pub fn main_with<X: AllocGlobal + Threads + Wait + Sync, R: Read, W: Write, E: Write, P: Watch>(
     rt: &X,
     words: &[String],
     reader: &mut Told<R>,
     writer: &mut Told<W>,
     errors: &mut Told<E>,
+    watch: &mut P,
 ) -> u8
     requires reader { IsNew reader.old }
     requires writer { IsNew writer.old }
@@ -91,7 +94,7 @@ pub fn main_with<X: AllocGlobal + Threads + Wait + Sync, R: Read, W: Write, E: W
 {
     match parse(rt.alloc(), words) {
         Ok(asked) => {
-            let ended = perform(rt, asked, reader, writer);
+            let ended = perform(rt, asked, reader, writer, watch);
             finish(ended, errors)
         }
         Err(error) => answer(rt.alloc(), error.kind(), &error, writer, errors),
@@ -99,11 +102,12 @@ pub fn main_with<X: AllocGlobal + Threads + Wait + Sync, R: Read, W: Write, E: W
 }
 
 /// What a command makes of its streams.
-fn perform<X: AllocGlobal + Threads + Wait + Sync, R: Read, W: Write>(
+fn perform<X: AllocGlobal + Threads + Wait + Sync, R: Read, W: Write, P: Watch>(
     rt: &X,
     asked: Asked,
     reader: &mut Told<R>,
     writer: &mut Told<W>,
+    watch: &mut P,
 ) -> Result<Ending, DriveFault>
     requires reader { IsNew reader.old }
     requires writer { IsNew writer.old }
@@ -125,9 +129,9 @@ fn perform<X: AllocGlobal + Threads + Wait + Sync, R: Read, W: Write>(
             few_ends,
         } => {
             let wanted = wanted_of(most, whys, few_ends);
-            explored(explore(rt.alloc(), wanted, reader, writer))
+            explored(explore(rt.alloc(), wanted, reader, writer, watch))
         }
-        Asked::Judge { run, most } => ruled(rule(rt.alloc(), run, most, reader, writer)),
+        Asked::Judge { run, most } => ruled(rule(rt.alloc(), run, most, reader, writer, watch)),
         Asked::Trace { live, whys } => ran(trace(rt.alloc(), style_of(live, whys), reader, writer)),
     }
 }
@@ -176,12 +180,13 @@ fn ruled(found: Result<Option<Ruling>, DriveFault>) -> Result<Ending, DriveFault
 }
 
 /// Judges a driver, or takes its lines one after another.
-fn rule<R: Read, W: Write>(
+fn rule<R: Read, W: Write, P: Watch>(
     alloc: Global,
     in_order: bool,
     most: u64,
     reader: &mut Told<R>,
     writer: &mut Told<W>,
+    watch: &mut P,
 ) -> Result<Option<Ruling>, DriveFault>
     requires reader { IsNew reader.old }
     requires writer { IsNew writer.old }
@@ -192,7 +197,7 @@ fn rule<R: Read, W: Write>(
     if in_order {
         run(alloc, reader, writer)
     } else {
-        judge(alloc, most, reader, writer)
+        judge(alloc, most, reader, writer, watch)
     }
 }
 

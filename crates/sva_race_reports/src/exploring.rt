@@ -11,14 +11,16 @@ use crate::searching::{Wanted, explore_text};
 use std::alloc::Global;
 use std::io::{Read, Write};
 use sva_reports::{DriveFault, Told, read_all, write_all};
+use sva_search::Watch;
 
 /// Reads a race to its end, and writes what comes of exploring it, as `explore_text` has it. After `Write` a prefix of the
-/// text was written, after `Read` or `Memory` nothing.
-pub fn explore<R: Read, W: Write>(
+/// text was written, after `Read` or `Memory` nothing. The watch is told before that how far the search is.
+pub fn explore<R: Read, W: Write, P: Watch>(
     alloc: Global,
     wanted: Wanted,
     reader: &mut Told<R>,
     writer: &mut Told<W>,
+    watch: &mut P,
 ) -> Result<Option<Judged>, DriveFault>
     requires reader { IsNew reader.old }
     requires writer { IsNew writer.old }
@@ -32,22 +34,23 @@ pub fn explore<R: Read, W: Write>(
     ensures turns { reader.new.calls ≤ MOST_TURNS }
 {
     let text = read_all(alloc, reader)?;
-    tell(alloc, wanted, text.as_slice(), writer)
+    tell(alloc, wanted, text.as_slice(), writer, watch)
 }
 
 /// Writes what comes of exploring a race.
-fn tell<W: Write>(
+fn tell<W: Write, P: Watch>(
     alloc: Global,
     wanted: Wanted,
     text: &[u8],
     writer: &mut Told<W>,
+    watch: &mut P,
 ) -> Result<Option<Judged>, DriveFault>
     requires { IsNew writer.old }
     ensures explored { Explores text.now wanted (W.contents writer.old.inner) (W.contents writer.new.inner) result }
     ensures told { Tells writer.old writer.new result }
 {
     let mut out = Vec::new(alloc);
-    match explore_text(alloc, wanted, text, &mut out) {
+    match explore_text(alloc, wanted, text, &mut out, watch) {
         Ok(judged) => {
             write_all(writer, out.as_slice())?;
             Ok(judged)

@@ -8,6 +8,7 @@ use sva_judge::{
 };
 use sva_open::{Act, Descriptor, Link, LocalAct, Open, Scope, Settings, Stopped};
 use sva_open_acts::act;
+use sva_search::Unwatched;
 
 /// More moments than any of these drivers has.
 const MOST: usize = 200_000;
@@ -295,7 +296,7 @@ impl Plan {
         most: usize,
     ) -> Verdict {
         let judging = self.driven(rt, alloc, budget, workers, false);
-        match judge(alloc, &judging, most) {
+        match judge(alloc, &judging, most, &mut Unwatched) {
             Ok(verdict) => verdict,
             Err(_refused) => panic!(rt; "out of memory"),
         }

@@ -5,6 +5,8 @@
 #[cfg(test)]
 mod programs;
 #[cfg(test)]
+mod progress;
+#[cfg(test)]
 mod reports;
 #[cfg(test)]
 mod streams;

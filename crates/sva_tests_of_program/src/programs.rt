@@ -8,7 +8,7 @@ use std::io::{ErrorKind, Read, Write};
 use std::sync::Wait;
 use std::test::Fail;
 use std::thread::Threads;
-use sva_program::{Told, main_with, unread};
+use sva_program::{Told, Unwatched, Watch, main_with, unread};
 
 /// The steps of the first example, and its report.
 const SCENARIO: &[u8] = b"config 1 4 1\nspace\nmap 0 16 w\nunmap 0 16\nmap 0 16 r\n";
@@ -30,18 +30,18 @@ fn line<R: AllocGlobal>(rt: &R, words: &[&str]) -> Result<Vec<String>, AllocErro
 
 /// The status of a run, and its streams behind it.
 #[derive(Drop)]
-struct Ended<R, W, E> {
-    status: u8,
+pub(crate) struct Ended<R, W, E> {
+    pub(crate) status: u8,
     reader: Told<R>,
-    writer: Told<W>,
+    pub(crate) writer: Told<W>,
     errors: Told<E>,
 }
 
-/// Runs the program on these streams.
+/// Runs the program on these streams, and nobody looks on while it searches.
 fn run_over<X, R, W, E>(
     rt: &X,
     words: &[&str],
-    (reader, writer, errors): (R, W, E),
+    streams: (R, W, E),
 ) -> Result<Ended<R, W, E>, AllocError>
 where
     X: AllocGlobal + Threads + Wait + Sync,
@@ -49,11 +49,35 @@ where
     W: Write + Drop,
     E: Write + Drop,
 {
+    run_watched(rt, words, streams, &mut Unwatched)
+}
+
+/// Runs the program on these streams.
+pub(crate) fn run_watched<X, R, W, E, P>(
+    rt: &X,
+    words: &[&str],
+    (reader, writer, errors): (R, W, E),
+    watch: &mut P,
+) -> Result<Ended<R, W, E>, AllocError>
+where
+    X: AllocGlobal + Threads + Wait + Sync,
+    R: Read + Drop,
+    W: Write + Drop,
+    E: Write + Drop,
+    P: Watch,
+{
     let words = line(rt, words)?;
     let mut reader = Told::new(reader);
     let mut writer = Told::new(writer);
     let mut errors = Told::new(errors);
-    let status = main_with(rt, words.as_slice(), &mut reader, &mut writer, &mut errors);
+    let status = main_with(
+        rt,
+        words.as_slice(),
+        &mut reader,
+        &mut writer,
+        &mut errors,
+        watch,
+    );
     Ok(Ended {
         status,
         reader,

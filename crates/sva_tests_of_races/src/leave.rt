@@ -5,7 +5,7 @@ use crate::races::{Said, race};
 use crate::searches::{BOUND, fewest, only};
 use std::alloc::{AllocError, Global};
 use sva_race::{Atom, Choice, Count, Device, End, Literal, Racing};
-use sva_search::{Found, explore};
+use sva_search::{Found, Unwatched, explore};
 
 /// What an endpoint may do beside its lines; and whether it may fall silent.
 #[derive(Clone, Copy)]
@@ -66,7 +66,7 @@ fn found(
     }
     race.devices.push(device(alloc, may)?)?;
     race.silent.push(may.is_silent)?;
-    explore(alloc, &Racing { alloc, race }, 1, 10_000)
+    explore(alloc, &Racing { alloc, race }, 1, 10_000, &mut Unwatched)
 }
 
 /// With how few choices an answer is given so often; 1000 where it never is.

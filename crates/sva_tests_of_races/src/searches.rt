@@ -4,7 +4,7 @@ use crate::asserted::holds;
 use crate::races::{Said, race};
 use std::alloc::{AllocError, Global};
 use sva_race::{Atom, Choice, End, Literal, Racing};
-use sva_search::{Found, explore};
+use sva_search::{Found, Unwatched, explore};
 
 /// A space with one page is bound, and the endpoint may use its PASID.
 pub(crate) const BOUND: [Said<'static>; 4] = [
@@ -86,7 +86,7 @@ fn found<'a>(
         alloc,
         race: race(alloc, said.as_slice(), BOUND.len(), condition?)?,
     };
-    explore(alloc, &racing, 1, 10_000)
+    explore(alloc, &racing, 1, 10_000, &mut Unwatched)
 }
 
 /// With how few choices the condition is come to.

@@ -66,11 +66,11 @@ impl<W: Write> Watch for Progress<W> {
         if self.width == 0 {
             return;
         }
-        let mut blanks = [b' '; 80];
-        let end = self.width.min(78) + 1;
-        blanks[0] = b'\r';
-        blanks[end] = b'\r';
-        let _ = self.to.write_all(&blanks[..end + 1]);
+        // No line is longer.
+        let blanks = [b' '; 64];
+        let _ = self.to.write_all(b"\r");
+        let _ = self.to.write_all(&blanks[..self.width.min(64)]);
+        let _ = self.to.write_all(b"\r");
         self.width = 0;
     }
 }

@@ -18,7 +18,7 @@ fn main(rt: HostRuntime) -> ExitCode {
     let mut writer = Told::new(rt.stdout());
     let mut errors = Told::new(rt.stderr());
     let is_terminal = rt.stderr().is_terminal();
-    let mut progress = Progress::new(rt.alloc(), rt.stderr(), is_terminal);
+    let mut progress = Progress::new(rt.alloc(), rt.stderr(), &rt, is_terminal);
     let status = match words(&rt) {
         Ok(words) => main_with(
             &rt,

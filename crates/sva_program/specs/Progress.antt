@@ -1,7 +1,13 @@
 -- What stands on a terminal while a search goes on.
-use Rattle.std.specs.Prelude.{ℕ, List, ◌∷◌, ◌++◌, codes, decimal}
+use Rattle.std.specs.Prelude.{ℕ, List, [], ◌∷◌, ◌++◌, Option, Some, None, codes, decimal}
 
--- a return to the first column, how many moments were looked at, and how many choices lead to the one that is next
-abbrev pub progress_line : (moments : ℕ) → (depth : ℕ) → List ℕ
-progress_line moments depth =
-    13 ∷ codes "svahost: " ++ decimal moments ++ codes " moments, " ++ decimal depth ++ codes " deep"
+-- how long it has taken, if that is known
+abbrev pub seconds_text : Option ℕ → List ℕ
+seconds_text None = []
+seconds_text (Some seconds) = codes ", " ++ decimal seconds ++ codes " s"
+
+-- a return to the first column, how many moments were looked at, how many choices lead to the one that is next, and how
+-- many seconds that took
+abbrev pub progress_line : (moments : ℕ) → (depth : ℕ) → (seconds : Option ℕ) → List ℕ
+progress_line moments depth seconds =
+    13 ∷ codes "svahost: " ++ decimal moments ++ codes " moments, " ++ decimal depth ++ codes " deep" ++ seconds_text seconds

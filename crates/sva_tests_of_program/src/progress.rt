@@ -91,7 +91,7 @@ fn counts_from_its_beginning(rt: HostRuntime) {
     late.read.set(5);
     shown.tell(2049, 2);
     let wanted = b"\rsvahost: 1025 moments, 1 deep, 3 s\rsvahost: 2049 moments, 2 deep";
-    assert!(rt; shown.to().as_slice() == wanted);
+    assert!(rt; shown.to().as_slice() == wanted.as_slice());
 }
 
 /// The longest line has 88 columns. It is hidden whole too.

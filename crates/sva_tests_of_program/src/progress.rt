@@ -20,6 +20,7 @@ const UNTIMED: &str =
     "\rsvahost: 2047 moments, 10 deep\rsvahost: 12288 moments, 17 deep\r                               \r";
 
 /// A clock that stands so many seconds later each time that it is read.
+#[derive(Drop)]
 struct Steps {
     seconds: u64,
     read: Cell<u64>,
@@ -45,6 +46,7 @@ impl Clock for Steps {
 }
 
 /// A clock that can't be read.
+#[derive(Drop)]
 struct Stopped;
 
 impl Clock for Stopped {

@@ -20,6 +20,7 @@ const UNTIMED: &str =
     "\rsvahost: 2047 moments, 10 deep\rsvahost: 12288 moments, 17 deep\r                               \r";
 
 /// A clock that stands so many seconds later each time that it is read.
+#[derive(Drop)]
 struct Steps {
     seconds: u64,
     read: Cell<u64>,
@@ -45,6 +46,7 @@ impl Clock for Steps {
 }
 
 /// A clock that can't be read.
+#[derive(Drop)]
 struct Stopped;
 
 impl Clock for Stopped {
@@ -91,7 +93,7 @@ fn counts_from_its_beginning(rt: HostRuntime) {
     late.read.set(5);
     shown.tell(2049, 2);
     let wanted = b"\rsvahost: 1025 moments, 1 deep, 3 s\rsvahost: 2049 moments, 2 deep";
-    assert!(rt; shown.to().as_slice() == wanted);
+    assert!(rt; shown.to().as_slice() == wanted.as_slice());
 }
 
 /// The longest line has 88 columns. It is hidden whole too.

@@ -16,10 +16,9 @@ _svahost() {
     words='--svg --help'
   elif [[ $command == explore || $command == judge ]]; then
     [[ $before == --most || $before == --part ]] && return
-    words='--most --help'
+    words='--most --part --help'
     if [ "$command" = judge ]; then words="--run $words"; else words="--why --ends $words"; fi
-    if [[ $1 == */* && $current != -* ]]; then
-      # the script of the repository takes files too
+    if [[ $current != -* ]]; then
       compopt -o filenames 2> /dev/null
       mapfile -t COMPREPLY < <(compgen -f -X "!*.sv[rd]" -- "$current"; compgen -d -- "$current")
       return

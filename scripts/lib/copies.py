@@ -34,6 +34,6 @@ class Copy:
     def run(self, crate, *words):
         """What `rt` said in a crate, and its status."""
         # (`rt try` proves nothing, and takes no number of jobs)
-        words, cwd = ["rt", *words, *(() if words[0] == "try" else ("--jobs", "1"))], f"{self.room}/crates/{crate}"
+        words, cwd = [f"{ROOT}/scripts/rt", *words, *(() if words[0] == "try" else ("--jobs", "1"))], f"{self.room}/crates/{crate}"
         ran = subprocess.run(words, cwd=cwd, stdin=subprocess.DEVNULL, stdout=subprocess.PIPE, stderr=subprocess.STDOUT, text=True, errors="replace")
         return ran.returncode, ran.stdout

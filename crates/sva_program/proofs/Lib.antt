@@ -1,9 +1,2 @@
 mod SayLemmas
 mod RunLemmas
-mod FlagLemmas
-mod LineLemmas
-mod TellLemmas
-mod CallLemmas
-mod ReadLemmas
-mod TurnLemmas
-mod TakenLemmas

@@ -22,10 +22,10 @@ use Rattle.sva_script_reports.specs.Shows.{show_of}
 use Rattle.sva_script_reports.specs.Whys.{whys_of}
 use Rattle.sva_script_traces.specs.Traces.{trace_of}
 use Rattle.sva_program.specs.Run.{HasCause, Makes, Reports, Rules, RunsTo, WhereKnown, explored_of, ran_of, ruled_of, status_of, style_of}
-use Rattle.sva_program.specs.declared.command.Asked.{Asked}
+use Rattle.sva_command.specs.declared.command.Asked.{Asked}
 use Rattle.sva_driver_reports.specs.declared.reports.Ruling.{Ruling}
 use Rattle.sva_driver_reports.specs.declared.reports.Ruling.TheVariants.{Safe, Unsafe, Stuck, CutOff}
-use Rattle.sva_program.specs.declared.command.Asked.TheVariants.{Chart, Check, Explore, Judge, Plain, Replay, Show, Storm, Test, Trace, Why}
+use Rattle.sva_command.specs.declared.command.Asked.TheVariants.{Chart, Check, Explore, Judge, Plain, Replay, Show, Storm, Test, Trace, Why}
 use Rattle.sva_program.specs.declared.run.Ending.{Ending}
 use Rattle.sva_race_reports.specs.declared.judging.Judged.{Judged}
 use Rattle.sva_race_reports.specs.declared.judging.Judged.TheVariants.{Holds, Fails, Unknown}

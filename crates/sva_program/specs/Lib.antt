@@ -1,3 +1,2 @@
-pub mod Command
 pub mod Progress
 pub mod Run

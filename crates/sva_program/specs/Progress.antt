@@ -1,10 +1,6 @@
 -- What stands on a terminal while a search goes on.
-use Rattle.std.specs.Prelude.{ℕ, List, [], ◌∷◌, ◌++◌, Option, Some, None, codes, decimal}
-
--- how long it has taken, if that is known
-abbrev pub seconds_text : Option ℕ → List ℕ
-seconds_text None = []
-seconds_text (Some seconds) = codes ", " ++ decimal seconds ++ codes " s"
+use Rattle.std.specs.Prelude.{ℕ, List, ◌∷◌, ◌++◌, Option, codes, decimal}
+use Rattle.sva_terminal.specs.Seconds.{seconds_text}
 
 -- a return to the first column, how many moments were looked at, how many choices lead to the one that is next, and how
 -- many seconds that took

@@ -26,8 +26,8 @@ use Rattle.sva_race_reports.specs.Explored.{Explores}
 use Rattle.sva_driver_reports.specs.declared.reports.Ruling.{Ruling}
 use Rattle.sva_driver_reports.specs.declared.reports.Ruling.TheVariants.{Safe, Unsafe, Stuck, CutOff}
 use Rattle.sva_driver_runs.specs.Judged.{Judges, Runs}
-use Rattle.sva_program.specs.declared.command.Asked.{Asked}
-use Rattle.sva_program.specs.declared.command.Asked.TheVariants.{Replay, Check, Storm, Plain, Test, Show, Why, Chart, Explore, Judge, Trace}
+use Rattle.sva_command.specs.declared.command.Asked.{Asked}
+use Rattle.sva_command.specs.declared.command.Asked.TheVariants.{Replay, Check, Storm, Plain, Test, Show, Why, Chart, Explore, Judge, Trace}
 use Rattle.sva_program.specs.declared.run.Ending.{Ending}
 use Rattle.sva_program.specs.declared.run.Ending.TheVariants.{Explored, Ran, Ruled}
 
@@ -106,7 +106,7 @@ style_of live whys = record { columns = columns_of live; whys = whys }
 -- `--most` limits how many moments are looked at, and `--why` tells behind each witness what holds its steps back,
 -- and the lines that wait where it ends
 abbrev pub wanted_of : (most : ℕ) → (whys few_ends : Bool) → Wanted
-wanted_of most whys few_ends = record { most = most; whys = whys; few_ends = few_ends }
+wanted_of most whys few_ends = record { most = most; whys = whys; few_ends = few_ends; is_brief = false }
 
 -- a run of steps ended, and made this
 abbrev pub RunsTo : (Result Outcome DriveFault → Type 0) → Result Ending DriveFault → Type 0

@@ -3,13 +3,11 @@
 ghost use Rattle.std.specs.Prelude.{◌≡◌, ◌≢◌, ◌≤◌, ◌<◌, ◌⊎◌, List, ℕ, [], length, Option, OnOk, Result};
 ghost use Rattle.std.specs.Io.KnownBytes.{Appends};
 ghost use Rattle.std.specs.IoError.{error_kind};
-ghost use Rattle.sva_program.specs.Command.{Asks, AsksExplore, AsksJudge, AsksRun, AsksText, CallsHelp, CallsVersion, IsMistaken, texts};
+ghost use Rattle.sva_command.specs.Command.{Asks, AsksExplore, AsksJudge, AsksRun, AsksText, CallsHelp, CallsVersion, IsMistaken, texts};
 ghost use Rattle.sva_program.specs.Run.{HasCause, IsSaid, Reports, Rules, Says, WhereKnown, columns_of, complaint, explored_of, fault_line, ran_of, ruled_of};
 ghost use Rattle.sva_program.specs.Run.{status_of, style_of, unread_line, wanted_of};
 ghost use Rattle.sva_reports.specs.Streams.{IsNew, Writes};
 
-use crate::command::{Asked, parse};
-use crate::help::NO_TEXT;
 use crate::storming::drive_storm;
 use clap::error::ErrorKind;
 use std::alloc::Global;
@@ -19,6 +17,7 @@ use std::io::{ErrorKind as IoErrorKind, Read, Write};
 use std::sync::Wait;
 use std::thread::Threads;
 use sva_charts::{Drawing, chart};
+use sva_command::{Asked, NO_TEXT, parse};
 use sva_driver_reports::Ruling;
 use sva_driver_runs::{judge, run};
 use sva_race_reports::{Judged, Wanted, explore};
@@ -165,6 +164,7 @@ fn wanted_of(most: u64, whys: bool, few_ends: bool) -> Wanted
         most,
         whys,
         few_ends,
+        is_brief: false,
     }
 }
 
@@ -265,11 +265,18 @@ fn finish<E: Write>(ended: Result<Ending, DriveFault>, errors: &mut Told<E>) -> 
         Ok(Ending::Ruled(Ruling::Unsafe)) => FAILED,
         Ok(Ending::Ruled(Ruling::Stuck)) => FAILED,
         Ok(Ending::Ruled(Ruling::CutOff)) => UNKNOWN,
-        Err(fault) => {
-            complain(fault, errors);
-            FAULT
-        }
+        Err(fault) => faulted(fault, errors),
     }
+}
+
+/// The status of a fault, which is told to `errors` in a line.
+pub fn faulted<E: Write>(fault: DriveFault, errors: &mut Told<E>) -> u8
+    requires { IsNew errors.old }
+    ensures status { result ≡ FAULT }
+    ensures said { Says E.contents errors.old errors.new (fault_line fault) }
+{
+    complain(fault, errors);
+    FAULT
 }
 
 /// Tells of a fault in a line.

@@ -5,3 +5,4 @@ pub mod Moved
 pub mod Ended
 pub mod OwnSteps
 pub mod Fronts
+pub mod Tallies

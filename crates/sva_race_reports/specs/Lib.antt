@@ -4,3 +4,4 @@ pub mod Ends
 pub mod Held
 pub mod Reports
 pub mod Explored
+pub mod Briefs

@@ -7,7 +7,7 @@ ghost use Rattle.sva_race_reports.specs.Held.{held_in};
 ghost use Rattle.sva_race_reports.specs.Judging.{judged_at};
 ghost use Rattle.sva_race_reports.specs.declared.judging.Judged.TheVariants.{Holds};
 ghost use Rattle.sva_race_reports.specs.Reports.{asks, behind_if, claim_text, claimed, claims_from, counts_text, named_witness};
-ghost use Rattle.sva_race_reports.specs.Reports.{reach_text, report_text, tried_text, verdict_of, with_witness, witness_if};
+ghost use Rattle.sva_race_reports.specs.Reports.{reach_text, tried_text, verdict_of, whole_text, with_witness, witness_if};
 ghost use Rattle.sva_race_reports.specs.Reports.{witness_with, witnesses_from};
 
 use crate::ends::put_ends;
@@ -41,7 +41,7 @@ fn put_tried(out: &mut Vec<u8>, depth: usize) -> Result<(), AllocError>
 }
 
 /// Appends how far the search came.
-fn put_reach(
+pub(crate) fn put_reach(
     out: &mut Vec<u8>,
     found: &Found<Choice, End>,
     cut: Option<usize>,
@@ -62,7 +62,7 @@ fn put_reach(
 }
 
 /// What is said of the claim of a place.
-fn judged_at(
+pub(crate) fn judged_at(
     found: &Found<Choice, End>,
     is_of_ends: bool,
     place: usize,
@@ -252,7 +252,7 @@ fn put_witnesses(
 
 /// Appends the report of a race: how far the search came, what the ends come to, what that says of each claim, and the
 /// witnesses, each with what holds its own steps back, and the lines that wait where it ends, if that is wanted.
-pub(crate) fn put_report(
+pub(crate) fn put_whole(
     alloc: Global,
     out: &mut Vec<u8>,
     race: &Race,
@@ -262,7 +262,7 @@ pub(crate) fn put_report(
     found: &Found<Choice, End>,
 ) -> Result<(), AllocError>
     ensures { OnOk result (out.new.items
-        ≡ out.old.items ++ report_text race.now threads.now wanted asked.now found.now) }
+        ≡ out.old.items ++ whole_text race.now threads.now wanted asked.now found.now) }
 {
     let ends = found.ends.as_slice();
     put_reach(out, found, found.cut)?;

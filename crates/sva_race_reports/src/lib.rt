@@ -1,6 +1,7 @@
 //! What is said of a race: how far a search came, what that says of each claim, and shortest witnesses as scenarios.
 #![tactic(auto)]
 
+mod briefs;
 mod claims;
 mod ends;
 mod exploring;

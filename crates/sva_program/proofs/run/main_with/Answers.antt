@@ -1,13 +1,13 @@
 use Rattle.std.proofs.Common.{rules, ◌≡◌, ◌≤◌, ◌⊎◌, ap, inl, inr, Err, ◌∙◌, subst, sym}
 use Rattle.clap.specs.Words.{HasKind, kind_of}
 use Rattle.sva_reports.specs.declared.streams.DriveFault.TheVariants.{Memory}
-use Rattle.sva_program.specs.Command.{Asks, faults_of, texts}
-use Rattle.sva_program.specs.declared.command.Asked.TheVariants.{Explore, Judge}
+use Rattle.sva_command.specs.Command.{Asks, faults_of, texts}
+use Rattle.sva_command.specs.declared.command.Asked.TheVariants.{Explore, Judge}
 use Rattle.sva_program.specs.Run.{Reports}
 use Rattle.sva_program.proofs.RunLemmas.{among_faults, asked_text, exploring_status, only_memory, ruling_status, steps_status, unwritten}
-use Rattle.sva_program.proofs.CallLemmas.{help_unmistaken, no_command_asks, no_command_taken, version_unmistaken}
-use Rattle.sva_program.proofs.LineLemmas.{takes}
-use Rattle.sva_program.proofs.TellLemmas.{one_alone}
+use Rattle.sva_command.proofs.CallLemmas.{help_unmistaken, no_command_asks, no_command_taken, version_unmistaken}
+use Rattle.sva_command.proofs.LineLemmas.{takes}
+use Rattle.sva_command.proofs.TellLemmas.{one_alone}
 use Rattle.sva_program.proofs.run.main_with.Goals as goal
 
 pub returns-in-Ok-clause-run : goal.returns-in-Ok-clause-run

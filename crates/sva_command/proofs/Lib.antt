@@ -1,0 +1,8 @@
+mod FlagLemmas
+pub mod LineLemmas
+pub mod TellLemmas
+pub mod CallLemmas
+mod ReadLemmas
+mod TurnLemmas
+mod TakenLemmas
+mod Parts

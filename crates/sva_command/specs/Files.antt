@@ -1,0 +1,107 @@
+-- The files that `explore` and `judge` name, and the part of them that is searched.
+use Rattle.std.specs.Prelude.{ℕ, ◌+◌, ◌-◌, ◌==◌, ◌&&◌, ◌||◌, nat_le, if◌then◌else◌, Bool, List, [], ◌∷◌, ◌++◌, codes, drop, length, take}
+use Rattle.std.specs.Prelude.{Option, Some, None, Result, Ok}
+use Rattle.std.specs.List.{position}
+use Rattle.std.specs.Str.{bytes_eq}
+use Rattle.clap.specs.Words.{Text}
+use Rattle.sva_grammar.specs.Grammar.{number}
+use Rattle.sva_grammar.specs.declared.faults.Cause.{Cause}
+use Rattle.sva_command.specs.declared.files.Awaited.{Awaited}
+use Rattle.sva_command.specs.declared.files.Awaited.TheVariants as awaited
+use Rattle.sva_command.specs.declared.files.Kind.{Kind}
+use Rattle.sva_command.specs.declared.files.Kind.TheVariants as kind
+use Rattle.sva_command.specs.declared.files.Part.{Part}
+
+-- ---- The words
+
+-- the words that are left for the command line, the files, what was said of the part, and what the next word is
+pub record Named : Type 0 where
+  pub own : List Text
+  pub files : List Text
+  pub part : Option Text
+  pub awaited : Awaited
+
+abbrev pub begun : (name command : Text) → Named
+begun name command = record { own = name ∷ command ∷ []; files = []; part = None; awaited = awaited.Word }
+
+abbrev pub with_own : Named → Text → Named
+with_own named word = record named { own = named.own ++ word ∷ [] }
+
+abbrev pub with_file : Named → Text → Named
+with_file named word = record named { files = named.files ++ word ∷ [] }
+
+abbrev pub with_part : Named → Text → Named
+with_part named text = record named { part = Some text }
+
+abbrev pub awaiting : Named → Awaited → Named
+awaiting named next = record named { awaited = next }
+
+abbrev pub begins : (text with : Text) → Bool
+begins text with = nat_le (length with) (length text) && bytes_eq (take (length with) text) with
+
+-- what a word is where an option or a file may stand: what begins with `-` is an option
+abbrev pub kind_of : Text → Kind
+kind_of word =
+    if bytes_eq word (codes "--") then kind.Files else
+    if bytes_eq word (codes "--most") then kind.Most else
+    if bytes_eq word (codes "--part") then kind.Part else
+    if begins word (codes "--part=") then kind.PartIs else
+    if begins word (codes "-") then kind.Own else
+    kind.File
+
+-- `--` is left for the command line, and what stands behind it is a file; so is `--most` with the word behind it; of `--part`, whose part
+-- stands in the next word or behind `=`, the command line has nothing
+abbrev pub with_kind : Kind → Named → Text → Named
+with_kind kind.Files named word = awaiting (with_own named word) awaited.File
+with_kind kind.Most named word = awaiting (with_own named word) awaited.Most
+with_kind kind.Part named word = awaiting named awaited.Part
+with_kind kind.PartIs named word = with_part named (drop 7 word)
+with_kind kind.Own named word = with_own named word
+with_kind kind.File named word = with_file named word
+
+abbrev pub with_awaited : Awaited → Named → Text → Named
+with_awaited awaited.Word named word = with_kind (kind_of word) named word
+with_awaited awaited.Most named word = with_own (awaiting named awaited.Word) word
+with_awaited awaited.Part named word = with_part (awaiting named awaited.Word) word
+with_awaited awaited.File named word = with_file named word
+
+abbrev pub with_word : Named → Text → Named
+with_word named word = with_awaited named.awaited named word
+
+unfoldable pub with_words : Named → List Text → Named
+with_words named [] = named
+with_words named (word ∷ words) = with_words (with_word named word) words
+
+-- the commands that take files
+abbrev pub takes_files : Text → Bool
+takes_files command = bytes_eq command (codes "explore") || bytes_eq command (codes "judge")
+
+-- the words of such a command, the program's name first
+abbrev pub named_in : List Text → Option Named
+named_in (name ∷ command ∷ words) = if takes_files command then Some (with_words (begun name command) words) else None
+named_in words = None
+
+-- ---- The part
+
+-- How many parts there are, and which of them it is, from 1 on: `--part` has the two numbers about a `/`.
+abbrev pub part_by : (one other : Result ℕ Cause) → Option Part
+part_by (Ok index) (Ok count) =
+    if nat_le 1 index && nat_le index count && nat_le count 999999 then Some (record { index = index; count = count }) else None
+part_by one other = None
+
+abbrev pub part_at : Text → Option ℕ → Option Part
+part_at text None = None
+part_at text (Some at) = part_by (number (take at text)) (number (drop (at + 1) text))
+
+abbrev pub part_of : Text → Option Part
+part_of text = part_at text (position (λ byte. byte == 47) text)
+
+-- every N-th of a list, behind so many that are left out
+unfoldable pub every : {A : Type 0} → (count before : ℕ) → List A → List A
+every count before [] = []
+every count before (item ∷ items) =
+    if before == 0 then item ∷ every count (count - 1) items else every count (before - 1) items
+
+-- the files of a part: every N-th, from the K-th on
+abbrev pub files_of : Part → List Text → List Text
+files_of part files = every part.count (part.index - 1) files

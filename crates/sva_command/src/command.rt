@@ -1,0 +1,318 @@
+//! The command line.
+
+ghost use Rattle.std.specs.Prelude.{◌≡◌, IfOk, codes, false};
+ghost use Rattle.clap.specs.Words.{FailsBy, app_of, found_of, new_app, rows_of, rule_of, subcommand_rows_of, with_rule, with_subcommand};
+ghost use Rattle.sva_command.specs.Command.{Asks, IsReadable, IsWritten, asked_by, faults_of, flag_rule, is_given, no_commands};
+ghost use Rattle.sva_command.specs.Command.{most_by, most_rule, most_text, svahost, texts, turns_by, turns_rule, turns_text, within};
+
+use crate::help::{
+    ABOUT, CHART, CHECK, ENDS, EXPLORE, HELP, JUDGE, LIVE, MOST, PLAIN, REPLAY, RUN, SHOW, STORM,
+    SVG, TEST, TRACE, TURNS, VERSION, WAITS, WHY, WHYS,
+};
+use clap::builder::ValueParser;
+use clap::{Arg, ArgAction, ArgMatches, Command, Error};
+use std::alloc::{AllocError, Global};
+
+/// How many turns each thread of a storm has at most.
+const MOST_TURNS: u64 = 1_000_000;
+
+/// How many it has where nothing is said of them. clap is given the same number as a text.
+const USUAL_TURNS: u64 = 10_000;
+
+/// How many moments of a race are looked at at most.
+const MOST_MOMENTS: u64 = 1_000_000_000;
+
+/// How many are looked at where nothing is said of them. clap is given the same number as a text.
+const USUAL_MOMENTS: u64 = 1_000_000;
+
+/// A command of the program.
+#[derive(Clone, Copy, PartialEq, Eq)]
+pub enum Asked {
+    /// The report of a run of the steps.
+    Replay,
+    /// How many steps there are.
+    Check,
+    /// The audit of a storm of threads.
+    Storm {
+        /// How many turns each thread has: 1 to 1000000.
+        turns: u64,
+    },
+    /// The scenario that a script stands for.
+    Plain,
+    /// Whether a script's answers are as expected.
+    Test,
+    /// What the host keeps behind the last line of a script.
+    Show,
+    /// What holds the steps of a script back that were refused, blocked or withheld.
+    Why,
+    /// The run of a script as a sequence chart.
+    Chart {
+        /// Is it a picture, and not text?
+        svg: bool,
+    },
+    /// What every order of a race comes to.
+    Explore {
+        /// How many moments are looked at at most: 1 to 1000000000.
+        most: u64,
+        /// Is it said behind each witness what holds its own steps back, and the lines that wait where it ends?
+        whys: bool,
+        /// Are no more than 20 texts of ends told?
+        few_ends: bool,
+    },
+    /// Whether each order of a driver is safe.
+    Judge {
+        /// Are the lines taken one after another, and no other order?
+        run: bool,
+        /// How many moments are looked at at most: 1 to 1000000000.
+        most: u64,
+    },
+    /// Each step of a script with its answer and its messages, as it comes.
+    Trace {
+        /// Is a column ended by a tab, and not padded?
+        live: bool,
+        /// Is it said behind a step that was refused, blocked or withheld what holds it back?
+        whys: bool,
+    },
+}
+
+/// What `--help` says. The text is long, and a body that names a constant has it written out in its proof: so this one alone does.
+fn whole_help() -> &'static str {
+    HELP
+}
+
+/// The option `--turns`.
+fn turns_option<'a>(alloc: Global) -> Arg<'a>
+    ensures rule { rule_of result ≡ turns_rule }
+    ensures local { result.global ≡ false }
+{
+    Arg::new(alloc, "turns")
+        .long("turns")
+        .action(ArgAction::Set)
+        .value_name("N")
+        .default_value("10000")
+        .help(TURNS)
+        .value_parser(ValueParser::unsigned(1, MOST_TURNS))
+}
+
+/// The program with a command more, which takes no arguments.
+fn with_bare<'a>(
+    svahost: Command<'a>,
+    alloc: Global,
+    name: &'a str,
+    about: &'a str,
+) -> Result<Command<'a>, AllocError>
+    ensures { IfOk result (λ command. app_of command ≡ with_subcommand (app_of svahost.entry) (new_app name.entry.now).top) }
+{
+    let command = Command::new(alloc, name)
+        .about(about)
+        .long_about(whole_help());
+    svahost.subcommand(command)
+}
+
+/// The program with its command `storm`.
+fn with_storm<'a>(svahost: Command<'a>, alloc: Global) -> Result<Command<'a>, AllocError>
+    ensures { IfOk result (λ command. app_of command ≡ with_subcommand (app_of svahost.entry) (with_rule (new_app (codes "storm")) turns_rule).top) }
+{
+    let storm = Command::new(alloc, "storm")
+        .about(STORM)
+        .long_about(whole_help());
+    let with_turns = storm.arg(turns_option(alloc))?;
+    svahost.subcommand(with_turns)
+}
+
+/// The option `--most`.
+fn most_option<'a>(alloc: Global) -> Arg<'a>
+    ensures rule { rule_of result ≡ most_rule }
+    ensures local { result.global ≡ false }
+{
+    Arg::new(alloc, "most")
+        .long("most")
+        .action(ArgAction::Set)
+        .value_name("N")
+        .default_value("1000000")
+        .help(MOST)
+        .value_parser(ValueParser::unsigned(1, MOST_MOMENTS))
+}
+
+/// The program with its command `explore`.
+fn with_explore<'a>(svahost: Command<'a>, alloc: Global) -> Result<Command<'a>, AllocError>
+    ensures { IfOk result (λ command. app_of command
+        ≡ with_subcommand (app_of svahost.entry) (with_rule (with_rule (with_rule (new_app (codes "explore")) most_rule)
+        (flag_rule (codes "why"))) (flag_rule (codes "ends"))).top) }
+{
+    let explore = Command::new(alloc, "explore")
+        .about(EXPLORE)
+        .long_about(whole_help());
+    let with_most = explore.arg(most_option(alloc))?;
+    let with_why = with_most.arg(flag(alloc, "why", WAITS))?;
+    let with_ends = with_why.arg(flag(alloc, "ends", ENDS))?;
+    svahost.subcommand(with_ends)
+}
+
+/// An option that is a flag.
+fn flag<'a>(alloc: Global, name: &'a str, about: &'a str) -> Arg<'a>
+    ensures rule { rule_of result ≡ flag_rule name.entry.now }
+    ensures local { result.global ≡ false }
+{
+    Arg::new(alloc, name)
+        .long(name)
+        .action(ArgAction::SetTrue)
+        .help(about)
+}
+
+/// The program with its command `judge`.
+fn with_judge<'a>(svahost: Command<'a>, alloc: Global) -> Result<Command<'a>, AllocError>
+    ensures { IfOk result (λ command. app_of command
+        ≡ with_subcommand (app_of svahost.entry) (with_rule (with_rule (new_app (codes "judge"))
+        most_rule) (flag_rule (codes "run"))).top) }
+{
+    let judge = Command::new(alloc, "judge")
+        .about(JUDGE)
+        .long_about(whole_help());
+    let with_most = judge.arg(most_option(alloc))?;
+    let with_run = with_most.arg(flag(alloc, "run", RUN))?;
+    svahost.subcommand(with_run)
+}
+
+/// The program with its command `trace`.
+fn with_trace<'a>(svahost: Command<'a>, alloc: Global) -> Result<Command<'a>, AllocError>
+    ensures { IfOk result (λ command. app_of command
+        ≡ with_subcommand (app_of svahost.entry) (with_rule (with_rule (new_app (codes "trace"))
+        (flag_rule (codes "live"))) (flag_rule (codes "why"))).top) }
+{
+    let trace = Command::new(alloc, "trace")
+        .about(TRACE)
+        .long_about(whole_help());
+    let with_live = trace.arg(flag(alloc, "live", LIVE))?;
+    let with_why = with_live.arg(flag(alloc, "why", WHYS))?;
+    svahost.subcommand(with_why)
+}
+
+/// The program with its command `chart`.
+fn with_chart<'a>(svahost: Command<'a>, alloc: Global) -> Result<Command<'a>, AllocError>
+    ensures { IfOk result (λ command. app_of command ≡ with_subcommand (app_of svahost.entry) (with_rule (new_app (codes "chart")) (flag_rule (codes "svg"))).top) }
+{
+    let chart = Command::new(alloc, "chart")
+        .about(CHART)
+        .long_about(whole_help());
+    let with_svg = chart.arg(flag(alloc, "svg", SVG))?;
+    svahost.subcommand(with_svg)
+}
+
+/// The program before its commands.
+fn without_commands<'a>(alloc: Global) -> Result<Command<'a>, AllocError>
+    ensures { IfOk result (λ command. app_of command ≡ no_commands) }
+{
+    let named = Command::new(alloc, "svahost").bin_name("svahost")?;
+    Ok(
+        named
+            .version(VERSION)
+            .about(ABOUT)
+            .long_about(whole_help())
+            .subcommand_required(true)
+            .disable_help_subcommand(true),
+    )
+}
+
+/// The command line of svahost.
+fn command<'a>(alloc: Global) -> Result<Command<'a>, AllocError>
+    ensures { IfOk result (λ command. app_of command ≡ svahost) }
+{
+    let bare = without_commands(alloc)?;
+    let replaying = with_bare(bare, alloc, "replay", REPLAY)?;
+    let checking = with_bare(replaying, alloc, "check", CHECK)?;
+    let storming = with_storm(checking, alloc)?;
+    let plain_too = with_bare(storming, alloc, "plain", PLAIN)?;
+    let testing = with_bare(plain_too, alloc, "test", TEST)?;
+    let showing = with_bare(testing, alloc, "show", SHOW)?;
+    let explaining = with_bare(showing, alloc, "why", WHY)?;
+    let charting = with_chart(explaining, alloc)?;
+    let exploring = with_explore(charting, alloc)?;
+    let judging = with_judge(exploring, alloc)?;
+    with_trace(judging, alloc)
+}
+
+/// The command that the words ask for. A call for help or for the version is an `Err` too, as clap has it.
+pub fn parse(alloc: Global, words: &[String]) -> Result<Asked, Error>
+    ensures fails { FailsBy (faults_of (texts words.now)) result }
+    ensures asked { IfOk result (λ asked. Asks asked (texts words.now)) }
+{
+    match command(alloc)?.try_get_matches_from(words) {
+        Ok(matches) => Ok(entered(&matches)),
+        Err(error) => Err(error),
+    }
+}
+
+/// The command that clap entered. It enters no other than these, and one of them where it takes the words.
+fn entered(matches: &ArgMatches<'_>) -> Asked
+    ensures { IsReadable (subcommand_rows_of matches.now) → result ≡ asked_by (subcommand_rows_of matches.now) }
+{
+    match matches.subcommand() {
+        Some(("check", _)) => Asked::Check,
+        Some(("storm", below)) => Asked::Storm {
+            turns: turns(below),
+        },
+        Some(("plain", _)) => Asked::Plain,
+        Some(("test", _)) => Asked::Test,
+        Some(("show", _)) => Asked::Show,
+        Some(("why", _)) => Asked::Why,
+        Some(("chart", below)) => Asked::Chart {
+            svg: is_given(below, "svg"),
+        },
+        Some(("explore", below)) => Asked::Explore {
+            most: most(below),
+            whys: wants_whys(below),
+            few_ends: is_given(below, "ends"),
+        },
+        Some(("judge", below)) => Asked::Judge {
+            run: is_given(below, "run"),
+            most: most(below),
+        },
+        Some(("trace", below)) => Asked::Trace {
+            live: is_given(below, "live"),
+            whys: is_given(below, "why"),
+        },
+        _ => Asked::Replay,
+    }
+}
+
+/// How many turns were asked for.
+fn turns(storm: &ArgMatches<'_>) -> u64
+    ensures { IsWritten (turns_text (rows_of (found_of storm.now))) → result ≡ turns_by (turns_text (rows_of (found_of storm.now))) }
+{
+    storm.get_one::<u64>("turns").unwrap_or(USUAL_TURNS)
+}
+
+/// How many moments are to be looked at. clap takes no number that is out of its limits.
+fn most(explore: &ArgMatches<'_>) -> u64
+    ensures { result ≡ most_by (most_text (rows_of (found_of explore.now))) }
+{
+    within(explore.get_one::<u64>("most"))
+}
+
+/// The number of moments that was found, where it is within its limits.
+fn within(found: Option<u64>) -> u64
+    ensures { result ≡ within found }
+{
+    match found {
+        Some(most) if 1 <= most && most <= MOST_MOMENTS => most,
+        _ => USUAL_MOMENTS,
+    }
+}
+
+/// Is it wanted what holds the steps of witnesses back, and the lines that wait where they end?
+fn wants_whys(explore: &ArgMatches<'_>) -> bool
+    ensures { result ≡ is_given (codes "why") (rows_of (found_of explore.now)) }
+{
+    is_given(explore, "why")
+}
+
+/// Was a flag given?
+fn is_given(trace: &ArgMatches<'_>, flag: &str) -> bool
+    ensures { result ≡ is_given flag.now (rows_of (found_of trace.now)) }
+{
+    match trace.get_str(flag) {
+        Some(text) => text == "true",
+        None => false,
+    }
+}

@@ -1,0 +1,282 @@
+//! The files that `explore` and `judge` name, and the part of them that is searched.
+
+ghost use Rattle.std.specs.Prelude.{◌≡◌, ◌≤◌, ◌+◌, IfOk, IfSome, MatchOption, OnOk, Ok, drop, length, map, option_map, string_bytes, take, true};
+ghost use Rattle.std.specs.List.{position};
+ghost use Rattle.sva_command.specs.Command.{texts};
+ghost use Rattle.sva_command.specs.Files as files;
+
+use std::alloc::{AllocError, Global};
+use std::marker::Model;
+use sva_grammar::{Cause, number_in};
+use sva_words::is;
+
+/// How many parts there are at most.
+const MOST_PARTS: u64 = 999_999;
+
+/// What the next word is.
+#[derive(Clone, Copy)]
+pub enum Awaited {
+    /// An option, or a file.
+    Word,
+    /// The number behind `--most`.
+    Most,
+    /// The part behind `--part`.
+    Part,
+    /// A file, whatever it looks like, since `--` came before.
+    File,
+}
+
+/// What a word is where an option or a file may stand.
+#[derive(Clone, Copy)]
+pub enum Kind {
+    /// `--`.
+    Files,
+    /// `--most`.
+    Most,
+    /// `--part`.
+    Part,
+    /// `--part=` with the part.
+    PartIs,
+    /// Another option.
+    Own,
+    /// A file.
+    File,
+}
+
+/// Whether a text begins with another.
+fn begins(text: &[u8], with: &[u8]) -> bool
+    ensures begins { result ≡ files.begins text.now with.now }
+    ensures within { result ≡ true → length with.now ≤ length text.now }
+{
+    with.len() <= text.len() && is(&text[..with.len()], with)
+}
+
+/// What a word is where an option or a file may stand.
+fn kind_of(word: &[u8]) -> Kind
+    ensures { result ≡ files.kind_of word.now }
+{
+    if is(word, b"--") {
+        Kind::Files
+    } else if is(word, b"--most") {
+        Kind::Most
+    } else if is(word, b"--part") {
+        Kind::Part
+    } else if begins(word, b"--part=") {
+        Kind::PartIs
+    } else if begins(word, b"-") {
+        Kind::Own
+    } else {
+        Kind::File
+    }
+}
+
+/// The words of a command that takes files, with these apart.
+#[derive(Drop)]
+pub struct Named {
+    /// The words that are left for the command line, the program's name first.
+    pub own: Vec<String>,
+    /// The files, in order, as they are named.
+    pub files: Vec<String>,
+    /// What stands behind `--part`; of several the last one.
+    pub part: Option<Vec<u8>>,
+    /// What a further word would be.
+    pub awaited: Awaited,
+}
+
+impl Model for Named {
+    ghost use Rattle.std.specs.Prelude.{option_map};
+    ghost use Rattle.sva_command.specs.Command.{texts};
+    ghost use Rattle.sva_command.specs.Files as kept;
+
+    ghost Value = { kept.Named };
+
+    ghost view = { λ named. record {
+      own = texts named.own.items;
+      files = texts named.files.items;
+      part = option_map (λ part. part.items) named.part;
+      awaited = named.awaited;
+    } };
+}
+
+impl Named {
+    /// Before the words behind a command.
+    fn begun(alloc: Global, name: &str, command: &str) -> Result<Named, AllocError>
+        ensures { IfOk result (λ named. named ≡ files.begun name.now command.now) }
+    {
+        let mut own = Vec::new(alloc);
+        own.push(String::from_str(alloc, name)?)?;
+        own.push(String::from_str(alloc, command)?)?;
+        Ok(Named {
+            own,
+            files: Vec::new(alloc),
+            part: None,
+            awaited: Awaited::Word,
+        })
+    }
+
+    /// A word is left for the command line.
+    fn keep(&mut self, alloc: Global, word: &str) -> Result<(), AllocError>
+        ensures { OnOk result (self.new ≡ files.with_own self.old word.now) }
+    {
+        self.own.push(String::from_str(alloc, word)?)?;
+        Ok(())
+    }
+
+    /// A word names a file.
+    fn name(&mut self, alloc: Global, word: &str) -> Result<(), AllocError>
+        ensures { OnOk result (self.new ≡ files.with_file self.old word.now) }
+    {
+        self.files.push(String::from_str(alloc, word)?)?;
+        Ok(())
+    }
+
+    /// A text says which part.
+    fn set_part(&mut self, alloc: Global, text: &[u8]) -> Result<(), AllocError>
+        ensures { OnOk result (self.new ≡ files.with_part self.old text.now) }
+    {
+        self.part = Some(Vec::from_slice(alloc, text)?);
+        Ok(())
+    }
+
+    /// Says what the next word is.
+    fn await_next(&mut self, next: Awaited)
+        ensures { self.new ≡ files.awaiting self.old next }
+    {
+        self.awaited = next;
+    }
+
+    /// Takes a word of a kind.
+    fn take_kind(&mut self, alloc: Global, kind: Kind, word: &str) -> Result<(), AllocError>
+        ensures { OnOk result (self.new ≡ files.with_kind kind self.old word.now) }
+    {
+        match kind {
+            Kind::Files => {
+                self.keep(alloc, word)?;
+                self.await_next(Awaited::File);
+                Ok(())
+            }
+            Kind::Most => {
+                self.keep(alloc, word)?;
+                self.await_next(Awaited::Most);
+                Ok(())
+            }
+            Kind::Part => {
+                self.await_next(Awaited::Part);
+                Ok(())
+            }
+            Kind::PartIs => self.set_part(alloc, behind_equals(word.as_bytes())),
+            Kind::Own => self.keep(alloc, word),
+            Kind::File => self.name(alloc, word),
+        }
+    }
+
+    /// Takes the next word.
+    fn take(&mut self, alloc: Global, word: &str) -> Result<(), AllocError>
+        ensures { OnOk result (self.new ≡ files.with_word self.old word.now) }
+    {
+        let awaited = self.awaited;
+        match awaited {
+            Awaited::Word => self.take_kind(alloc, kind_of(word.as_bytes()), word),
+            Awaited::Most => {
+                self.await_next(Awaited::Word);
+                self.keep(alloc, word)
+            }
+            Awaited::Part => {
+                self.await_next(Awaited::Word);
+                self.set_part(alloc, word.as_bytes())
+            }
+            Awaited::File => self.name(alloc, word),
+        }
+    }
+
+    /// Takes the words behind a command.
+    fn take_all(&mut self, alloc: Global, words: &[String]) -> Result<(), AllocError>
+        ensures { OnOk result (self.new ≡ files.with_words self.old (texts words.now)) }
+    {
+        for place in 0..words.len() {
+            self.take(alloc, words[place].as_str())?;
+        }
+        Ok(())
+    }
+}
+
+/// What stands behind `--part=`.
+fn behind_equals(word: &[u8]) -> &[u8]
+    ensures { result.now ≡ drop 7 word.entry.now }
+{
+    match word.get(7..) {
+        Some(text) => text,
+        None => &[],
+    }
+}
+
+/// Whether a command takes files.
+fn takes_files(command: &[u8]) -> bool
+    ensures { result ≡ files.takes_files command.now }
+{
+    is(command, b"explore") || is(command, b"judge")
+}
+
+/// The words of a command that takes files, with these apart; `None` of another command.
+pub fn named_in(alloc: Global, words: &[String]) -> Result<Option<Named>, AllocError>
+    ensures { IfOk result (λ named. named ≡ files.named_in (texts words.now)) }
+{
+    match words {
+        [name, command, rest @ ..] if takes_files(command.as_bytes()) => {
+            let mut named = Named::begun(alloc, name.as_str(), command.as_str())?;
+            named.take_all(alloc, rest)?;
+            Ok(Some(named))
+        }
+        _ => Ok(None),
+    }
+}
+
+/// A part of a list of files.
+#[derive(Clone, Copy, PartialEq, Eq)]
+pub struct Part {
+    /// Which part it is, from 1 on.
+    pub index: u64,
+    /// How many there are: 1 to 999999.
+    pub count: u64,
+}
+
+/// The part by its two numbers.
+fn part_by(one: Result<u64, Cause>, other: Result<u64, Cause>) -> Option<Part>
+    ensures { result ≡ files.part_by one other }
+{
+    match (one, other) {
+        (Ok(index), Ok(count)) if 1 <= index && index <= count && count <= MOST_PARTS => Some(Part {
+            index,
+            count,
+        }),
+        _ => None,
+    }
+}
+
+/// The part that a text says, as `2/3`, if it says one.
+pub fn part_of(text: &[u8]) -> Option<Part>
+    ensures { result ≡ files.part_of text.now }
+{
+    match text.iter().position(|byte| *byte == b'/') {
+        Some(at) => part_by(number_in(&text[..at]), number_in(&text[at + 1..])),
+        None => None,
+    }
+}
+
+/// The files of a part: every N-th, from the K-th on.
+pub fn files_of(alloc: Global, part: Part, names: &[String]) -> Result<Vec<String>, AllocError>
+    ensures { IfOk result (λ list. texts list.items ≡ files.files_of part (texts names.now)) }
+{
+    let mut list = Vec::new(alloc);
+    let mut before = part.index.saturating_sub(1);
+    for place in 0..names.len() {
+        let name = names[place].as_str();
+        if before == 0 {
+            list.push(String::from_str(alloc, name)?)?;
+            before = part.count.saturating_sub(1);
+        } else {
+            before -= 1;
+        }
+    }
+    Ok(list)
+}

@@ -1,0 +1,263 @@
+//! What the program says of itself. `svahost`, the script, reads its texts here as long as the program isn't built, so each
+//! of them stands once: a new step is a line of `HELP`.
+
+/// The program's version.
+pub const VERSION: &str = "0.2.0";
+
+/// What `-h` says of the program.
+pub const ABOUT: &str = "Runs scenarios of a host for shared virtual addressing";
+
+/// What `-h` says of `replay`.
+pub const REPLAY: &str = "Runs the scenario on standard input, and prints its report";
+
+/// What `-h` says of `check`.
+pub const CHECK: &str = "Reads the scenario on standard input, and prints how many steps it has";
+
+/// What `-h` says of `storm`.
+pub const STORM: &str =
+    "Plays the scenario on standard input by threads, and prints what an audit of their calls says";
+
+/// What `-h` says of `plain`.
+pub const PLAIN: &str = "Prints the scenario that the script on standard input stands for";
+
+/// What `-h` says of `test`.
+pub const TEST: &str =
+    "Runs the script on standard input, and compares each answer with what it expects";
+
+/// What `-h` says of `show`.
+pub const SHOW: &str =
+    "Runs the script on standard input, and prints what the host keeps behind its last line";
+
+/// What `-h` says of `why`.
+pub const WHY: &str =
+    "Runs the script on standard input, and prints what holds each refused step back";
+
+/// What `-h` says of `chart`.
+pub const CHART: &str = "Runs the script on standard input, and draws it as a sequence chart";
+
+/// What `-h` says of `explore`.
+pub const EXPLORE: &str =
+    "Follows every order of the race on standard input or in a FILE, and prints which claims hold";
+
+/// What `-h` says of `--most`.
+pub const MOST: &str = "How many moments are looked at at most, 1 to 1000000000";
+
+/// What `-h` says of `--why` of `explore`.
+pub const WAITS: &str =
+    "Behind each witness stands what holds its own steps back, and the lines that wait where it ends";
+
+/// What `-h` says of `--ends`.
+pub const ENDS: &str = "No more than 20 texts of ends are printed, and how many are left out";
+
+/// What `-h` says of `judge`.
+pub const JUDGE: &str =
+    "Follows every order of the driver on standard input or in a FILE, and prints whether each is safe";
+
+/// What `-h` says of `--run`.
+pub const RUN: &str = "The lines are taken one after another, in the order in which they stand";
+
+/// What `-h` says of `trace`.
+pub const TRACE: &str =
+    "Runs the script on standard input, and prints each step with its answer and its messages";
+
+/// What `-h` says of `--live`.
+pub const LIVE: &str = "A tab ends a column, and none is padded";
+
+/// What `-h` says of `--svg`.
+pub const SVG: &str = "The chart is a picture, an SVG file, and not text";
+
+/// What `-h` says of `--why` of `trace`.
+pub const WHYS: &str =
+    "Behind each step that was refused, blocked or withheld stands what holds it back";
+
+/// What `-h` says of `--turns`.
+pub const TURNS: &str = "How many turns each thread has, 1 to 1000000";
+
+/// What is written where clap has no text for a command line.
+pub const NO_TEXT: &str =
+    "svahost: nothing is known of this command line; docs/FORMAT.md describes the program\n";
+
+/// What `--help` says.
+pub const HELP: &str =
+    "Runs scenarios of a host for shared virtual addressing: PCI Express ATS, PRI and PASIDs,
+with the invalidations and page requests of Intel VT-d.
+
+A scenario is a text on standard input, of at most 65536 lines and 1048576 bytes. Its first line is
+the config: how many endpoints, frames and workers there are. Each further line is a step. Words are
+separated by one space, and numbers are decimal. Lines that are empty or begin with # are skipped. A
+first scenario, as in examples/first.sva:
+
+    # one endpoint, four frames, one worker
+    config 1 4 1
+    # an address space, whose number is 0
+    space
+    # page 16 of space 0 leads to the lowest free frame, and may be read and written
+    map 0 16 w
+    # no endpoint is bound to the space, so the frame is free at once
+    unmap 0 16
+    # r: it may only be read
+    map 0 16 r
+
+The script ./svahost first builds the program where there is none of the present sources: in one to
+three minutes, without its proof. `./svahost prove` proves it on this machine, with all that it stands
+on, which takes half an hour to an hour; `./svahost --version` says which of the two is run.
+
+`svahost replay < examples/first.sva` runs the steps and prints a report, a line for each step and
+last the counts:
+
+    space 0
+    frame 0
+    free 0
+    frame 0
+    free 3 mapped 1 withheld 0
+
+`svahost check` runs nothing and prints `steps 4`.
+
+`svahost storm --turns 100` plays the scenario by threads on one host: one for the host, one for the
+link, one for the service, one for each endpoint and each worker. Each has N turns, 1 to 1000000, or
+10000 where --turns is missing. Host and endpoints play their own lines in order, each until it is
+accepted; the lines `take`, `answer`, `deliver`, `pump` and `serve` are skipped. The link delivers
+the messages by their numbers, the service pumps and serves each endpoint in turn, and the workers
+take jobs and answer them. At the end each thread's receipts are compared with the journal of all:
+
+    audit ok
+    frames 4
+
+or else `audit bad`.
+
+A script is a scenario in which nobody counts. `NAME:` before a step names its line. In later lines
+the name is a number that the step was answered, or the first message that it sent, by where it
+stands. `deliver KIND E` is of the oldest message of a kind that is in flight at endpoint E. Behind
+`=>` stands the answer that is expected, and behind # a comment:
+
+    config 1 4 1
+    s: space
+    m: map s 0x10 w           # a page may be hexadecimal
+    b: bind 0 s
+    deliver b                 => started
+    unmap s 0x10              => withheld m
+    p: pump 0                 => itag _
+    deliver invalidate 0      => taken
+    f: finish 0 {p} 1         => sent 1
+    deliver f                 => freed 1
+    end                       => free 3 mapped 0 withheld 1
+
+`svahost test` prints `7 answers as expected`, or the first that isn't: `line 6: unmap 0 16: expected
+'free 0', answered 'withheld 0'`. `svahost trace` prints each step with its answer and its messages,
+as it comes; `--live` leaves out the padding of columns. `svahost show` prints what the host keeps
+behind the last line, and `svahost plain` the scenario with all numbers. `svahost why` prints for
+each step that was refused, blocked or withheld what holds it back, and in brackets a step that would
+be accepted; `svahost trace --why` prints the same behind the rows of these steps, and `svahost test`
+behind an answer that isn't as expected. `svahost chart` draws the run: each message from its sending
+to its delivery; `--svg` as a picture. Each scenario is a script.
+`./svahost test FILE ..` tries several, and `./svahost show --after N` shows what is kept behind line N.
+
+A race is a script that leaves open who comes first. Behind the word `race` stand the lines of threads:
+of the host, of each endpoint, each unit and each worker, or those below `thread NAME`. Each thread
+keeps its order, and a line that is refused waits. The link, the units, the workers and the endpoints
+go on by themselves. Last stand the claims:
+
+    config 1 4 1
+    s: space
+    m: map s 0x10 w
+    b: bind 0 s
+    deliver b                 => started
+    race
+    a: ask 0 b 0x10
+    u: use 0 b 0x10 w
+    out: unmap s 0x10
+    never usable 0 0 and out is free 0
+    ends always done u
+
+`svahost explore` follows every order, and prints of each claim whether it holds, fails, or is unknown
+since `--most N` moments were looked at. Below its first line stands what the ends come to, a line for
+each text; `--ends` prints no more than 20. A claim that fails has a witness, a shortest scenario that
+`replay` takes; so has a `sometimes` that holds. With `--why` stands behind each witness what `why`
+says of its steps, and which lines wait where it ends, with what holds them back.
+
+A driver is the order in which another host does what it does, in lines of its own. `svahost judge`
+follows every order of its lines beside what the link, the units, the workers and the endpoints may
+do, and prints whether each is safe: else a shortest list of events behind which an endpoint may
+still use a frame that has another owner, say. `--most N` is as of `explore`; `--run` takes the lines
+one after another instead. docs/FORMAT.md describes the lines.
+
+`svahost explore FILE ..` and `svahost judge FILE ..` search several files side by side and print a
+line for each, of one file the report; `--part K/N` is every N-th of them, from the K-th on.
+
+The config, and the steps. E is an endpoint, S a space, B a binding, M a message, F a frame and W a
+worker, each numbered from 0, and a word in brackets may be missing:
+
+    config E N W           1 to 8 endpoints, 1 to 4096 frames, 1 to 4 workers
+    space                  a new empty space; at most 64 live ones
+    drop S                 the space goes, and its frames are free; not while it is bound
+    map S PAGE r           the page leads to the lowest free frame, for reading
+    map S PAGE w           for writing and reading; at most 1024 pages a space, below page 2^36
+    unmap S PAGE [COUNT]   1 to 48 pages, 1 if missing, from PAGE on leave the space
+    unmapr S PAGE K        those of the 2^K pages from PAGE on, K 0 to 9, PAGE a multiple of 2^K
+    look F                 where frame F is: free, mapped or withheld
+    bearer P               which space bears PASID P, 1 to 32
+    bind E S               space S is at endpoint E, under the PASID that it bears or a new one;
+                           at most 32 PASIDs are borne
+    unbind B               binding B is to end: its endpoint is told to stop
+    advance B              it goes on to its next stage, and at last it is released
+    reset E                endpoint E is to be reset, and its unit closed
+    pump E                 the head of endpoint E's invalidation queue, which has 64 places, is
+                           sent under one of 32 ITags, or a wait is over
+    serve E                the oldest page request of endpoint E is filed; a whole group is a job
+    take W                 worker W takes the oldest job in its hand
+    answer W success       it answers the job: its pages are mapped; or `invalid`, or `failure`
+    deliver M              message M arrives; messages are numbered as they are sent
+
+An endpoint's steps, under a PASID P:
+
+    ask E P PAGE           a translation of the page is asked for; at most 32 are asked for at once,
+                           and at most 64 translations are held at an endpoint
+    use E P PAGE r         a use of the translation that is held begins: it reads
+    use E P PAGE w         it writes
+    end E U                the use in slot U, 0 to 15, ends
+    evict E P PAGE         the translation that is held goes
+    fault E P PAGE A G L   a page request; A is r, w or rw, G new or the index of an unfinished
+                           group, L more or last; at most 32 have no response yet
+    finish E VECTOR COUNT  invalidations are answered, those of the ITags whose bits are set in
+                           VECTOR, eight lower-case hexadecimal digits as 0000000b, by 1 to 8
+                           completions
+    quit E P               the PASID isn't used any more
+
+These steps send a message, and no others. Behind it stands what its delivery is answered:
+
+    bind                   Start: `started`
+    unbind                 Stop: `stopping`; none where a reset has cut the binding off
+    reset                  Reset: `reset`. Its delivery sends ResetDone: `reset done`
+    pump, if `itag T`      Invalidate: `taken`
+    answer                 Response: `answered`, or `stale`; none where it is `dropped`
+    ask                    Request: `completion`. Its delivery sends Completion: `held`, `full`,
+                           `none` or `dropped`
+    fault                  PageRequest: `queued`
+    finish                 COUNT times Invalidated: `freed K`, the ITags that are free by it
+    quit                   Marker: `marked`
+
+They are numbered together, from 0, as they are sent, and come in any order, but that of one endpoint
+Start, Stop and Reset stay behind each older message to it that is no Completion; a PageRequest with
+`last` and a Marker stay behind each older PageRequest; and a ResetDone stays behind all. Else
+`deliver` is refused 33. At a unit in reset each message to the host but ResetDone is `dropped`.
+
+A binding is live, and then by `unbind` stopping, until its endpoint has got the Stop, has quit, and
+the Marker has come; by `advance` draining, until its page requests are filed and answered and the
+wait is done; by `advance` invalidating, until its invalidation is answered and the wait is done; by
+`advance` quiet; and by `advance` released.
+
+A frame whose page is unmapped is free at once where no endpoint can hold its translation, and else
+withheld until each has answered an invalidation.
+
+A step that isn't allowed is answered `refused N Name`, changes nothing, and the run goes on. Where
+a line can't be read nothing is run, and the report is that line's fault alone: `line 2 WordCount`.
+
+The status is 0 where the steps were run, refused ones too, where all claims of a race hold, where a
+driver is safe, and for help and the version; 1 for a line that can't be read, for a config that is
+out of its limits, for a bad audit, and for a fault of a stream or of memory, of which standard error
+tells in a line; 2 for a wrong command line, of which standard error tells too; 4 where a claim
+fails, and where a driver is unsafe or stuck; and 5 where none fails and one is unknown, and where
+the search of a driver was cut off. The script svahost ends with 3 where it can't build the program.
+All else goes to standard output.
+
+docs/FORMAT.md describes scenarios, steps, refusals and reports, and examples/ has more of them.";

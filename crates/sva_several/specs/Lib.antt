@@ -1,0 +1,5 @@
+pub mod Verdicts
+pub mod Searches
+pub mod Lines
+pub mod Metering
+pub mod Told

@@ -1,0 +1,84 @@
+-- What is told of several texts: the lines of each behind the name of its file, and last how many there are of each verdict.
+use Rattle.std.specs.Global.{Global}
+use Rattle.std.specs.Prelude.{ℕ, ◌==◌, String, string_bytes, if◌then◌else◌, Bool, true, List, [], ◌∷◌, ◌++◌, ◌+◌, codes, decimal, take, Option, Some, None, Result, Ok, Err}
+use Rattle.std.specs.List.{position}
+use Rattle.std.specs.declared.alloc.AllocError.{AllocError}
+use Rattle.sva_race_reports.specs.declared.judging.Judged.TheVariants as judged
+use Rattle.sva_driver_reports.specs.declared.reports.Ruling.TheVariants as ruling
+use Rattle.sva_several.specs.declared.searching.Said.{Said}
+use Rattle.sva_several.specs.declared.searching.Search.{Search}
+use Rattle.sva_several.specs.declared.searching.Search.TheVariants.{Drivers, Lines, Races}
+use Rattle.sva_several.specs.declared.verdicts.Verdict.{Verdict}
+use Rattle.sva_several.specs.declared.verdicts.Verdict.TheVariants.{Judged, Ruled, Wrong}
+use Rattle.sva_several.specs.Verdicts.{count}
+
+-- ---- A line behind a name
+
+-- a text up to a place, or all of it
+abbrev pub line_to : List ℕ → Option ℕ → List ℕ
+line_to text None = text
+line_to text (Some end) = take (end + 1) text
+
+-- with its end
+abbrev pub first_line : List ℕ → List ℕ
+first_line text = line_to text (position (λ byte. byte == 10) text)
+
+abbrev pub name_if : (name : List ℕ) → (begins : Bool) → List ℕ
+name_if name begins = if begins then name ++ codes ": " else []
+
+-- each line behind a name; the first byte begins one, or it doesn't
+unfoldable pub named : (name : List ℕ) → (begins : Bool) → List ℕ → List ℕ
+named name begins [] = []
+named name begins (byte ∷ rest) = (name_if name begins ++ byte ∷ []) ++ named name (byte == 10) rest
+
+-- ---- What is told of a text: where it was searched its first line, where it is wrong all that is
+
+abbrev pub told : Verdict → List ℕ → List ℕ
+told Wrong text = text
+told verdict text = first_line text
+
+abbrev pub no_memory : List ℕ
+no_memory = codes "out of memory\n"
+
+abbrev pub said_of : Result Said AllocError → List ℕ
+said_of (Ok said) = told said.verdict said.text.items
+said_of (Err fault) = no_memory
+
+unfoldable pub lines_of : (names : List (String Global)) → List (Result Said AllocError) → List ℕ
+lines_of (name ∷ names) (found ∷ all) = named (string_bytes name) true (said_of found) ++ lines_of names all
+lines_of [] all = []
+lines_of (name ∷ names) [] = []
+
+-- ---- Last, how many there are
+
+abbrev pub many : (before : List ℕ) → List (Result Said AllocError) → Verdict → (word : List ℕ) → List ℕ
+many before all verdict word = before ++ decimal (count verdict all) ++ word
+
+-- where there are any
+abbrev pub some : List (Result Said AllocError) → Verdict → (word : List ℕ) → List ℕ
+some all verdict word = if count verdict all == 0 then [] else many (codes ", ") all verdict word
+
+abbrev pub races_text : List (Result Said AllocError) → List ℕ
+races_text all =
+    many [] all (Judged judged.Holds) (codes " hold") ++ many (codes ", ") all (Judged judged.Fails) (codes " fail")
+    ++ many (codes ", ") all (Judged judged.Unknown) (codes " unknown")
+
+abbrev pub drivers_text : List (Result Said AllocError) → List ℕ
+drivers_text all =
+    many [] all (Ruled ruling.Safe) (codes " safe") ++ many (codes ", ") all (Ruled ruling.Unsafe) (codes " unsafe")
+    ++ many (codes ", ") all (Ruled ruling.Stuck) (codes " stuck") ++ some all (Ruled ruling.CutOff) (codes " cut off")
+
+abbrev pub kinds_text : Search → List (Result Said AllocError) → List ℕ
+kinds_text (Races most) all = races_text all
+kinds_text (Drivers most) all = drivers_text all
+kinds_text Lines all = drivers_text all
+
+abbrev pub totals_text : Search → List (Result Said AllocError) → List ℕ
+totals_text search all = kinds_text search all ++ some all Wrong (codes " wrong") ++ 10 ∷ []
+
+-- of a part there is no last line: so the lines of all parts are those of all files
+abbrev pub totals_if : Search → (is_part : Bool) → List (Result Said AllocError) → List ℕ
+totals_if search is_part all = if is_part then [] else totals_text search all
+
+abbrev pub report_text : Search → (is_part : Bool) → (names : List (String Global)) → List (Result Said AllocError) → List ℕ
+report_text search is_part names all = lines_of names all ++ totals_if search is_part all

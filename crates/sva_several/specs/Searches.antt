@@ -1,0 +1,46 @@
+-- What is said of a text among several is what a search of it alone says.
+use Rattle.std.specs.Global.{Global}
+use Rattle.std.specs.Prelude.{◌≡◌, ℕ, Vec, List, true, false, IfOk, Option, Some, None, Result}
+use Rattle.std.specs.declared.alloc.AllocError.{AllocError}
+use Rattle.sva_race_reports.specs.declared.judging.Judged as the
+use Rattle.sva_race_reports.specs.declared.searching.Wanted.{Wanted}
+use Rattle.sva_race_reports.specs.Explored.{ExploresText}
+use Rattle.sva_driver_reports.specs.declared.reports.Ruling.{Ruling}
+use Rattle.sva_driver_runs.specs.Judged.{IsTextJudged, IsTextRun}
+use Rattle.sva_several.specs.declared.searching.Said.{Said}
+use Rattle.sva_several.specs.declared.searching.Search.{Search}
+use Rattle.sva_several.specs.declared.searching.Search.TheVariants.{Drivers, Lines, Races}
+use Rattle.sva_several.specs.declared.verdicts.Verdict.{Verdict}
+use Rattle.sva_several.specs.declared.verdicts.Verdict.TheVariants.{Judged, Ruled, Wrong}
+
+-- a text that is wrong isn't run
+abbrev pub judged : Option the.Judged → Verdict
+judged None = Wrong
+judged (Some found) = Judged found
+
+abbrev pub ruled : Option Ruling → Verdict
+ruled None = Wrong
+ruled (Some found) = Ruled found
+
+-- of a race a line is wanted
+abbrev pub line_of : (most : ℕ) → Wanted
+line_of most = record { most = most; whys = false; few_ends = false; is_brief = true }
+
+abbrev pub IsExplored : (most : ℕ) → (text : List ℕ) → Said → Type 0
+IsExplored most text said =
+    (found : Option the.Judged) × (said.verdict ≡ judged found) × ExploresText text (line_of most) said.text.items found
+
+abbrev pub IsJudged : (most : ℕ) → (text : List ℕ) → Said → Type 0
+IsJudged most text said = (found : Option Ruling) × (said.verdict ≡ ruled found) × IsTextJudged text most found said.text.items
+
+abbrev pub IsRun : (text : List ℕ) → Said → Type 0
+IsRun text said = (found : Option Ruling) × (said.verdict ≡ ruled found) × IsTextRun text found said.text.items
+
+abbrev pub IsSaid : Search → (text : List ℕ) → Said → Type 0
+IsSaid (Races most) text said = IsExplored most text said
+IsSaid (Drivers most) text said = IsJudged most text said
+IsSaid Lines text said = IsRun text said
+
+-- where memory didn't lack
+abbrev pub IsFound : Search → Vec ℕ Global → Result Said AllocError → Type 0
+IsFound search text found = IfOk found (IsSaid search text.items)

@@ -1,0 +1,145 @@
+//! The report of several texts that were searched.
+
+ghost use Rattle.std.specs.Prelude.{◌≡◌, ◌++◌, IfOk, OnOk};
+ghost use Rattle.sva_several.specs.Lines as lines;
+
+use crate::naming::{first_line, put_named};
+use crate::searching::{Said, Search};
+use crate::verdicts::{Verdict, count};
+use std::alloc::{AllocError, Global};
+use sva_driver_reports::Ruling;
+use sva_race_reports::Judged;
+use sva_script_reading::put_number;
+
+/// What of a text is told.
+fn told(verdict: Verdict, text: &[u8]) -> &[u8]
+    ensures { result.now ≡ lines.told verdict text.entry.now }
+{
+    match verdict {
+        Verdict::Wrong => text,
+        Verdict::Judged(_) | Verdict::Ruled(_) => first_line(text),
+    }
+}
+
+/// What is told of a text that was searched, or for whose search memory lacked.
+fn said_of(found: &Result<Said, AllocError>) -> &[u8]
+    ensures { result.now ≡ lines.said_of found.entry.now }
+{
+    match found {
+        Ok(said) => told(said.verdict, said.text.as_slice()),
+        Err(_) => b"out of memory\n",
+    }
+}
+
+/// Appends what is told of each text, behind its name.
+fn put_lines(
+    out: &mut Vec<u8>,
+    names: &[String],
+    all: &[Result<Said, AllocError>],
+) -> Result<(), AllocError>
+    ensures { OnOk result (out.new.items ≡ out.old.items ++ lines.lines_of names.now all.now) }
+{
+    for place in 0..all.len() {
+        if place >= names.len() {
+            return Ok(());
+        }
+        put_named(out, names[place].as_bytes(), said_of(&all[place]))?;
+    }
+    Ok(())
+}
+
+/// Appends of how many texts something is said.
+fn put_many(
+    out: &mut Vec<u8>,
+    before: &str,
+    all: &[Result<Said, AllocError>],
+    verdict: Verdict,
+    word: &str,
+) -> Result<(), AllocError>
+    ensures { OnOk result (out.new.items ≡ out.old.items ++ lines.many before.now all.now verdict word.now) }
+{
+    out.extend_from_slice(before.as_bytes())?;
+    put_number(out, count(all, verdict) as u64)?;
+    out.extend_from_slice(word.as_bytes())
+}
+
+/// Appends that, if it is said of one.
+fn put_some(
+    out: &mut Vec<u8>,
+    all: &[Result<Said, AllocError>],
+    verdict: Verdict,
+    word: &str,
+) -> Result<(), AllocError>
+    ensures { OnOk result (out.new.items ≡ out.old.items ++ lines.some all.now verdict word.now) }
+{
+    if count(all, verdict) == 0 {
+        Ok(())
+    } else {
+        put_many(out, ", ", all, verdict, word)
+    }
+}
+
+/// Appends how many races hold, fail and are unknown.
+fn put_races(out: &mut Vec<u8>, all: &[Result<Said, AllocError>]) -> Result<(), AllocError>
+    ensures { OnOk result (out.new.items ≡ out.old.items ++ lines.races_text all.now) }
+{
+    put_many(out, "", all, Verdict::Judged(Judged::Holds), " hold")?;
+    put_many(out, ", ", all, Verdict::Judged(Judged::Fails), " fail")?;
+    put_many(out, ", ", all, Verdict::Judged(Judged::Unknown), " unknown")
+}
+
+/// Appends how many drivers are safe, unsafe and stuck, and of how many that isn't known.
+fn put_drivers(out: &mut Vec<u8>, all: &[Result<Said, AllocError>]) -> Result<(), AllocError>
+    ensures { OnOk result (out.new.items ≡ out.old.items ++ lines.drivers_text all.now) }
+{
+    put_many(out, "", all, Verdict::Ruled(Ruling::Safe), " safe")?;
+    put_many(out, ", ", all, Verdict::Ruled(Ruling::Unsafe), " unsafe")?;
+    put_many(out, ", ", all, Verdict::Ruled(Ruling::Stuck), " stuck")?;
+    put_some(out, all, Verdict::Ruled(Ruling::CutOff), " cut off")
+}
+
+/// Appends how many there are of each verdict.
+fn put_kinds(
+    out: &mut Vec<u8>,
+    search: Search,
+    all: &[Result<Said, AllocError>],
+) -> Result<(), AllocError>
+    ensures { OnOk result (out.new.items ≡ out.old.items ++ lines.kinds_text search all.now) }
+{
+    match search {
+        Search::Races { .. } => put_races(out, all),
+        Search::Drivers { .. } | Search::Lines => put_drivers(out, all),
+    }
+}
+
+/// Appends the last line.
+fn put_totals(
+    out: &mut Vec<u8>,
+    search: Search,
+    all: &[Result<Said, AllocError>],
+) -> Result<(), AllocError>
+    ensures { OnOk result (out.new.items ≡ out.old.items ++ lines.totals_text search all.now) }
+{
+    put_kinds(out, search, all)?;
+    put_some(out, all, Verdict::Wrong, " wrong")?;
+    out.extend_from_slice(b"\n")
+}
+
+/// The report of several texts that were searched: behind the name of each what is told of it, and last, unless they are
+/// a part of a list, how many there are of each verdict.
+pub(crate) fn report(
+    alloc: Global,
+    search: Search,
+    is_part: bool,
+    names: &[String],
+    all: &[Result<Said, AllocError>],
+) -> Result<Vec<u8>, AllocError>
+    ensures { IfOk result (λ out. out.items ≡ lines.report_text search is_part names.now all.now) }
+{
+    let mut out = Vec::new(alloc);
+    put_lines(&mut out, names, all)?;
+    if !is_part {
+        put_totals(&mut out, search, all)?;
+    }
+    Ok(out)
+}

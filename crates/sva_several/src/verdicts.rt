@@ -1,0 +1,97 @@
+//! What is said of a text among several, and how many there are of each kind.
+
+ghost use Rattle.std.specs.Prelude.{◌≡◌, ◌≤◌, length};
+ghost use Rattle.sva_several.specs.Verdicts as verdicts;
+
+use crate::searching::Said;
+use std::alloc::AllocError;
+use sva_driver_reports::Ruling;
+use sva_race_reports::Judged;
+
+/// What is said of a text.
+#[derive(Clone, Copy, PartialEq, Eq)]
+pub enum Verdict {
+    /// A race: of all its claims together.
+    Judged(Judged),
+    /// A driver.
+    Ruled(Ruling),
+    /// It isn't run, since it is wrong, or since memory lacked.
+    Wrong,
+}
+
+/// What is said of a text that was searched, or wasn't to the end since memory lacked.
+pub(crate) fn verdict_of(found: &Result<Said, AllocError>) -> Verdict
+    ensures { result ≡ verdicts.verdict_of found.now }
+{
+    match found {
+        Ok(said) => said.verdict,
+        Err(_) => Verdict::Wrong,
+    }
+}
+
+/// Whether two verdicts are one.
+fn is_same(one: Verdict, other: Verdict) -> bool
+    ensures { result ≡ verdicts.is_same one other }
+{
+    match (one, other) {
+        (Verdict::Judged(Judged::Holds), Verdict::Judged(Judged::Holds))
+        | (Verdict::Judged(Judged::Fails), Verdict::Judged(Judged::Fails))
+        | (Verdict::Judged(Judged::Unknown), Verdict::Judged(Judged::Unknown))
+        | (Verdict::Ruled(Ruling::Safe), Verdict::Ruled(Ruling::Safe))
+        | (Verdict::Ruled(Ruling::Unsafe), Verdict::Ruled(Ruling::Unsafe))
+        | (Verdict::Ruled(Ruling::Stuck), Verdict::Ruled(Ruling::Stuck))
+        | (Verdict::Ruled(Ruling::CutOff), Verdict::Ruled(Ruling::CutOff))
+        | (Verdict::Wrong, Verdict::Wrong) => true,
+        _ => false,
+    }
+}
+
+/// 1 where it is so.
+fn one_if(so: bool) -> usize
+    ensures { result ≡ verdicts.one_if so }
+{
+    if so { 1 } else { 0 }
+}
+
+/// Of how many texts this is said.
+pub(crate) fn count(all: &[Result<Said, AllocError>], verdict: Verdict) -> usize
+    ensures { result ≡ verdicts.count verdict all.now }
+{
+    let mut count = 0;
+    for place in 0..all.len() {
+        count += one_if(is_same(verdict, verdict_of(&all[place])));
+    }
+    count
+}
+
+/// Whether one of them fails, or isn't safe.
+fn is_one_bad(all: &[Result<Said, AllocError>]) -> bool
+    ensures { result ≡ verdicts.is_one_bad all.now }
+{
+    count(all, Verdict::Judged(Judged::Fails)) > 0
+        || count(all, Verdict::Ruled(Ruling::Unsafe)) > 0
+        || count(all, Verdict::Ruled(Ruling::Stuck)) > 0
+}
+
+/// Whether one of them isn't known.
+fn is_one_open(all: &[Result<Said, AllocError>]) -> bool
+    ensures { result ≡ verdicts.is_one_open all.now }
+{
+    count(all, Verdict::Judged(Judged::Unknown)) > 0
+        || count(all, Verdict::Ruled(Ruling::CutOff)) > 0
+}
+
+/// The status: 1 where one is wrong, else 4 where one fails or isn't safe, else 5 where one isn't known, else 0.
+pub(crate) fn status_of(all: &[Result<Said, AllocError>]) -> u8
+    ensures { result ≡ verdicts.status_of all.now }
+{
+    if count(all, Verdict::Wrong) > 0 {
+        1
+    } else if is_one_bad(all) {
+        4
+    } else if is_one_open(all) {
+        5
+    } else {
+        0
+    }
+}

@@ -11,11 +11,10 @@ use sva_several::Search;
 /// What a command line says of files.
 #[derive(Drop)]
 pub enum Files {
-    /// It names none, and standard input is read.
-    Input,
-    /// Without them it has a fault, or asks for help.
-    Left {
-        /// The words without the files.
+    /// It names none, and standard input is read; or without those that it names it has a fault, or asks for help, and
+    /// nothing is.
+    Input {
+        /// The words without files.
         own: Vec<String>,
     },
     /// It names one, which is read in the place of standard input.
@@ -119,16 +118,16 @@ fn of_files(alloc: Global, asked: Asked, named: Named) -> Result<Files, AllocErr
 }
 
 /// What the words of a command line say of files, the program's name first.
-pub fn files_in(alloc: Global, words: &[String]) -> Result<Files, AllocError> {
-    let Some(named) = named_in(alloc, words)? else {
-        return Ok(Files::Input);
+pub fn files_in(alloc: Global, words: Vec<String>) -> Result<Files, AllocError> {
+    let Some(named) = named_in(alloc, words.as_slice())? else {
+        return Ok(Files::Input { own: words });
     };
     if named.files.is_empty() && named.part.is_none() {
-        return Ok(Files::Input);
+        return Ok(Files::Input { own: words });
     }
     match parse(alloc, named.own.as_slice()) {
         Ok(asked) => of_files(alloc, asked, named),
-        Err(_) => Ok(Files::Left { own: named.own }),
+        Err(_) => Ok(Files::Input { own: named.own }),
     }
 }
 

@@ -8,12 +8,14 @@ ghost use Rattle.sva_reports.specs.Streams.{IsNew};
 use crate::files::{Files, Unread, files_in, open, read_files, unreadable};
 use std::alloc::AllocError;
 use std::io;
-use std::io::{IsTerminal, Write};
+use std::io::{IsTerminal, Read, Write};
 use std::process::ExitCode;
-use std::rt::Env;
-use sva_program::{Progress, Told, faulted, main_with, unread};
+use std::rt::{Env, Files as FileSystem};
+use std::sync::Wait;
+use std::thread::Threads;
+use sva_program::{Progress, Told, Watch, faulted, main_with, unread};
 use sva_reports::{DriveFault, write_all};
-use sva_several::{Searched, tell_all};
+use sva_several::{Meter, Search, Searched, tell_all};
 
 /// The command line is wrong, or names a file that can't be read.
 const MISTAKE: u8 = 2;
@@ -47,6 +49,46 @@ fn ended<E: Write>(told: Result<u8, DriveFault>, errors: &mut Told<E>) -> u8
     }
 }
 
+/// A command on one input.
+fn run_on<
+    X: AllocGlobal + Threads + Wait + Sync,
+    I: Read + Drop,
+    O: Write + Drop,
+    E: Write,
+    P: Watch,
+>(rt: &X, words: &[String], input: I, output: O, errors: &mut Told<E>, watch: &mut P) -> u8
+    requires { IsNew errors.old }
+{
+    let mut reader = Told::new(input);
+    let mut writer = Told::new(output);
+    main_with(rt, words, &mut reader, &mut writer, errors, watch)
+}
+
+/// A command on several files.
+fn search_on<X: AllocGlobal + Threads + Sync + FileSystem, O: Write + Drop, E: Write, M: Meter>(
+    rt: &X,
+    search: Search,
+    is_part: bool,
+    names: &[String],
+    output: O,
+    errors: &mut Told<E>,
+    meter: &M,
+) -> u8
+    requires { IsNew errors.old }
+{
+    let alloc = rt.alloc();
+    match read_files(rt, alloc, names) {
+        Ok(texts) => {
+            let mut writer = Told::new(output);
+            let texts = texts.as_slice();
+            let told = tell_all(rt, alloc, search, is_part, names, texts, &mut writer, meter);
+            ended(told, errors)
+        }
+        Err(Unread::File(name)) => mistaken(unreadable(alloc, name), errors),
+        Err(Unread::Memory) => faulted(DriveFault::Memory, errors),
+    }
+}
+
 fn main(rt: HostRuntime) -> ExitCode {
     let alloc = rt.alloc();
     let mut errors = Told::new(rt.stderr());
@@ -54,46 +96,22 @@ fn main(rt: HostRuntime) -> ExitCode {
         Ok(words) => words,
         Err(error) => return ExitCode::from(unread(&error, &mut errors)),
     };
-    let mut writer = Told::new(rt.stdout());
     let is_terminal = rt.stderr().is_terminal();
-    let status = match files_in(alloc, words.as_slice()) {
-        Ok(Files::Input) => {
-            let mut progress = Progress::new(alloc, rt.stderr(), &rt, is_terminal);
-            let mut reader = Told::new(rt.stdin());
-            main_with(
-                &rt,
-                words.as_slice(),
-                &mut reader,
-                &mut writer,
-                &mut errors,
-                &mut progress,
-            )
-        }
-        Ok(Files::Left { own }) => {
-            let mut progress = Progress::new(alloc, rt.stderr(), &rt, is_terminal);
-            let mut reader = Told::new(rt.stdin());
-            main_with(
-                &rt,
-                own.as_slice(),
-                &mut reader,
-                &mut writer,
-                &mut errors,
-                &mut progress,
-            )
+    let mut watch = Progress::new(alloc, rt.stderr(), &rt, is_terminal);
+    let status = match files_in(alloc, words) {
+        Ok(Files::Input { own }) => {
+            let (input, output) = (rt.stdin(), rt.stdout());
+            run_on(&rt, own.as_slice(), input, output, &mut errors, &mut watch)
         }
         Ok(Files::One { own, file }) => match open(&rt, file.as_str()) {
-            Ok(opened) => {
-                let mut progress = Progress::new(alloc, rt.stderr(), &rt, is_terminal);
-                let mut reader = Told::new(opened);
-                main_with(
-                    &rt,
-                    own.as_slice(),
-                    &mut reader,
-                    &mut writer,
-                    &mut errors,
-                    &mut progress,
-                )
-            }
+            Ok(input) => run_on(
+                &rt,
+                own.as_slice(),
+                input,
+                rt.stdout(),
+                &mut errors,
+                &mut watch,
+            ),
             Err(_) => mistaken(unreadable(alloc, file.as_str()), &mut errors),
         },
         Ok(
@@ -102,24 +120,19 @@ fn main(rt: HostRuntime) -> ExitCode {
                 is_part,
                 names,
             },
-        ) => match read_files(&rt, alloc, names.as_slice()) {
-            Ok(texts) => {
-                let meter = Searched::new(&rt, alloc, names.len(), rt.stderr(), &rt, is_terminal);
-                let told = tell_all(
-                    &rt,
-                    alloc,
-                    search,
-                    is_part,
-                    names.as_slice(),
-                    texts.as_slice(),
-                    &mut writer,
-                    &meter,
-                );
-                ended(told, &mut errors)
-            }
-            Err(Unread::File(name)) => mistaken(unreadable(alloc, name), &mut errors),
-            Err(Unread::Memory) => faulted(DriveFault::Memory, &mut errors),
-        },
+        ) => {
+            let meter = Searched::new(&rt, alloc, names.len(), rt.stderr(), &rt, is_terminal);
+            let names = names.as_slice();
+            search_on(
+                &rt,
+                search,
+                is_part,
+                names,
+                rt.stdout(),
+                &mut errors,
+                &meter,
+            )
+        }
         Ok(Files::Wrong { said }) => mistaken(Ok(said), &mut errors),
         Err(_) => faulted(DriveFault::Memory, &mut errors),
     };

@@ -9,6 +9,6 @@ mod searching;
 mod verdicts;
 
 pub use driving::tell_all;
-pub use metering::{Meter, Searched, Unmetered};
+pub use metering::{Meter, Searched};
 pub use searching::{Said, Search};
 pub use verdicts::Verdict;

@@ -19,16 +19,6 @@ pub trait Meter: Sync {
     fn end(&self);
 }
 
-/// Nobody counts.
-#[derive(Clone, Copy)]
-pub struct Unmetered;
-
-impl Meter for Unmetered {
-    fn count(&self) {}
-
-    fn end(&self) {}
-}
-
 /// How many were searched, of how many, and where that is shown.
 #[derive(Drop)]
 struct Counted<W, C> {

@@ -1,5 +1,5 @@
 """What is kept of edits that were tried: of each crate a checksum of all that its refusals stand on. `scripts/more-edits --kept FILE` doesn't try the edits of a
-crate again whose checksum stands in the file: the kit, the crates.txt lines, texts and proofs of the crate and of all below it, and of the crates that judge it from
+crate again whose checksum stands in the file: the checker's logic, the crates.txt lines, texts and proofs of the crate and of all below it, and of the crates that judge it from
 above, the edits that are tried, and the scripts that try them."""
 
 import functools
@@ -23,9 +23,9 @@ def sum_of(*texts):
 
 
 @functools.lru_cache(maxsize=None)
-def kit():
-    """Which kit this is, with its logic."""
-    return subprocess.run(["rt", "version"], capture_output=True, check=True).stdout
+def logic():
+    """The logic by which the kit's checker judges. Kits that have the same one differ in how they are called, and not in what they refuse."""
+    return subprocess.run(["rt", "version"], capture_output=True, check=True).stdout.partition(b" ")[2]
 
 
 @functools.lru_cache(maxsize=None)
@@ -44,7 +44,7 @@ def key_of(crate, edits):
     # An edit of must-fail/ may stand in a check beside these, as one of a function that has none of them.
     tried = [repr((it.name, it.pairs, it.by, it.only)).encode() for it in [*edits, *must_fail(crate)]]
     judges = [text_of(f"{ROOT}/{it}").encode() for it in JUDGES]
-    return sum_of(kit(), *judges, *(text_sum(it).encode() for it in sorted(stands_on)), *tried)
+    return sum_of(logic(), *judges, *(text_sum(it).encode() for it in sorted(stands_on)), *tried)
 
 
 def read(file):

@@ -7,3 +7,4 @@ pub mod LawLemmas
 pub mod NameLemmas
 pub mod SizeLemmas
 pub mod SingleLemmas
+pub mod LetterLemmas

@@ -2,3 +2,4 @@ pub mod Faults
 pub mod Grammar
 pub mod Laws
 pub mod Places
+pub mod Letters

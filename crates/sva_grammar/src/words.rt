@@ -118,6 +118,16 @@ impl<'a> Words<'a> {
         word.len() == name.len() && word == name
     }
 
+    /// The first letter of the line's first word, or 0 where that is empty.
+    pub(crate) fn letter(&self) -> u8
+        ensures { result ≡ slice_index_or (word 0 (words_of self.now)) 0 0 }
+    {
+        match self.word(0) {
+            [] => 0,
+            [letter, ..] => *letter,
+        }
+    }
+
     /// `WordCount` unless the line has so many words.
     pub(crate) fn exactly(&self, count: usize) -> Result<(), Cause>
         ensures { result ≡ has_words count (words_of self.now) }

@@ -19,8 +19,7 @@ use Rattle.sva_labels.specs.Outcomes.{pump_result, send_result, wait_result}
 use Rattle.sva_msg.specs.declared.extents.Extent.{Extent}
 use Rattle.sva_msg.specs.declared.extents.Extent.TheVariants as extent
 use Rattle.sva_queue.specs.declared.heads.Sending.{Sending}
-use Rattle.sva_queue.specs.declared.heads.Next.{Next}
-use Rattle.sva_queue.specs.declared.heads.Next.TheVariants.{Idle, Blocked, Send, Pass}
+use Rattle.sva_queue.specs.declared.heads.Next.TheVariants.{Send, Pass}
 use Rattle.sva_iommu.specs.Seen.{UnitSeen, descriptor_seen, unit_seen, seen, with_unit}
 use Rattle.sva_msg.specs.Seen.{page_request_seen}
 use Rattle.sva_iommu.specs.Pumping.{pass_next, may_pass, next_at, next_of, pumped, at_endpoint, IsPump, unit_sent}

@@ -1,5 +1,5 @@
 -- What an unmapping submits: how long it is, and its one wait.
-use Rattle.std.proofs.Common.{◌≡◌, ℕ, zero, suc, ◌+◌, ◌^◌, ◌<◌, ◌≤◌, false, [], ◌∷◌, ◌++◌, map, length, refl, ap, sym, subst, ◌∙◌, arith, length-append}
+use Rattle.std.proofs.Common.{◌≡◌, ℕ, zero, suc, ◌+◌, ◌*◌, ◌^◌, ◌<◌, ◌≤◌, false, [], ◌∷◌, ◌++◌, map, length, refl, ap, sym, subst, ◌∙◌, arith, length-append}
 use Rattle.std.specs.Prelude.{All}
 use Rattle.std.proofs.lemmas.List.{map-append}
 use Rattle.std.proofs.lemmas.List.Elements.{All-append, All-replicate}
@@ -9,7 +9,7 @@ use Rattle.sva_queue.proofs.Cookies.{rising-append, number_after-append}
 use Rattle.sva_model.specs.Words.{tabulate}
 use Rattle.sva_model.specs.Range as model
 use Rattle.sva_model.specs.Unmappings.{range_at}
-use Rattle.sva_model.specs.Wire.Descriptor.{RangeDescriptor}
+use Rattle.sva_model.specs.Wire.Descriptor.{RangeDescriptor, WaitDescriptor}
 use Rattle.sva_labels.specs.Moves.{descriptors_for}
 use Rattle.sva_lemmas.proofs.Lists.{tabulate_length}
 use Rattle.sva_iommu.specs.Seen.{descriptor_seen, ranges_for, orders_for}
@@ -75,3 +75,11 @@ pub orders_seen : (t q count order cookie : ℕ) → map descriptor_seen (orders
 orders_seen t q count order cookie =
     map-append descriptor_seen (tabulate count (λ j. Range t (range_at q order j))) (Wait cookie false ∷ [])
     ∙ ap (λ ds. ds ++ descriptor_seen (Wait cookie false) ∷ []) (ranges_seen t count (range_at q order))
+
+-- one range begins at the first page
+pub one_range : (t q order cookie : ℕ) → RangeDescriptor t (record { base = q; order = order }) ∷ WaitDescriptor cookie false ∷ []
+    ≡ descriptors_for t q 1 order cookie
+unfolding tabulate
+one_range t q order cookie =
+    let first : q ≡ q + 0 * 2 ^ order = omega arith in
+    ap (λ n. RangeDescriptor t (record { base = n; order = order }) ∷ WaitDescriptor cookie false ∷ []) first

@@ -1,5 +1,5 @@
 -- What a unit does with the head of its invalidation queue.
-use Rattle.std.specs.Prelude.{◌≡◌, ℕ, suc, Bool, true, false, ◌&&◌, ◌||◌, not, ◌==◌, Option, Some, None, List, [], ◌∷◌, drop, length, slice_set}
+use Rattle.std.specs.Prelude.{◌≡◌, ℕ, suc, Bool, true, false, ◌&&◌, ◌||◌, not, ◌==◌, Some, List, [], ◌∷◌, drop, length, slice_set}
 use Rattle.sva_step.specs.declared.answers.Answer.TheVariants as answer
 use Rattle.sva_queue.specs.declared.heads.Next.{Next}
 use Rattle.sva_queue.specs.declared.heads.Next.TheVariants.{Idle, Blocked, Send, Pass}

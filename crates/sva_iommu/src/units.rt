@@ -10,7 +10,7 @@ ghost use Rattle.sva_queue.specs.declared.heads.Next.TheVariants as Next;
 use crate::orders::orders_for;
 use std::marker::Model;
 use sva_itags::Count;
-use sva_msg::PageRequest;
+use sva_msg::{PageRequest, Range};
 use sva_prq::PageQueue;
 use sva_queue::{Descriptor, Next, Sending};
 
@@ -108,8 +108,33 @@ impl RemappingUnit {
         requires number { cookie < 2 ^ 63 }
         ensures { self.new ≡ with_unit self.old (with_descriptors self.old.unit (descriptors_for pasid page count order cookie) cookie) }
     {
+        if count == 1 {
+            self.submit_range(pasid, page, order, cookie);
+            return;
+        }
         let orders = orders_for(pasid, page, count, order, cookie);
         self.submit(&orders);
+    }
+
+    /// The same of one range, with no room for others.
+    fn submit_range(&mut self, pasid: u32, page: u64, order: u8, cookie: u64)
+        requires opened { self.old.unit.is_open ≡ true }
+        requires room { has_room self.old.unit 2 ≡ true }
+        requires small { order ≤ 9 }
+        requires aligned { page % 2 ^ order ≡ 0 }
+        requires low { page < 2 ^ 36 }
+        requires later { self.old.unit.waits_end ≤ cookie }
+        requires number { cookie < 2 ^ 63 }
+        ensures { self.new ≡ with_unit self.old (with_descriptors self.old.unit (descriptors_for pasid page 1 order cookie) cookie) }
+    {
+        let range = Range::new(page, order);
+        self.submit(&[
+            Descriptor::Range { pasid, range },
+            Descriptor::Wait {
+                cookie,
+                drain: false,
+            },
+        ]);
     }
 
     /// Asks an open unit for a drain of its page request queue: a wait with this cookie that is done only once that queue is

@@ -1,5 +1,6 @@
 -- Lists that are walked.
-use Rattle.std.proofs.Common.{◌≡◌, ◌∙◌, ◌+◌, ◌<◌, ◌≤◌, ◌==◌, ap, arith, refl, sym, ℕ, Bool, false, true, List, [], ◌∷◌, ◌++◌, append_assoc, append-nil, drop, get_or, length}
+use Rattle.std.proofs.Common.{◌≡◌, ◌∙◌, ◌+◌, ◌<◌, ◌≤◌, ◌==◌, ap, arith, refl, sym, ℕ, Bool}
+use Rattle.std.proofs.Common.{false, true, List, [], ◌∷◌, ◌++◌, append_assoc, append-nil, drop, get_or, length}
 use Rattle.std.proofs.lemmas.List.{drop_all, drop_more}
 use Rattle.std.specs.Global.{Global}
 use Rattle.std.specs.Prelude.{Result, String, string_bytes}
@@ -20,7 +21,8 @@ module _ (verdict : Verdict) (all : List (Result Said AllocError)) (place : ℕ)
   unfolding count
   counted_next one so_far added next_count whole inside is adds counts before =
       let rest = count verdict (drop (place + 1) all) in
-      let split : so_far + (one_if (is_same verdict (verdict_of one)) + rest) ≡ whole = sym (ap (λ l. so_far + count verdict l) (next all place one one inside is)) ∙ before in
+      let split : so_far + (one_if (is_same verdict (verdict_of one)) + rest) ≡ whole = sym
+      (ap (λ l. so_far + count verdict l) (next all place one one inside is)) ∙ before in
       omega (arith, adds, counts, split)
 
   pub counted_end : (so_far whole : ℕ) → length all ≤ place → so_far + count verdict (drop place all) ≡ whole → so_far ≡ whole

@@ -13,7 +13,8 @@ loop-place-preserved c =
     let list = c.loop-place.list.items in
     elim c.if-before-eq0.branch [
       | then-before-eq0+in_ok-from_str+in_ok-push w ↦
-          let pushes = pushed list w.push.new.self.items c.index-names-place.result w.in_ok-from_str.field-0 _ w.in_ok-push.ensures.items w.in_ok-from_str.ensures.ok
+          let pushes = pushed list w.push.new.self.items c.index-names-place.result w.in_ok-from_str.field-0 _
+          w.in_ok-push.ensures.items w.in_ok-from_str.ensures.ok
           c.as_str-name.ensures.value in
           ap (λ v. texts v.items ++ every c.args.part.count c.if-before-eq0.before rest) w.list-is
           ∙ ap (λ n. texts w.push.new.self.items ++ every c.args.part.count n rest)

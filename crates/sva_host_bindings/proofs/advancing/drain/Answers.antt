@@ -87,7 +87,8 @@ invariant_of-host-2 c =
     c.host.invariant c.host.view_is for c.index_mut.ensures.value in
     let change = λ (u : UnitSeen). with_unit u (with_descriptors u.unit (WaitDescriptor c.host.inside.next_cookie true ∷ [])
     c.host.inside.next_cookie) in
-    let written = unit_rewritten c.host.inside c.args.host.now c.args.endpoint c.args.endpoint c.index_mut.result.now c.index_mut.result.now c.submit_drain.new.self change c.host.view_is for
+    let written = unit_rewritten c.host.inside c.args.host.now c.args.endpoint c.args.endpoint c.index_mut.result.now
+    c.index_mut.result.now c.submit_drain.new.self change c.host.view_is for
     c.index_mut.ensures.value c.index_mut.ensures.value c.submit_drain.ensures in
     with_unit_host c.host.inside _ c.args.endpoint c.index_mut.result.now _
     c.host.invariant port.sound written
@@ -101,7 +102,8 @@ returns-clause-step c h =
     c.host.invariant c.host.view_is for c.index_mut.ensures.value in
     let change = λ (u : UnitSeen). with_unit u (with_descriptors u.unit (WaitDescriptor c.host.inside.next_cookie true ∷ [])
     c.host.inside.next_cookie) in
-    let written = unit_rewritten c.host.inside c.args.host.now c.args.endpoint c.args.endpoint c.index_mut.result.now c.index_mut.result.now c.submit_drain.new.self change c.host.view_is for
+    let written = unit_rewritten c.host.inside c.args.host.now c.args.endpoint c.args.endpoint c.index_mut.result.now
+    c.index_mut.result.now c.submit_drain.new.self change c.host.view_is for
     c.index_mut.ensures.value c.index_mut.ensures.value c.submit_drain.ensures in
     submitted c.host.inside c.args.host.now h c.args.binding c.args.endpoint _ _ _ _ (λ (k : ℕ). WaitDescriptor k true ∷ []) DrainingWire
     c.index_mut.result.now _ c.drain.new.bindings c.host.view_is is port written

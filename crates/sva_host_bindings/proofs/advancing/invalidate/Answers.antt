@@ -109,7 +109,8 @@ invariant_of-host-2 c =
     c.host.invariant c.host.view_is for c.index_mut.ensures.value in
     let change = λ (u : UnitSeen). with_unit u
     (with_descriptors u.unit (PasidDescriptor c.args.pasid ∷ WaitDescriptor c.host.inside.next_cookie false ∷ []) c.host.inside.next_cookie) in
-    let written = unit_rewritten c.host.inside c.args.host.now c.args.endpoint c.args.endpoint c.index_mut.result.now c.index_mut.result.now c.submit_pasid.new.self change c.host.view_is for
+    let written = unit_rewritten c.host.inside c.args.host.now c.args.endpoint c.args.endpoint c.index_mut.result.now
+    c.index_mut.result.now c.submit_pasid.new.self change c.host.view_is for
     c.index_mut.ensures.value c.index_mut.ensures.value c.submit_pasid.ensures in
     with_unit_host c.host.inside _ c.args.endpoint c.index_mut.result.now _
     c.host.invariant port.sound written
@@ -124,7 +125,8 @@ returns-clause-step c =
     c.host.invariant c.host.view_is for c.index_mut.ensures.value in
     let change = λ (u : UnitSeen). with_unit u
     (with_descriptors u.unit (PasidDescriptor c.args.pasid ∷ WaitDescriptor c.host.inside.next_cookie false ∷ []) c.host.inside.next_cookie) in
-    let written = unit_rewritten c.host.inside c.args.host.now c.args.endpoint c.args.endpoint c.index_mut.result.now c.index_mut.result.now c.submit_pasid.new.self change c.host.view_is for
+    let written = unit_rewritten c.host.inside c.args.host.now c.args.endpoint c.args.endpoint c.index_mut.result.now
+    c.index_mut.result.now c.submit_pasid.new.self change c.host.view_is for
     c.index_mut.ensures.value c.index_mut.ensures.value c.submit_pasid.ensures in
     submitted c.host.inside c.args.host.now _ c.args.binding c.args.endpoint _ _ _ _ (λ (k : ℕ). PasidDescriptor c.args.pasid ∷ WaitDescriptor k false
     ∷ []) InvalidatingWire

@@ -50,7 +50,8 @@ invariant_of-host-2 c =
     let for = arriving_port _ c.args.flight.now.number c.args.flight.now.message.endpoint
     (Invalidated c.args.vector c.args.count) c.requires.sound c.requires.arriving in
     let is = port_there c.host.inside _ c.args.flight.now.number c.args.flight.now.message.endpoint
-    (Invalidated c.args.vector c.args.count) c.index_mut.result.now c.host.invariant c.host.view_is c.requires.sound c.requires.arriving c.index_mut.ensures.value in
+    (Invalidated c.args.vector c.args.count) c.index_mut.result.now c.host.invariant c.host.view_is c.requires.sound
+    c.requires.arriving c.index_mut.ensures.value in
     with_unit_host c.host.inside _ c.args.flight.now.message.endpoint
     c.index_mut.result.now _
     c.host.invariant is.sound
@@ -63,7 +64,8 @@ returns-clause-step c =
     let for = arriving_port _ c.args.flight.now.number c.args.flight.now.message.endpoint
     (Invalidated c.args.vector c.args.count) c.requires.sound c.requires.arriving in
     let is = port_there c.host.inside _ c.args.flight.now.number c.args.flight.now.message.endpoint
-    (Invalidated c.args.vector c.args.count) c.index_mut.result.now c.host.invariant c.host.view_is c.requires.sound c.requires.arriving c.index_mut.ensures.value in
+    (Invalidated c.args.vector c.args.count) c.index_mut.result.now c.host.invariant c.host.view_is c.requires.sound
+    c.requires.arriving c.index_mut.ensures.value in
     let same = same_port c.host.inside _ c.args.flight.now.message.endpoint c.args.flight.now.message.endpoint
     c.index.result.now c.index_mut.result.now c.host.view_is for c.index.ensures c.index_mut.ensures.value in
     ended_by c.host.inside _ (step.Deliver c.args.flight.now.number) (answer.Freed c.complete-freed.result) _

@@ -28,7 +28,8 @@ returns-then-not-is_open-clause-step c =
     unasked c.host.inside _ c.args.flight.now.number c.args.flight.now.message.endpoint c.args.tag c.args.pasid c.args.page
     c.index.result.now c.deliver_found.new.self
     c.host.view_is (numbered c.host.inside _ c.host.view_is c.requires.sound)
-    (port_there c.host.inside _ c.args.flight.now.number c.args.flight.now.message.endpoint (Request c.args.tag c.args.pasid c.args.page) c.index.result.now c.host.invariant c.host.view_is c.requires.sound
+    (port_there c.host.inside _ c.args.flight.now.number c.args.flight.now.message.endpoint
+    (Request c.args.tag c.args.pasid c.args.page) c.index.result.now c.host.invariant c.host.view_is c.requires.sound
     c.requires.arriving c.index.ensures)
     c.requires.arriving (sym c.is_open.ensures ∙ c.if-not-is_open.true) c.deliver_found.ensures
 
@@ -53,7 +54,8 @@ returns-clause-step c =
     (may_take c.host.inside _ c.args.flight.now.number c.args.flight.now.message.endpoint
     (Request c.args.tag c.args.pasid c.args.page) c.host.view_is c.send.ensures.numbered
     c.requires.arriving)
-    (port_there c.host.inside _ c.args.flight.now.number c.args.flight.now.message.endpoint (Request c.args.tag c.args.pasid c.args.page) c.index.result.now c.host.invariant c.host.view_is c.requires.sound
+    (port_there c.host.inside _ c.args.flight.now.number c.args.flight.now.message.endpoint
+    (Request c.args.tag c.args.pasid c.args.page) c.index.result.now c.host.invariant c.host.view_is c.requires.sound
     c.requires.arriving c.index.ensures)
     c.requires.arriving (sym c.is_open.ensures ∙ c.if-not-is_open.false) (c.completion.ensures c.args.page
     ∙ ap (completion_of c.args.tag) c.translation-found.ensures) c.in_ok-send.ensures.sends

@@ -60,7 +60,11 @@ returns-clause-step c =
     c.host.view_is c.requires.sound c.requires.arriving c.index_mut.ensures.value in
     ended_by c.host.inside _ (step.Deliver c.args.flight.now.number) answer.ResetDone answer.ResetDone
     (λ (ports : List Port).
-    record (wire_of (record c.host.inside { in_flight = c.deliver_found.new.self; bindings = c.by_reset.new.self; address_spaces = c.settle_all.new.self })) { parts = map part_seen ports }) _ _
+    record (wire_of (record c.host.inside {
+      in_flight = c.deliver_found.new.self;
+      bindings = c.by_reset.new.self;
+      address_spaces = c.settle_all.new.self;
+    })) { parts = map part_seen ports }) _ _
     c.host.view_is
     (unit_rewritten c.host.inside _ c.args.flight.now.message.endpoint c.args.flight.now.message.endpoint
     c.index_mut.result.now c.index_mut.result.now c.reopen.new.self

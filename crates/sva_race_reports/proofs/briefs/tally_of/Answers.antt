@@ -9,10 +9,13 @@ loop-place-preserved c =
     let asked = c.args.asked.now in
     let claims = c.args.claims.now in
     let place = c.loop-place.place in
-    let below = below_both (length asked) (length claims) place c.min-place-end.result c.min-place-end.ensures (omega (arith, c.loop-place-test.true)) in record {
-      counted = tally_next c.args.found.now asked claims place c.index-asked-place.result c.index-claims-place.result c.loop-place.tally c.counted-tally.result _
+    let below = below_both (length asked) (length claims) place c.min-place-end.result c.min-place-end.ensures
+    (omega (arith, c.loop-place-test.true)) in record {
+      counted = tally_next c.args.found.now asked claims place c.index-asked-place.result c.index-claims-place.result
+          c.loop-place.tally c.counted-tally.result _
           c.judged_at-judged.result below.0 below.1 (sym c.index-asked-place.is) (sym c.index-claims-place.is)
-          (c.judged_at-judged.ensures ∙ (λ i. judged_at c.args.found.now (sym c.index-asked-place.is i).is_of_ends place (sym c.index-claims-place.is i).claiming))
+          (c.judged_at-judged.ensures ∙ (λ i. judged_at c.args.found.now (sym c.index-asked-place.is i).is_of_ends
+          place (sym c.index-claims-place.is i).claiming))
           c.counted-tally.ensures c.loop-place.invariant.counted;
       few = few_next c.loop-place.tally c.counted-tally.result c.judged_at-judged.result place c.counted-tally.ensures c.loop-place.invariant.few;
     }

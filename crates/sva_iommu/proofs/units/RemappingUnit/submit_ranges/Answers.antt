@@ -1,8 +1,11 @@
-use Rattle.std.proofs.Common.{◌≡◌, ◌+◌, ◌≤◌, suc, ap, sym, subst, ◌∙◌, arith, length, refl}
+use Rattle.std.proofs.Common.{◌≡◌, ◌+◌, ◌*◌, ◌^◌, ◌<◌, ◌≤◌, true, suc, ap, sym, subst, ◌∙◌, arith, length, refl}
 use Rattle.std.specs.Prelude.{All}
 use Rattle.std.proofs.lemmas.Bool.Decides.{nat_tests}
 use Rattle.sva_queue.specs.Cookies.{AreRising, HasNumber}
-use Rattle.sva_iommu.specs.Seen.{orders_for}
+use Rattle.std.proofs.lemmas.Nat.{pow_pos}
+use Rattle.sva_labels.specs.Finding.{has_room}
+use Rattle.sva_labels.specs.Moves.{descriptors_for, with_descriptors}
+use Rattle.sva_iommu.specs.Seen.{orders_for, with_unit}
 use Rattle.sva_iommu.proofs.Submitted.{orders_length, orders_number, orders_rise, orders_after, orders_seen}
 use Rattle.sva_iommu.proofs.units.RemappingUnit.submit_ranges.Goals as goal
 
@@ -22,6 +25,19 @@ pub submit-requires-clause-rising : goal.submit-requires-clause-rising
 submit-requires-clause-rising c =
     subst (AreRising c.args.self.now.unit.waits_end) (sym (c.deref.ensures.0 ∙ c.orders_for-orders.ensures))
     (orders_rise c.args.pasid c.args.page c.args.count c.args.order c.args.cookie c.args.self.now.unit.waits_end c.requires.later)
+
+pub submit_range-requires-clause-room : goal.submit_range-requires-clause-room
+submit_range-requires-clause-room c = subst (λ n. has_room c.args.self.now.unit (suc n) ≡ true) c.if-count-eq1.true c.requires.room
+
+pub submit_range-requires-clause-low : goal.submit_range-requires-clause-low
+submit_range-requires-clause-low c =
+    let some : 0 < 2 ^ c.args.order = pow_pos c.args.order in
+    let one : c.args.page + 1 * 2 ^ c.args.order ≤ 2 ^ 36 = subst (λ n. c.args.page + n * 2 ^ c.args.order ≤ 2 ^ 36) c.if-count-eq1.true c.requires.low in
+    omega (arith, some, one)
+
+pub returns-then-count-eq1 : goal.returns-then-count-eq1
+returns-then-count-eq1 c = c.submit_range.ensures ∙ ap (λ n. with_unit c.args.self.now (with_descriptors c.args.self.now.unit
+    (descriptors_for c.args.pasid c.args.page n c.args.order c.args.cookie) c.args.cookie)) (sym c.if-count-eq1.true)
 
 pub returns : goal.returns
 returns c =

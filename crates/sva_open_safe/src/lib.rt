@@ -2,9 +2,11 @@
 #![tactic(auto)]
 
 mod digests;
+mod plain;
 mod safety;
 mod sameness;
 
 pub use digests::digest;
+pub use plain::nothing_reads_pages_asked_for;
 pub use safety::is_safe;
-pub use sameness::same;
+pub use sameness::{alike, same};

@@ -1,3 +1,13 @@
+mod ClassLists
+mod Classes
+pub mod Flights
+mod FlownActs
 mod Kept
+mod PlainActs
+mod PlainLinks
+mod PlainLists
+pub mod PlainWorlds
 pub mod Sound
+pub mod SwapParts
+pub mod SwapWorlds
 pub mod Tested

@@ -2,9 +2,13 @@
 #![tactic(auto)]
 
 mod digests;
+mod likeness;
+mod plain;
 mod safety;
 mod sameness;
 
 pub use digests::digest;
+pub use likeness::alike;
+pub use plain::nothing_reads_pages_asked_for;
 pub use safety::is_safe;
 pub use sameness::same;

@@ -7,6 +7,7 @@ use Rattle.sva_driver_acts.specs.declared.kept.LineRead.{LineRead}
 use Rattle.sva_judge.specs.declared.drivers.Device.{Device}
 use Rattle.sva_driver_lines.specs.declared.kept.DeviceRead.{DeviceRead}
 use Rattle.sva_driver_lines.specs.Devices as devices
+use Rattle.sva_driver_texts.specs.Pasids.{higher, highest_by, pasid_at}
 use Rattle.sva_driver_texts.specs.Plans.{Planned, device_seen, page_set, pages_by, pasids_by, planned, planned_from, started_at, with_number}
 
 abbrev pub seen : List LineRead → List LineSaid
@@ -35,6 +36,19 @@ pub pasids_end : (endpoint : ℕ) (lines : List LineRead) (i : ℕ) (old : List 
     → pasids_by endpoint old (seen (drop i lines)) ≡ old
 unfolding pasids_by
 pasids_end endpoint lines i old past = ap (λ left. pasids_by endpoint old (seen left)) (drop_all i lines past)
+
+-- the highest PASID so far, line by line
+pub highest_next : (lines : List LineRead) (i : ℕ) (blank : LineRead) (old new : ℕ) → i < length lines
+    → new ≡ higher old (pasid_at (line_seen (get_or lines i blank)).saying)
+    → highest_by old (seen (drop i lines)) ≡ highest_by new (seen (drop (i + 1) lines))
+unfolding highest_by
+highest_next lines i blank old new inside is =
+    ap (λ left. highest_by old (seen left)) (drop_more lines i blank inside)
+    ∙ ap (λ highest. highest_by highest (seen (drop (i + 1) lines))) (sym is)
+
+pub highest_end : (lines : List LineRead) (i old : ℕ) → length lines ≤ i → highest_by old (seen (drop i lines)) ≡ old
+unfolding highest_by
+highest_end lines i old past = ap (λ left. highest_by old (seen left)) (drop_all i lines past)
 
 -- pieces, one for each of a list
 pub piece_next : {A B : Type 0} (f : A → List B) (xs : List A) (i : ℕ) (blank : A) (before out whole : List B) → i < length xs

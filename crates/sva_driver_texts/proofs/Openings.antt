@@ -14,13 +14,13 @@ pub map_twice : {A B C : Type 0} (g : B → C) (f : A → B) (xs : List A) → m
 map_twice g f [] = refl
 map_twice g f (x ∷ xs) = ap (λ rest. g (f x) ∷ rest) (map_twice g f xs)
 
--- the world, by which endpoints lie
-pub start_by : (config : Config) (settings : Settings) (own devices : List DeviceRead) (now : Open)
-    → now ≡ opened settings (map (λ (device : DeviceRead). device.lies) own) 33 config.frames → own ≡ devices
-    → now ≡ opened settings (map lies_of (map device_seen devices)) 33 config.frames
-start_by config settings own devices now is same =
-    is ∙ ap (λ all. opened settings (map (λ (device : DeviceRead). device.lies) all) 33 config.frames) same
-    ∙ ap (λ lies. opened settings lies 33 config.frames) (map_twice lies_of device_seen devices)
+-- the world, by which endpoints lie, and by how many PASIDs they have
+pub start_by : (config : Config) (settings : Settings) (own devices : List DeviceRead) (pasids some : ℕ) (now : Open)
+    → now ≡ opened settings (map (λ (device : DeviceRead). device.lies) own) some config.frames → own ≡ devices → some ≡ pasids
+    → now ≡ opened settings (map lies_of (map device_seen devices)) pasids config.frames
+start_by config settings own devices pasids some now is same as_many =
+    is ∙ (λ i. opened settings (map (λ (device : DeviceRead). device.lies) (same i)) (as_many i) config.frames)
+    ∙ ap (λ lies. opened settings lies pasids config.frames) (map_twice lies_of device_seen devices)
 
 -- as many as there are in a list
 pub as_many : {A B : Type 0} (seen : A → B) (xs : List A) (list : List Bool) (count : ℕ) → list ≡ replicate count false → count ≡ length xs

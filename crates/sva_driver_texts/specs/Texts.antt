@@ -27,6 +27,7 @@ use Rattle.sva_driver_acts.specs.Awaits.{LineSaid}
 use Rattle.sva_driver_acts.specs.Sayings.{SayingSaid, saying_seen}
 use Rattle.sva_driver_lines.specs.Devices.{DeviceSaid, no_workers}
 use Rattle.sva_driver_lines.specs.Readings.{Reading, read_of}
+use Rattle.sva_driver_texts.specs.Pasids.{pasids_of}
 use Rattle.sva_driver_texts.specs.Plans.{device_seen, planned_from}
 use Rattle.sva_driver_texts.specs.declared.kept.Read.{Read}
 use Rattle.sva_driver_texts.specs.declared.kept.Said.{Said}
@@ -61,13 +62,13 @@ told_of line = record { thread = line.thread; text = line.text }
 abbrev pub told_seen : Said → LineTold
 told_seen said = record { thread = said.thread.items; text = said.text.items }
 
--- ---- The world in which nothing was done yet: PASIDs are below 33
+-- ---- The world in which nothing was done yet
 
 abbrev pub lies_of : DeviceSaid → Bool
 lies_of device = device.lies
 
 abbrev pub opened_by : Config → Reading → Open
-opened_by config reading = opened reading.settings (map lies_of reading.devices) 33 config.frames
+opened_by config reading = opened reading.settings (map lies_of reading.devices) (pasids_of reading.lines) config.frames
 
 abbrev pub workers_or : Option Workers → Workers
 workers_or workers = unwrap_or workers no_workers

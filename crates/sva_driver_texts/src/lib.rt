@@ -4,6 +4,7 @@
 mod first;
 mod kept;
 mod opening;
+mod pasids;
 mod plans;
 mod texts;
 

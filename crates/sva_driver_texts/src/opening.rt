@@ -6,6 +6,7 @@ ghost use Rattle.sva_driver_acts.specs.Awaits.{line_seen};
 ghost use Rattle.sva_driver_texts.specs.Texts as texts;
 
 use crate::kept::Said;
+use crate::pasids::pasids_of;
 use crate::plans::all_planned;
 use std::alloc::{AllocError, Global};
 use sva_driver_acts::LineRead;
@@ -42,12 +43,19 @@ fn opened_by(
     config: &Config,
     settings: Settings,
     devices: &[DeviceRead],
+    pasids: usize,
 ) -> Result<Open, AllocError>
     ensures { IfOk result (λ now. now
-        ≡ opened settings (map (λ device. device.lies) devices.now) 33 config.now.frames) }
+        ≡ opened settings (map (λ device. device.lies) devices.now) pasids config.now.frames) }
 {
     let lies = lies_of(alloc, devices)?;
-    Open::new(alloc, settings, lies.as_slice(), 33, config.frames as usize)
+    Open::new(
+        alloc,
+        settings,
+        lies.as_slice(),
+        pasids,
+        config.frames as usize,
+    )
 }
 
 fn workers_or(workers: Option<Workers>) -> Workers
@@ -114,7 +122,8 @@ pub fn opening_of(
     } = reading;
     let own = told.as_slice();
     let acts = read.as_slice();
-    let start = opened_by(alloc, config, settings, own)?;
+    let pasids = pasids_of(acts);
+    let start = opened_by(alloc, config, settings, own, pasids)?;
     let devices = all_planned(alloc, acts, own)?;
     let taken = falses(alloc, acts.len())?;
     let locked = falses(alloc, locks.len())?;

@@ -13,6 +13,8 @@ mod frames;
 #[cfg(test)]
 mod locks;
 #[cfg(test)]
+mod orders;
+#[cfg(test)]
 mod owners;
 #[cfg(test)]
 mod plans;

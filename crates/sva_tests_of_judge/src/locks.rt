@@ -74,7 +74,7 @@ fn three_moments(rt: HostRuntime) {
     let lock = plan.lock();
     let _ = plan.says(&rt, 0, Saying::Locks { lock });
     let _ = plan.says(&rt, 1, Saying::Locks { lock });
-    plan.has_moments(&rt, rt.alloc(), 3);
+    plan.has_moments(&rt, rt.alloc(), budget(0, 0, 0), 3);
 }
 
 /// The lock is free, taken, free again: three moments, since the lines that were taken differ. With room for two, the
@@ -95,5 +95,5 @@ fn three_moments_of_one_thread(rt: HostRuntime) {
     let lock = plan.lock();
     let _ = plan.says(&rt, 0, Saying::Locks { lock });
     let _ = plan.says(&rt, 0, Saying::Unlocks { lock });
-    plan.has_moments(&rt, rt.alloc(), 3);
+    plan.has_moments(&rt, rt.alloc(), budget(0, 0, 0), 3);
 }

@@ -379,8 +379,8 @@ impl Plan {
     }
 
     /// It is safe or stuck, and has so many moments.
-    pub(crate) fn has_moments<R: Abort>(self, rt: &R, alloc: Global, count: usize) {
-        match self.judged(rt, alloc, budget(0, 0, 0), nobody(), MOST) {
+    pub(crate) fn has_moments<R: Abort>(self, rt: &R, alloc: Global, budget: Budget, count: usize) {
+        match self.judged(rt, alloc, budget, nobody(), MOST) {
             Verdict::Safe { moments } => holds(rt, moments == count, "moments", moments),
             Verdict::Stuck {
                 witness: _,

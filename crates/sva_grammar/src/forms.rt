@@ -1,12 +1,10 @@
 //! The form of each line: which config or which step its words write.
 
 ghost use Rattle.std.specs.Prelude.{◌≡◌};
-ghost use Rattle.sva_grammar.specs.Grammar.{config_of, config_counts, step_of};
+ghost use Rattle.sva_grammar.specs.Grammar.{config_of, config_counts};
 ghost use Rattle.sva_grammar.specs.Grammar.{space_step, drop_step, map_step, unmap_step, unmapr_step, look_step, bearer_step};
 ghost use Rattle.sva_grammar.specs.Grammar.{bind_step, unbind_step, advance_step, pump_step, serve_step, reset_step, take_step, answer_step};
 ghost use Rattle.sva_grammar.specs.Grammar.{ask_step, use_step, end_step, evict_step, fault_step, finish_step, quit_step, deliver_step, words_of};
-ghost use Rattle.sva_grammar.specs.Letters.{step_with_a, step_with_b, step_with_d, step_with_e, step_with_f, step_with_l, step_with_m};
-ghost use Rattle.sva_grammar.specs.Letters.{step_with_p, step_with_q, step_with_r, step_with_s, step_with_t, step_with_u};
 
 use crate::faults::Cause;
 use crate::words::Words;
@@ -42,204 +40,9 @@ fn counts_in(words: &Words<'_>) -> Result<Config, Cause>
     })
 }
 
-/// The step that a line writes. A name's first letter leaves four names at most.
-pub(crate) fn step_in(words: &Words<'_>) -> Result<Step, Cause>
-    ensures { result ≡ step_of (words_of words.now) }
-{
-    match words.letter() {
-        b'a' => step_with_a(words),
-        b'b' => step_with_b(words),
-        b'd' => step_with_d(words),
-        b'e' => step_with_e(words),
-        b'f' => step_with_f(words),
-        b'l' => step_with_l(words),
-        b'm' => step_with_m(words),
-        b'p' => step_with_p(words),
-        b'q' => step_with_q(words),
-        b'r' => step_with_r(words),
-        b's' => step_with_s(words),
-        b't' => step_with_t(words),
-        b'u' => step_with_u(words),
-        _ => Err(Cause::UnknownStep),
-    }
-}
-
-/// A step whose name begins with `a`.
-#[tactic(auto, unfolding(crate::specs::Letters::step_with_a))]
-fn step_with_a(words: &Words<'_>) -> Result<Step, Cause>
-    ensures { result ≡ step_with_a (words_of words.now) }
-{
-    if words.begins_with(b"advance") {
-        return advance_in(words);
-    }
-    if words.begins_with(b"answer") {
-        return answer_in(words);
-    }
-    if words.begins_with(b"ask") {
-        return ask_in(words);
-    }
-    Err(Cause::UnknownStep)
-}
-
-/// A step whose name begins with `b`.
-#[tactic(auto, unfolding(crate::specs::Letters::step_with_b))]
-fn step_with_b(words: &Words<'_>) -> Result<Step, Cause>
-    ensures { result ≡ step_with_b (words_of words.now) }
-{
-    if words.begins_with(b"bearer") {
-        return bearer_in(words);
-    }
-    if words.begins_with(b"bind") {
-        return bind_in(words);
-    }
-    Err(Cause::UnknownStep)
-}
-
-/// A step whose name begins with `d`.
-#[tactic(auto, unfolding(crate::specs::Letters::step_with_d))]
-fn step_with_d(words: &Words<'_>) -> Result<Step, Cause>
-    ensures { result ≡ step_with_d (words_of words.now) }
-{
-    if words.begins_with(b"drop") {
-        return drop_in(words);
-    }
-    if words.begins_with(b"deliver") {
-        return deliver_in(words);
-    }
-    Err(Cause::UnknownStep)
-}
-
-/// A step whose name begins with `e`.
-#[tactic(auto, unfolding(crate::specs::Letters::step_with_e))]
-fn step_with_e(words: &Words<'_>) -> Result<Step, Cause>
-    ensures { result ≡ step_with_e (words_of words.now) }
-{
-    if words.begins_with(b"end") {
-        return end_in(words);
-    }
-    if words.begins_with(b"evict") {
-        return evict_in(words);
-    }
-    Err(Cause::UnknownStep)
-}
-
-/// A step whose name begins with `f`.
-#[tactic(auto, unfolding(crate::specs::Letters::step_with_f))]
-fn step_with_f(words: &Words<'_>) -> Result<Step, Cause>
-    ensures { result ≡ step_with_f (words_of words.now) }
-{
-    if words.begins_with(b"fault") {
-        return fault_in(words);
-    }
-    if words.begins_with(b"finish") {
-        return finish_in(words);
-    }
-    Err(Cause::UnknownStep)
-}
-
-/// A step whose name begins with `l`.
-#[tactic(auto, unfolding(crate::specs::Letters::step_with_l))]
-fn step_with_l(words: &Words<'_>) -> Result<Step, Cause>
-    ensures { result ≡ step_with_l (words_of words.now) }
-{
-    if words.begins_with(b"look") {
-        return look_in(words);
-    }
-    Err(Cause::UnknownStep)
-}
-
-/// A step whose name begins with `m`.
-#[tactic(auto, unfolding(crate::specs::Letters::step_with_m))]
-fn step_with_m(words: &Words<'_>) -> Result<Step, Cause>
-    ensures { result ≡ step_with_m (words_of words.now) }
-{
-    if words.begins_with(b"map") {
-        return map_in(words);
-    }
-    Err(Cause::UnknownStep)
-}
-
-/// A step whose name begins with `p`.
-#[tactic(auto, unfolding(crate::specs::Letters::step_with_p))]
-fn step_with_p(words: &Words<'_>) -> Result<Step, Cause>
-    ensures { result ≡ step_with_p (words_of words.now) }
-{
-    if words.begins_with(b"pump") {
-        return pump_in(words);
-    }
-    Err(Cause::UnknownStep)
-}
-
-/// A step whose name begins with `q`.
-#[tactic(auto, unfolding(crate::specs::Letters::step_with_q))]
-fn step_with_q(words: &Words<'_>) -> Result<Step, Cause>
-    ensures { result ≡ step_with_q (words_of words.now) }
-{
-    if words.begins_with(b"quit") {
-        return quit_in(words);
-    }
-    Err(Cause::UnknownStep)
-}
-
-/// A step whose name begins with `r`.
-#[tactic(auto, unfolding(crate::specs::Letters::step_with_r))]
-fn step_with_r(words: &Words<'_>) -> Result<Step, Cause>
-    ensures { result ≡ step_with_r (words_of words.now) }
-{
-    if words.begins_with(b"reset") {
-        return reset_in(words);
-    }
-    Err(Cause::UnknownStep)
-}
-
-/// A step whose name begins with `s`.
-#[tactic(auto, unfolding(crate::specs::Letters::step_with_s))]
-fn step_with_s(words: &Words<'_>) -> Result<Step, Cause>
-    ensures { result ≡ step_with_s (words_of words.now) }
-{
-    if words.begins_with(b"space") {
-        return space_in(words);
-    }
-    if words.begins_with(b"serve") {
-        return serve_in(words);
-    }
-    Err(Cause::UnknownStep)
-}
-
-/// A step whose name begins with `t`.
-#[tactic(auto, unfolding(crate::specs::Letters::step_with_t))]
-fn step_with_t(words: &Words<'_>) -> Result<Step, Cause>
-    ensures { result ≡ step_with_t (words_of words.now) }
-{
-    if words.begins_with(b"take") {
-        return take_in(words);
-    }
-    Err(Cause::UnknownStep)
-}
-
-/// A step whose name begins with `u`.
-#[tactic(auto, unfolding(crate::specs::Letters::step_with_u))]
-fn step_with_u(words: &Words<'_>) -> Result<Step, Cause>
-    ensures { result ≡ step_with_u (words_of words.now) }
-{
-    if words.begins_with(b"unmap") {
-        return unmap_in(words);
-    }
-    if words.begins_with(b"unmapr") {
-        return unmapr_in(words);
-    }
-    if words.begins_with(b"unbind") {
-        return unbind_in(words);
-    }
-    if words.begins_with(b"use") {
-        return use_in(words);
-    }
-    Err(Cause::UnknownStep)
-}
-
 /// `space`.
 #[tactic(auto, unfolding(crate::specs::Grammar::space_step))]
-fn space_in(words: &Words<'_>) -> Result<Step, Cause>
+pub(crate) fn space_in(words: &Words<'_>) -> Result<Step, Cause>
     ensures { result ≡ space_step (words_of words.now) }
 {
     words.exactly(1)?;
@@ -248,7 +51,7 @@ fn space_in(words: &Words<'_>) -> Result<Step, Cause>
 
 /// `drop S`.
 #[tactic(auto, unfolding(crate::specs::Grammar::drop_step))]
-fn drop_in(words: &Words<'_>) -> Result<Step, Cause>
+pub(crate) fn drop_in(words: &Words<'_>) -> Result<Step, Cause>
     ensures { result ≡ drop_step (words_of words.now) }
 {
     let space = words.one_number()?;
@@ -257,7 +60,7 @@ fn drop_in(words: &Words<'_>) -> Result<Step, Cause>
 
 /// `map S PAGE r` or `map S PAGE w`.
 #[tactic(auto, unfolding(crate::specs::Grammar::map_step))]
-fn map_in(words: &Words<'_>) -> Result<Step, Cause>
+pub(crate) fn map_in(words: &Words<'_>) -> Result<Step, Cause>
     ensures { result ≡ map_step (words_of words.now) }
 {
     words.exactly(4)?;
@@ -269,7 +72,7 @@ fn map_in(words: &Words<'_>) -> Result<Step, Cause>
 
 /// `unmap S PAGE`, of one page, or `unmap S PAGE COUNT`.
 #[tactic(auto, unfolding(crate::specs::Grammar::unmap_step))]
-fn unmap_in(words: &Words<'_>) -> Result<Step, Cause>
+pub(crate) fn unmap_in(words: &Words<'_>) -> Result<Step, Cause>
     ensures { result ≡ unmap_step (words_of words.now) }
 {
     words.either(3, 4)?;
@@ -281,7 +84,7 @@ fn unmap_in(words: &Words<'_>) -> Result<Step, Cause>
 
 /// `unmapr S PAGE K`.
 #[tactic(auto, unfolding(crate::specs::Grammar::unmapr_step))]
-fn unmapr_in(words: &Words<'_>) -> Result<Step, Cause>
+pub(crate) fn unmapr_in(words: &Words<'_>) -> Result<Step, Cause>
     ensures { result ≡ unmapr_step (words_of words.now) }
 {
     words.exactly(4)?;
@@ -293,7 +96,7 @@ fn unmapr_in(words: &Words<'_>) -> Result<Step, Cause>
 
 /// `look F`.
 #[tactic(auto, unfolding(crate::specs::Grammar::look_step))]
-fn look_in(words: &Words<'_>) -> Result<Step, Cause>
+pub(crate) fn look_in(words: &Words<'_>) -> Result<Step, Cause>
     ensures { result ≡ look_step (words_of words.now) }
 {
     let frame = words.one_number()?;
@@ -302,7 +105,7 @@ fn look_in(words: &Words<'_>) -> Result<Step, Cause>
 
 /// `bearer P`.
 #[tactic(auto, unfolding(crate::specs::Grammar::bearer_step))]
-fn bearer_in(words: &Words<'_>) -> Result<Step, Cause>
+pub(crate) fn bearer_in(words: &Words<'_>) -> Result<Step, Cause>
     ensures { result ≡ bearer_step (words_of words.now) }
 {
     let pasid = words.one_number()?;
@@ -311,7 +114,7 @@ fn bearer_in(words: &Words<'_>) -> Result<Step, Cause>
 
 /// `bind E S`.
 #[tactic(auto, unfolding(crate::specs::Grammar::bind_step))]
-fn bind_in(words: &Words<'_>) -> Result<Step, Cause>
+pub(crate) fn bind_in(words: &Words<'_>) -> Result<Step, Cause>
     ensures { result ≡ bind_step (words_of words.now) }
 {
     words.exactly(3)?;
@@ -322,7 +125,7 @@ fn bind_in(words: &Words<'_>) -> Result<Step, Cause>
 
 /// `unbind B`.
 #[tactic(auto, unfolding(crate::specs::Grammar::unbind_step))]
-fn unbind_in(words: &Words<'_>) -> Result<Step, Cause>
+pub(crate) fn unbind_in(words: &Words<'_>) -> Result<Step, Cause>
     ensures { result ≡ unbind_step (words_of words.now) }
 {
     let binding = words.one_number()?;
@@ -331,7 +134,7 @@ fn unbind_in(words: &Words<'_>) -> Result<Step, Cause>
 
 /// `advance B`.
 #[tactic(auto, unfolding(crate::specs::Grammar::advance_step))]
-fn advance_in(words: &Words<'_>) -> Result<Step, Cause>
+pub(crate) fn advance_in(words: &Words<'_>) -> Result<Step, Cause>
     ensures { result ≡ advance_step (words_of words.now) }
 {
     let binding = words.one_number()?;
@@ -340,7 +143,7 @@ fn advance_in(words: &Words<'_>) -> Result<Step, Cause>
 
 /// `pump E`.
 #[tactic(auto, unfolding(crate::specs::Grammar::pump_step))]
-fn pump_in(words: &Words<'_>) -> Result<Step, Cause>
+pub(crate) fn pump_in(words: &Words<'_>) -> Result<Step, Cause>
     ensures { result ≡ pump_step (words_of words.now) }
 {
     let endpoint = words.one_number()?;
@@ -349,7 +152,7 @@ fn pump_in(words: &Words<'_>) -> Result<Step, Cause>
 
 /// `serve E`.
 #[tactic(auto, unfolding(crate::specs::Grammar::serve_step))]
-fn serve_in(words: &Words<'_>) -> Result<Step, Cause>
+pub(crate) fn serve_in(words: &Words<'_>) -> Result<Step, Cause>
     ensures { result ≡ serve_step (words_of words.now) }
 {
     let endpoint = words.one_number()?;
@@ -358,7 +161,7 @@ fn serve_in(words: &Words<'_>) -> Result<Step, Cause>
 
 /// `reset E`.
 #[tactic(auto, unfolding(crate::specs::Grammar::reset_step))]
-fn reset_in(words: &Words<'_>) -> Result<Step, Cause>
+pub(crate) fn reset_in(words: &Words<'_>) -> Result<Step, Cause>
     ensures { result ≡ reset_step (words_of words.now) }
 {
     let endpoint = words.one_number()?;
@@ -367,7 +170,7 @@ fn reset_in(words: &Words<'_>) -> Result<Step, Cause>
 
 /// `take W`.
 #[tactic(auto, unfolding(crate::specs::Grammar::take_step))]
-fn take_in(words: &Words<'_>) -> Result<Step, Cause>
+pub(crate) fn take_in(words: &Words<'_>) -> Result<Step, Cause>
     ensures { result ≡ take_step (words_of words.now) }
 {
     let worker = words.one_number()?;
@@ -376,7 +179,7 @@ fn take_in(words: &Words<'_>) -> Result<Step, Cause>
 
 /// `answer W V`.
 #[tactic(auto, unfolding(crate::specs::Grammar::answer_step))]
-fn answer_in(words: &Words<'_>) -> Result<Step, Cause>
+pub(crate) fn answer_in(words: &Words<'_>) -> Result<Step, Cause>
     ensures { result ≡ answer_step (words_of words.now) }
 {
     words.exactly(3)?;
@@ -387,7 +190,7 @@ fn answer_in(words: &Words<'_>) -> Result<Step, Cause>
 
 /// `ask E P PAGE`.
 #[tactic(auto, unfolding(crate::specs::Grammar::ask_step))]
-fn ask_in(words: &Words<'_>) -> Result<Step, Cause>
+pub(crate) fn ask_in(words: &Words<'_>) -> Result<Step, Cause>
     ensures { result ≡ ask_step (words_of words.now) }
 {
     words.exactly(4)?;
@@ -403,7 +206,7 @@ fn ask_in(words: &Words<'_>) -> Result<Step, Cause>
 
 /// `use E P PAGE r` or `use E P PAGE w`.
 #[tactic(auto, unfolding(crate::specs::Grammar::use_step))]
-fn use_in(words: &Words<'_>) -> Result<Step, Cause>
+pub(crate) fn use_in(words: &Words<'_>) -> Result<Step, Cause>
     ensures { result ≡ use_step (words_of words.now) }
 {
     words.exactly(5)?;
@@ -421,7 +224,7 @@ fn use_in(words: &Words<'_>) -> Result<Step, Cause>
 
 /// `end E U`.
 #[tactic(auto, unfolding(crate::specs::Grammar::end_step))]
-fn end_in(words: &Words<'_>) -> Result<Step, Cause>
+pub(crate) fn end_in(words: &Words<'_>) -> Result<Step, Cause>
     ensures { result ≡ end_step (words_of words.now) }
 {
     words.exactly(3)?;
@@ -432,7 +235,7 @@ fn end_in(words: &Words<'_>) -> Result<Step, Cause>
 
 /// `evict E P PAGE`.
 #[tactic(auto, unfolding(crate::specs::Grammar::evict_step))]
-fn evict_in(words: &Words<'_>) -> Result<Step, Cause>
+pub(crate) fn evict_in(words: &Words<'_>) -> Result<Step, Cause>
     ensures { result ≡ evict_step (words_of words.now) }
 {
     words.exactly(4)?;
@@ -448,7 +251,7 @@ fn evict_in(words: &Words<'_>) -> Result<Step, Cause>
 
 /// `fault E P PAGE A G L`.
 #[tactic(auto, unfolding(crate::specs::Grammar::fault_step))]
-fn fault_in(words: &Words<'_>) -> Result<Step, Cause>
+pub(crate) fn fault_in(words: &Words<'_>) -> Result<Step, Cause>
     ensures { result ≡ fault_step (words_of words.now) }
 {
     words.exactly(7)?;
@@ -471,7 +274,7 @@ fn fault_in(words: &Words<'_>) -> Result<Step, Cause>
 
 /// `finish E VECTOR COUNT`.
 #[tactic(auto, unfolding(crate::specs::Grammar::finish_step))]
-fn finish_in(words: &Words<'_>) -> Result<Step, Cause>
+pub(crate) fn finish_in(words: &Words<'_>) -> Result<Step, Cause>
     ensures { result ≡ finish_step (words_of words.now) }
 {
     words.exactly(4)?;
@@ -487,7 +290,7 @@ fn finish_in(words: &Words<'_>) -> Result<Step, Cause>
 
 /// `quit E P`.
 #[tactic(auto, unfolding(crate::specs::Grammar::quit_step))]
-fn quit_in(words: &Words<'_>) -> Result<Step, Cause>
+pub(crate) fn quit_in(words: &Words<'_>) -> Result<Step, Cause>
     ensures { result ≡ quit_step (words_of words.now) }
 {
     words.exactly(3)?;
@@ -498,7 +301,7 @@ fn quit_in(words: &Words<'_>) -> Result<Step, Cause>
 
 /// `deliver M`.
 #[tactic(auto, unfolding(crate::specs::Grammar::deliver_step))]
-fn deliver_in(words: &Words<'_>) -> Result<Step, Cause>
+pub(crate) fn deliver_in(words: &Words<'_>) -> Result<Step, Cause>
     ensures { result ≡ deliver_step (words_of words.now) }
 {
     let message = words.one_number()?;

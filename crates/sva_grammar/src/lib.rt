@@ -5,6 +5,7 @@ mod fault_texts;
 mod faults;
 mod forms;
 mod grammar;
+mod letters;
 mod lines;
 mod parsing;
 mod single;

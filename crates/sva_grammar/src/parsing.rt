@@ -4,7 +4,8 @@ ghost use Rattle.std.specs.Prelude.{◌≡◌, ◌≢◌, ◌≤◌, Err, length
 ghost use Rattle.sva_grammar.specs.Grammar.{at_line, config_of, lines_of, said_lines, step_of, steps_of, words_of, scenario_of, HasStep, IsStepFirst, Reads};
 
 use crate::faults::{Cause, LineFault, ParseFault};
-use crate::forms::{config_in, step_in};
+use crate::forms::config_in;
+use crate::letters::step_in;
 use crate::lines::{Lines, line_count};
 use crate::words::Words;
 use std::alloc::Global;

@@ -4,7 +4,8 @@ ghost use Rattle.std.specs.Prelude.{◌≡◌};
 ghost use Rattle.sva_grammar.specs.Grammar.{config_read, step_read};
 
 use crate::faults::Cause;
-use crate::forms::{config_in, step_in};
+use crate::forms::config_in;
+use crate::letters::step_in;
 use crate::words::Words;
 use sva_step::{Config, Step};
 

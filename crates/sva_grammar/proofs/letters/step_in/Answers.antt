@@ -2,7 +2,7 @@ use Rattle.std.proofs.Common.{◌∙◌, sym, subst, rules}
 use Rattle.sva_grammar.specs.Grammar.{words_of}
 use Rattle.sva_grammar.proofs.LetterLemmas.{begins_with_a, begins_with_b, begins_with_d, begins_with_e, begins_with_f, begins_with_l, begins_with_m}
 use Rattle.sva_grammar.proofs.LetterLemmas.{IsOther, begins_with_none, begins_with_p, begins_with_q, begins_with_r, begins_with_s, begins_with_t, begins_with_u}
-use Rattle.sva_grammar.proofs.forms.step_in.Goals as goal
+use Rattle.sva_grammar.proofs.letters.step_in.Goals as goal
 
 pub returns-in-97 : goal.returns-in-97
 returns-in-97 c = c.step_with_a.ensures ∙ begins_with_a (words_of c.args.words.now) (sym c.letter.ensures ∙ c.in-97.is)
@@ -44,4 +44,19 @@ pub returns-in-117 : goal.returns-in-117
 returns-in-117 c = c.step_with_u.ensures ∙ begins_with_u (words_of c.args.words.now) (sym c.letter.ensures ∙ c.in-117.is)
 
 pub returns-in_default : goal.returns-in_default
-returns-in_default c = begins_with_none (words_of c.args.words.now) (subst IsOther c.letter.ensures (search rules))
+returns-in_default c =
+    begins_with_none (words_of c.args.words.now) (subst IsOther c.letter.ensures (record {
+      a = search rules;
+      b = search rules;
+      d = search rules;
+      e = search rules;
+      f = search rules;
+      l = search rules;
+      m = search rules;
+      p = search rules;
+      q = search rules;
+      r = search rules;
+      s = search rules;
+      t = search rules;
+      u = search rules;
+    }))

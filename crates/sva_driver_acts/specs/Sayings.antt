@@ -10,8 +10,8 @@ use Rattle.sva_open.specs.declared.acts.LocalAct.TheVariants as local
 use Rattle.sva_open.specs.declared.descriptors.Descriptor.{Descriptor}
 use Rattle.sva_judge.specs.declared.drivers.Saying.{Saying}
 use Rattle.sva_judge.specs.declared.drivers.Saying.TheVariants as saying
-use Rattle.sva_judge.specs.declared.naming.Named.{Named}
-use Rattle.sva_judge.specs.declared.naming.Named.TheVariants as named
+use Rattle.sva_open_names.specs.declared.naming.Named.{Named}
+use Rattle.sva_open_names.specs.declared.naming.Named.TheVariants as named
 use Rattle.sva_race_words.specs.Words.{word_at}
 use Rattle.sva_driver_words.specs.Faults.{no_more}
 use Rattle.sva_driver_words.specs.Fields.{access_at, asked_at, endpoint_at, fails_at, frame_at, has_word, index_at, kind_at, last_at, older_at}

@@ -8,9 +8,9 @@ use Rattle.sva_open.specs.declared.messages.Sent.{Sent}
 use Rattle.sva_open.specs.declared.rows.KeptEntry.{KeptEntry}
 use Rattle.sva_open.specs.declared.frames.Translation.{Translation}
 use Rattle.sva_open.specs.declared.works.Group.{Group}
-use Rattle.sva_judge.specs.Finding.{is_of_kind, is_taken, is_use, kind_of}
-use Rattle.sva_judge.specs.declared.naming.Kind.{Kind}
-use Rattle.sva_judge.specs.declared.naming.Kind.TheVariants as kind
+use Rattle.sva_open_names.specs.Finding.{is_of_kind, is_taken, is_use, kind_of}
+use Rattle.sva_open_names.specs.declared.naming.Kind.{Kind}
+use Rattle.sva_open_names.specs.declared.naming.Kind.TheVariants as kind
 
 -- a blank and a number
 abbrev pub and_number : ℕ → List ℕ

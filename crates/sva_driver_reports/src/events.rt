@@ -1,7 +1,7 @@
 //! What link, units, workers and endpoints do, as lines that are read as the same acts.
 
 ghost use Rattle.std.specs.Prelude.{◌≡◌, ◌++◌, OnOk, Some, count_by, slice_get, take};
-ghost use Rattle.sva_judge.specs.Finding as finding;
+ghost use Rattle.sva_open_names.specs.Finding as finding;
 ghost use Rattle.sva_driver_reports.specs.Events as events;
 
 use crate::pieces::{
@@ -9,8 +9,8 @@ use crate::pieces::{
     put_pasid,
 };
 use std::alloc::AllocError;
-use sva_judge::{Kind, kind_of};
 use sva_open::{LocalAct, Part, Sent, Work, before};
+use sva_open_names::{Kind, kind_of};
 
 fn is_of_kind(kind: Kind, sent: &Sent) -> bool
     ensures { result ≡ finding.is_of_kind kind sent.now }

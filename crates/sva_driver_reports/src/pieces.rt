@@ -4,7 +4,7 @@ ghost use Rattle.std.specs.Prelude.{◌≡◌, ◌++◌, OnOk, codes, decimal};
 ghost use Rattle.sva_driver_reports.specs.Events as events;
 
 use std::alloc::AllocError;
-use sva_judge::Kind;
+use sva_open_names::Kind;
 use sva_script_reading::put_number;
 
 /// Appends a blank and a number.

@@ -5,7 +5,7 @@ ghost use Rattle.sva_driver_words.specs.Fields as field;
 
 use crate::faults::{DriverWanted, DriverWrong, lacking};
 use sva_grammar::number_in;
-use sva_judge::Kind;
+use sva_open_names::Kind;
 use sva_race_words::{RaceWanted, count_of, word_at};
 use sva_step::Config;
 use sva_words::is;

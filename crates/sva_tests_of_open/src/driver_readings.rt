@@ -4,8 +4,9 @@ use crate::asserted::holds;
 use crate::driver_texts::reading;
 use sva_driver_acts::LineRead;
 use sva_driver_lines::Reading;
-use sva_judge::{Kind, Named, Saying};
+use sva_judge::Saying;
 use sva_open::{Act, Descriptor, LocalAct, Scope};
+use sva_open_names::{Kind, Named};
 
 /// Two threads, of which one has a lock, and a line of an endpoint.
 const TEXT: &str = "link posted

@@ -5,6 +5,7 @@ ghost use Rattle.sva_program.specs.Progress.{progress_line};
 
 use std::alloc::{AllocError, Global};
 use std::io::Write;
+use std::marker::Model;
 use std::time::Clock;
 use sva_script_reading::put_number;
 use sva_search::Watch;
@@ -15,6 +16,15 @@ use sva_terminal::{InPlace, put_seconds};
 #[derive(Drop)]
 pub struct Progress<W, C> {
     shown: InPlace<W, C>,
+    line: Vec<u8>,
+}
+
+impl<W, C> Model for Progress<W, C> {
+    ghost use Rattle.sva_terminal.specs.Places.{Place};
+
+    ghost Value = { Place W };
+
+    ghost view = { λ progress. progress.shown };
 }
 
 /// Appends the line, behind a return to the first column. All numbers only grow while a search goes on, so that each
@@ -37,14 +47,19 @@ fn put_line(
 
 impl<W: Write, C: Clock> Progress<W, C> {
     /// A line that is shown only where the writer is a terminal. Seconds are counted from now on.
-    pub fn new(alloc: Global, to: W, clock: C, is_terminal: bool) -> Progress<W, C> {
+    pub fn new(alloc: Global, to: W, clock: C, is_terminal: bool) -> Progress<W, C>
+        ensures { result ≡ record { to = to; is_terminal = is_terminal } }
+    {
         Progress {
-            shown: InPlace::new(alloc, to, clock, is_terminal),
+            shown: InPlace::new(to, clock, is_terminal),
+            line: Vec::new(alloc),
         }
     }
 
     /// What it is written to.
-    pub fn to(&self) -> &W {
+    pub fn to(&self) -> &W
+        ensures { result.now ≡ self.now.to }
+    {
         self.shown.to()
     }
 }
@@ -55,8 +70,9 @@ impl<W: Write, C: Clock> Watch for Progress<W, C> {
             return;
         }
         let seconds = self.shown.seconds();
-        if put_line(self.shown.line(), states, depth, seconds).is_ok() {
-            self.shown.show();
+        self.line.clear();
+        if put_line(&mut self.line, states, depth, seconds).is_ok() {
+            self.shown.show(self.line.as_slice());
         }
     }
 

@@ -4,7 +4,7 @@ ghost use Rattle.std.specs.Prelude.{◌≡◌, ◌+◌, ◌++◌, ◌∷◌, ◌
 ghost use Rattle.sva_grammar.specs.Grammar.{config_read, number};
 ghost use Rattle.sva_script.specs.Lines.{parts_of};
 ghost use Rattle.sva_script.specs.Names.{given_of};
-ghost use Rattle.sva_script_runs.specs.Runs.{with_name};
+ghost use Rattle.sva_script_runs.specs.Runs.{none_taken, with_name};
 ghost use Rattle.sva_script_reading.specs.Said.{faults_text};
 ghost use Rattle.sva_script_reading.specs.Reading.{BeginsWith, HasConfig, ReadsConfig, ReadsLine, ReadsWords};
 ghost use Rattle.sva_script_reading.specs.Begins.{begin_of, config_by, config_in, config_wrong, faults_from};
@@ -34,7 +34,12 @@ pub struct Desk<'a> {
 
 impl<'a> Desk<'a> {
     /// A desk of no line.
-    pub fn new(alloc: Global) -> Self {
+    pub fn new(alloc: Global) -> Self
+        ensures words { result.words.items ≡ [] }
+        ensures plain { result.plain.items ≡ [] }
+        ensures expected { result.expected.items ≡ [] }
+        ensures taken { result.taken ≡ none_taken }
+    {
         Desk {
             words: Vec::new(alloc),
             plain: Vec::new(alloc),

@@ -25,6 +25,7 @@ struct Counted<W, C> {
     done: usize,
     all: usize,
     shown: InPlace<W, C>,
+    line: Vec<u8>,
 }
 
 /// Appends how many were searched, of how many.
@@ -56,8 +57,9 @@ impl<W: Write, C: Clock> Counted<W, C> {
     fn count(&mut self) {
         self.done = self.done.saturating_add(1);
         let seconds = self.shown.seconds();
-        if put_line(self.shown.line(), self.done, self.all, seconds).is_ok() {
-            self.shown.show();
+        self.line.clear();
+        if put_line(&mut self.line, self.done, self.all, seconds).is_ok() {
+            self.shown.show(self.line.as_slice());
         }
     }
 }
@@ -86,7 +88,8 @@ impl<'a, X: Wait + Sync, W: Write + Send + Drop, C: Clock + Send + Drop> Searche
             counted: Mutex::new(Counted {
                 done: 0,
                 all,
-                shown: InPlace::new(alloc, to, clock, is_terminal),
+                shown: InPlace::new(to, clock, is_terminal),
+                line: Vec::new(alloc),
             }),
         }
     }

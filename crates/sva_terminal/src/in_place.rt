@@ -1,12 +1,13 @@
 //! A line that is shown in place.
 
-ghost use Rattle.std.specs.Prelude.{◌≡◌, ◌++◌, OnOk};
+ghost use Rattle.std.specs.Prelude.{◌≡◌, ◌++◌, OnOk, false};
 ghost use Rattle.sva_terminal.specs.Seconds.{seconds_text};
 
-use std::alloc::{AllocError, Global};
+use itoa::Buffer;
+use std::alloc::AllocError;
 use std::io::Write;
+use std::marker::Model;
 use std::time::{Clock, Duration};
-use sva_script_reading::put_number;
 
 /// A line that is shown in place, if that is seen on a terminal. What can't be written is left out.
 #[derive(Drop)]
@@ -18,7 +19,14 @@ pub struct InPlace<W, C> {
     is_terminal: bool,
     /// How many columns the line takes that is shown.
     width: usize,
-    line: Vec<u8>,
+}
+
+impl<W, C> Model for InPlace<W, C> {
+    ghost use Rattle.sva_terminal.specs.Places.{Place};
+
+    ghost Value = { Place W };
+
+    ghost view = { λ shown. record { to = shown.to; is_terminal = shown.is_terminal } };
 }
 
 /// Appends how many seconds have passed, if that is known.
@@ -29,13 +37,15 @@ pub fn put_seconds(out: &mut Vec<u8>, seconds: Option<u64>) -> Result<(), AllocE
         return Ok(());
     };
     out.extend_from_slice(b", ")?;
-    put_number(out, seconds)?;
+    out.extend_from_slice(Buffer::new().format(seconds).as_bytes())?;
     out.extend_from_slice(b" s")
 }
 
 impl<W: Write, C: Clock> InPlace<W, C> {
     /// A line that is shown only where the writer is a terminal. Seconds are counted from now on.
-    pub fn new(alloc: Global, to: W, clock: C, is_terminal: bool) -> InPlace<W, C> {
+    pub fn new(to: W, clock: C, is_terminal: bool) -> InPlace<W, C>
+        ensures { result ≡ record { to = to; is_terminal = is_terminal } }
+    {
         let begun = clock.monotonic().ok();
         InPlace {
             to,
@@ -43,17 +53,20 @@ impl<W: Write, C: Clock> InPlace<W, C> {
             begun,
             is_terminal,
             width: 0,
-            line: Vec::new(alloc),
         }
     }
 
     /// What it is written to.
-    pub fn to(&self) -> &W {
+    pub fn to(&self) -> &W
+        ensures { result.now ≡ self.now.to }
+    {
         &self.to
     }
 
     /// Whether that is a terminal.
-    pub fn is_terminal(&self) -> bool {
+    pub fn is_terminal(&self) -> bool
+        ensures { result ≡ self.now.is_terminal }
+    {
         self.is_terminal
     }
 
@@ -65,22 +78,26 @@ impl<W: Write, C: Clock> InPlace<W, C> {
         Some(passed.as_secs())
     }
 
-    /// The next line, which is still empty. It begins with a return to the first column, and is no shorter than the one
-    /// before, which it hides.
-    pub fn line(&mut self) -> &mut Vec<u8> {
-        self.line.clear();
-        &mut self.line
+    /// Shows a line that begins with a return to the first column, and is no shorter than the one before, which it hides.
+    /// Where the writer is no terminal, nothing is written.
+    pub fn show(&mut self, line: &[u8])
+        ensures terminal { self.new.is_terminal ≡ self.old.is_terminal }
+        ensures hidden { self.old.is_terminal ≡ false → self.new ≡ self.old }
+    {
+        if !self.is_terminal {
+            return;
+        }
+        self.width = line.len().saturating_sub(1);
+        let _ = self.to.write_all(line);
     }
 
-    /// Shows the next line.
-    pub fn show(&mut self) {
-        self.width = self.line.len().saturating_sub(1);
-        let _ = self.to.write_all(self.line.as_slice());
-    }
-
-    /// Blanks hide the line, and what is written next begins in the first column.
-    pub fn end(&mut self) {
-        if self.width == 0 {
+    /// Blanks hide the line, and what is written next begins in the first column. Where the writer is no terminal,
+    /// nothing is written.
+    pub fn end(&mut self)
+        ensures terminal { self.new.is_terminal ≡ self.old.is_terminal }
+        ensures hidden { self.old.is_terminal ≡ false → self.new ≡ self.old }
+    {
+        if !self.is_terminal || self.width == 0 {
             return;
         }
         // No line is longer.

@@ -2,7 +2,7 @@ use Rattle.std.proofs.Common.{◌≡◌, drop, map}
 use Rattle.std.specs.List.{find, list_any}
 use Rattle.sva_labels.specs.Finding.{holds_back}
 use Rattle.sva_snapshot.specs.Shown.{flight_shown}
-use Rattle.sva_listing.proofs.messages.held_back_by.Given as goal
+use Rattle.sva_snapshot.proofs.holding.held_back_by.Given as goal
 
 -- no message so far holds it back
 abbrev pub invariant-loop-older : goal.invariant-loop-older

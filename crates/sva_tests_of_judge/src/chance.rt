@@ -155,12 +155,12 @@ fn in_memory(step: Step) -> Option<Act> {
 /// One more line. The wait that was submitted last is noted.
 fn say<R: Abort>(rt: &R, alloc: Global, plan: &mut Plan, step: Step, wait: &mut Option<usize>) {
     match step {
-        Step::Page => *wait = Some(plan.submits(rt, alloc, 0, &[of_page(16)], Some(false))),
-        Step::All => *wait = Some(plan.submits(rt, alloc, 0, &[of_all()], Some(false))),
-        Step::Drain => *wait = Some(plan.submits(rt, alloc, 0, &[], Some(true))),
+        Step::Page => *wait = Some(plan.submits(rt, alloc, &[of_page(16)], false)),
+        Step::All => *wait = Some(plan.submits(rt, alloc, &[of_all()], false)),
+        Step::Drain => *wait = Some(plan.submits(rt, alloc, &[], true)),
         Step::Await => {
             if let Some(line) = *wait {
-                plan.awaits(rt, 0, line);
+                plan.awaits(rt, line);
             }
         }
         _ => {

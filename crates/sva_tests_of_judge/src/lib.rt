@@ -1,5 +1,5 @@
-//! The tests of the judge, by its public functions alone: drivers of a few lines, each with its verdict and the length
-//! of its shortest witness, worked out from the rules; and small drivers by chance, all of whose lists are tried.
+//! The tests of the judge, by its public functions alone: small drivers by chance, all of whose lists are tried. Drivers
+//! with verdicts that were worked out from the rules are in examples/judge.
 #![tactic(auto)]
 
 #[cfg(test)]
@@ -8,13 +8,5 @@ mod asserted;
 mod brute;
 #[cfg(test)]
 mod chance;
-#[cfg(test)]
-mod frames;
-#[cfg(test)]
-mod locks;
-#[cfg(test)]
-mod orders;
-#[cfg(test)]
-mod owners;
 #[cfg(test)]
 mod plans;

@@ -1,36 +1,17 @@
-//! Drivers that are made line by line, and judged.
+//! Drivers that are made line by line.
 
 use crate::asserted::holds;
 use std::alloc::Global;
 use std::process::Abort;
-use sva_judge::{
-    Budget, Device, Driver, Fault, Judging, Line, Page, Saying, Verdict, Workers, judge,
-};
-use sva_open::{Act, Descriptor, Link, LocalAct, Open, Scope, Settings, Stopped};
+use sva_judge::{Budget, Device, Driver, Fault, Judging, Line, Page, Saying, Workers};
+use sva_open::{Act, Descriptor, LocalAct, Open, Scope, Settings};
 use sva_open_acts::act;
-use sva_search::Unwatched;
 
-/// More moments than any of these drivers has.
-const MOST: usize = 200_000;
-
-/// A driver that isn't whole yet: its world, its lines, the last one of each of two threads, and its locks.
+/// A driver of one thread that isn't whole yet: its world and its lines.
 #[derive(Drop)]
 pub struct Plan {
     start: Open,
     lines: Vec<Line>,
-    last: [Option<usize>; 2],
-    locks: usize,
-}
-
-/// The project's own platform: each wait is a fence, a wait that drains needs an empty queue, no caches, Stop Markers.
-pub(crate) fn plain() -> Settings {
-    Settings {
-        link: Link::Free,
-        all_fence: true,
-        drain_empties: true,
-        has_caches: false,
-        stopped: Stopped::Marker,
-    }
 }
 
 /// So many translation requests, uses and groups.
@@ -176,72 +157,55 @@ impl Plan {
         Plan {
             start: started(rt, alloc, settings, lies),
             lines: Vec::new(alloc),
-            last: [None, None],
-            locks: 0,
         }
     }
 
-    /// One more lock.
-    pub(crate) fn lock(&mut self) -> usize {
-        let lock = self.locks;
-        self.locks = lock.saturating_add(1);
-        lock
-    }
-
-    /// One more line of a thread, 0 or 1; its place is given.
-    pub(crate) fn says<R: Abort>(&mut self, rt: &R, thread: usize, saying: Saying) -> usize {
+    /// One more line; its place is given.
+    fn says<R: Abort>(&mut self, rt: &R, saying: Saying) -> usize {
         let place = self.lines.len();
-        let after = self.last.get(thread).copied().unwrap_or(None);
         let line = Line {
             number: place as u64,
-            after,
+            after: place.checked_sub(1),
             saying,
         };
         if self.lines.push(line).is_err() {
             panic!(rt; "out of memory");
         }
-        if thread < 2 {
-            self.last[thread] = Some(place);
-        }
         place
     }
 
-    /// A line of the first thread that does an act in memory.
+    /// A line that does an act in memory.
     pub(crate) fn does<R: Abort>(&mut self, rt: &R, act: Act) {
-        let _ = self.says(rt, 0, Saying::Does { act });
+        let _ = self.says(rt, Saying::Does { act });
     }
 
-    /// A line of the first thread that does an act at the endpoint.
+    /// A line that does an act at the endpoint.
     pub(crate) fn at<R: Abort>(&mut self, rt: &R, act: LocalAct) {
         self.does(rt, Act::At { endpoint: 0, act });
     }
 
-    /// A line of a thread that submits descriptors, and a wait behind them if it is asked for; its place is given.
+    /// A line that submits descriptors, and behind them a wait, which drains or not; its place is given.
     pub(crate) fn submits<R: Abort>(
         &mut self,
         rt: &R,
         alloc: Global,
-        thread: usize,
         list: &[Descriptor],
-        drain: Option<bool>,
+        drain: bool,
     ) -> usize {
         let mut descriptors = match Vec::from_slice(alloc, list) {
             Ok(descriptors) => descriptors,
             Err(_refused) => panic!(rt; "out of memory"),
         };
-        if let Some(drain) = drain {
-            let wait = Descriptor::Wait {
-                name: self.lines.len(),
-                drain,
-                fence: false,
-            };
-            if descriptors.push(wait).is_err() {
-                panic!(rt; "out of memory");
-            }
+        let wait = Descriptor::Wait {
+            name: self.lines.len(),
+            drain,
+            fence: false,
+        };
+        if descriptors.push(wait).is_err() {
+            panic!(rt; "out of memory");
         }
         self.says(
             rt,
-            thread,
             Saying::Does {
                 act: Act::At {
                     endpoint: 0,
@@ -251,9 +215,9 @@ impl Plan {
         )
     }
 
-    /// A line of a thread that awaits the waits of another line.
-    pub(crate) fn awaits<R: Abort>(&mut self, rt: &R, thread: usize, line: usize) {
-        let _ = self.says(rt, thread, Saying::AwaitsWaits { endpoint: 0, line });
+    /// A line that awaits the waits of another line.
+    pub(crate) fn awaits<R: Abort>(&mut self, rt: &R, line: usize) {
+        let _ = self.says(rt, Saying::AwaitsWaits { endpoint: 0, line });
     }
 
     /// The driver, whole.
@@ -265,128 +229,18 @@ impl Plan {
         workers: Workers,
         is_silent: bool,
     ) -> Judging {
-        let Plan {
-            start,
-            lines,
-            last: _,
-            locks,
-        } = self;
+        let Plan { start, lines } = self;
         let taken = repeated(rt, alloc, lines.len());
-        let locked = repeated(rt, alloc, locks);
         let device = device(rt, alloc, budget, is_silent);
         Judging {
             driver: Driver {
                 start,
                 lines,
                 taken,
-                locked,
+                locked: Vec::new(alloc),
                 devices: only(rt, alloc, device),
                 workers,
             },
-        }
-    }
-
-    /// The verdict, where so many moments are visited at most.
-    fn judged<R: Abort>(
-        self,
-        rt: &R,
-        alloc: Global,
-        budget: Budget,
-        workers: Workers,
-        most: usize,
-    ) -> Verdict {
-        let judging = self.driven(rt, alloc, budget, workers, false);
-        match judge(alloc, &judging, most, &mut Unwatched) {
-            Ok(verdict) => verdict,
-            Err(_refused) => panic!(rt; "out of memory"),
-        }
-    }
-
-    /// It is unsafe behind so many events.
-    pub(crate) fn is_unsafe<R: Abort>(
-        self,
-        rt: &R,
-        alloc: Global,
-        budget: Budget,
-        workers: Workers,
-        events: usize,
-    ) {
-        match self.judged(rt, alloc, budget, workers, MOST) {
-            Verdict::Unsafe { witness } => {
-                holds(rt, witness.len() == events, "unsafe behind", witness.len());
-            }
-            _ => holds(rt, false, "it isn't unsafe", events),
-        }
-    }
-
-    /// It is safe.
-    pub(crate) fn is_safe<R: Abort>(self, rt: &R, alloc: Global, budget: Budget, workers: Workers) {
-        match self.judged(rt, alloc, budget, workers, MOST) {
-            Verdict::Safe { moments: _ } => {}
-            Verdict::Unsafe { witness } => holds(rt, false, "it is unsafe behind", witness.len()),
-            Verdict::Stuck {
-                witness,
-                moments: _,
-            } => holds(rt, false, "it is stuck behind", witness.len()),
-            Verdict::CutOff { moments, events: _ } => holds(
-                rt,
-                false,
-                "it was cut off at",
-                moments,
-            ),
-        }
-    }
-
-    /// It is stuck behind so many events.
-    pub(crate) fn is_stuck<R: Abort>(
-        self,
-        rt: &R,
-        alloc: Global,
-        budget: Budget,
-        workers: Workers,
-        events: usize,
-    ) {
-        match self.judged(rt, alloc, budget, workers, MOST) {
-            Verdict::Stuck {
-                witness,
-                moments: _,
-            } => holds(rt, witness.len() == events, "stuck behind", witness.len()),
-            _ => holds(rt, false, "it isn't stuck", events),
-        }
-    }
-
-    /// The search is cut off where so many moments alone may be visited: behind all lists of fewer events.
-    pub(crate) fn is_cut_off<R: Abort>(
-        self,
-        rt: &R,
-        alloc: Global,
-        budget: Budget,
-        most: usize,
-        fewer: usize,
-    ) {
-        match self.judged(rt, alloc, budget, nobody(), most) {
-            Verdict::CutOff { moments, events } => {
-                holds(rt, moments == most, "moments that were visited", moments);
-                holds(
-                    rt,
-                    events == fewer,
-                    "events of which fewer are safe",
-                    events,
-                );
-            }
-            _ => holds(rt, false, "it wasn't cut off", most),
-        }
-    }
-
-    /// It is safe or stuck, and has so many moments.
-    pub(crate) fn has_moments<R: Abort>(self, rt: &R, alloc: Global, budget: Budget, count: usize) {
-        match self.judged(rt, alloc, budget, nobody(), MOST) {
-            Verdict::Safe { moments } => holds(rt, moments == count, "moments", moments),
-            Verdict::Stuck {
-                witness: _,
-                moments,
-            } => holds(rt, moments == count, "moments", moments),
-            _ => holds(rt, false, "it is unsafe or cut off", count),
         }
     }
 }

@@ -5,7 +5,7 @@ use Rattle.sva_step.specs.declared.steps.Step.TheVariants as step
 use Rattle.sva_step.specs.declared.steps.Verdict.TheVariants as verdict
 use Rattle.sva_model.specs.Wire.{JobWire, Wire}
 use Rattle.sva_labels.specs.Finding.{held_by}
-use Rattle.sva_listing.specs.Pieces.{field, line_end}
+use Rattle.sva_lines.specs.Pieces.{field, line_end}
 use Rattle.sva_accepted.specs.Accepted.{is_accepted}
 use Rattle.sva_standing.specs.declared.levels.Level.{Level}
 use Rattle.sva_standing.specs.declared.levels.Level.TheVariants.{First}

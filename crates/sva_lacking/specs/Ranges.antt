@@ -9,7 +9,7 @@ use Rattle.sva_model.specs.Wire.PlaceWire.{WithheldWire}
 use Rattle.sva_model.specs.Wire.TargetWire.{Cookie, ResetEnd}
 use Rattle.sva_labels.specs.Finding.{bound_at}
 use Rattle.sva_labels.specs.Moves.{target_by}
-use Rattle.sva_listing.specs.Pieces.{field, line_end, rows}
+use Rattle.sva_lines.specs.Pieces.{field, line_end, rows}
 use Rattle.sva_standing.specs.declared.levels.Level.{Level}
 use Rattle.sva_standing.specs.declared.levels.Level.TheVariants.{First}
 use Rattle.sva_standing.specs.Lines.{indent}

@@ -4,7 +4,7 @@ use Rattle.sva_step.specs.declared.steps.Step.{Step}
 use Rattle.sva_step.specs.declared.steps.Step.TheVariants as step
 use Rattle.sva_model.specs.Wire.{EndpointWire, UseWire, Wire}
 use Rattle.sva_model.specs.Wire.UseWire.{RunningWire, DeadWire}
-use Rattle.sva_listing.specs.Pieces.{field, line_end, rows}
+use Rattle.sva_lines.specs.Pieces.{field, line_end, rows}
 use Rattle.sva_standing.specs.declared.levels.Level.{Level}
 use Rattle.sva_standing.specs.declared.levels.Level.TheVariants.{First, Second}
 use Rattle.sva_standing.specs.Lines.{indent, start}

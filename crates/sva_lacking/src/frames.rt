@@ -10,8 +10,8 @@ ghost use Rattle.sva_lacking.specs.Frames.{each_space, frames_lines, free_if, fr
 ghost use Rattle.sva_lacking.specs.Frames.{most_pages_line, no_frame, number_where, numbers_line, of_job, pages_if, pages_line};
 ghost use Rattle.sva_lacking.specs.Frames.{space_full, space_if, to_map_line, unmap_text, withheld_by, withheld_if};
 ghost use Rattle.sva_lacking.specs.Frames.{withheld_line, withheld_lines};
-ghost use Rattle.sva_listing.specs.Memory.{is_free, is_withheld};
-ghost use Rattle.sva_listing.specs.Pieces.{rows};
+ghost use Rattle.sva_lines.specs.Words.{is_free, is_withheld};
+ghost use Rattle.sva_lines.specs.Pieces.{rows};
 ghost use Rattle.sva_snapshot.specs.Shown.{job_shown, space_shown};
 ghost use Rattle.sva_standing.specs.Units.{held_seen};
 
@@ -19,7 +19,7 @@ use crate::hands::put_invalid;
 use crate::pages::put_new_pages;
 use std::alloc::AllocError;
 use sva_accepted::{binding_of, can_unmap, held_by, pages_in};
-use sva_listing::{end_line, put_field, put_word};
+use sva_lines::{end_line, put_field, put_word};
 use sva_snapshot::{Held, Job, Mapping, Snapshot, Space};
 use sva_standing::{Level, put_bracket_of_two, put_held, put_indent, put_start};
 use sva_step::Step;

@@ -6,7 +6,7 @@ ghost use Rattle.sva_snapshot.specs.Shown.{job_shown};
 
 use std::alloc::AllocError;
 use sva_accepted::{can_answer_invalid, can_take, held_by};
-use sva_listing::{end_line, put_field, put_word};
+use sva_lines::{end_line, put_field, put_word};
 use sva_snapshot::{Job, Snapshot};
 use sva_standing::{Level, put_bracket, put_indent, put_start};
 use sva_step::Step;

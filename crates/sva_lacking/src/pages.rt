@@ -11,7 +11,7 @@ ghost use Rattle.sva_snapshot.specs.Shown.{job_shown};
 
 use std::alloc::AllocError;
 use sva_accepted::{is_mapped, pages_of_job};
-use sva_listing::put_field;
+use sva_lines::put_field;
 use sva_snapshot::{Ask, Job, Mapping, Snapshot};
 
 /// Is a page among these asked for?

@@ -6,7 +6,7 @@ ghost use Rattle.sva_snapshot.specs.Shown.{binding_shown};
 
 use std::alloc::AllocError;
 use sva_accepted::{can_advance, can_unbind};
-use sva_listing::{end_line, put_field, put_stage, put_word};
+use sva_lines::{end_line, put_field, put_stage, put_word};
 use sva_snapshot::{Binding, Snapshot};
 use sva_standing::{Level, put_bracket, put_indent, put_start};
 

@@ -7,14 +7,14 @@ ghost use Rattle.sva_frames.specs.Reading.{holding_of};
 ghost use Rattle.sva_labels.specs.Moves.{target_by, target_by_stage};
 ghost use Rattle.sva_lacking.specs.Ranges.{awaited_at, differs_at, frame_if, frames_line, is_same_target};
 ghost use Rattle.sva_lacking.specs.Ranges.{range_lines, target_at, target_behind, waits_so, withheld_range};
-ghost use Rattle.sva_listing.specs.Pieces.{rows};
+ghost use Rattle.sva_lines.specs.Pieces.{rows};
 ghost use Rattle.sva_model.specs.Wire.TargetWire.{Cookie, ResetEnd};
 ghost use Rattle.sva_snapshot.specs.Shown.{binding_shown, endpoint_shown, stage_shown, unit_shown};
 ghost use Rattle.sva_standing.specs.Units.{held_seen};
 
 use std::alloc::AllocError;
 use sva_accepted::{bound_at, part_at};
-use sva_listing::{end_line, put_field, put_word};
+use sva_lines::{end_line, put_field, put_word};
 use sva_snapshot::{Binding, Endpoint, Held, Snapshot, Stage, Target, Unit};
 use sva_standing::{Level, put_indent, put_target};
 use sva_step::Step;

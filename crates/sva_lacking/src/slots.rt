@@ -7,7 +7,7 @@ ghost use Rattle.sva_snapshot.specs.Shown.{endpoint_shown};
 
 use std::alloc::AllocError;
 use sva_accepted::part_at;
-use sva_listing::{end_line, put_field, put_word};
+use sva_lines::{end_line, put_field, put_word};
 use sva_snapshot::{Endpoint, Snapshot, UseSlot};
 use sva_standing::{Level, put_end, put_indent, put_start, put_use};
 use sva_step::Step;

@@ -6,7 +6,7 @@ ghost use Rattle.sva_snapshot.specs.Shown.{space_shown};
 
 use std::alloc::AllocError;
 use sva_accepted::can_drop;
-use sva_listing::{end_line, put_field, put_word};
+use sva_lines::{end_line, put_field, put_word};
 use sva_snapshot::{Snapshot, Space};
 use sva_standing::{Level, put_indent};
 

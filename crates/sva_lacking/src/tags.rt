@@ -8,7 +8,7 @@ ghost use Rattle.sva_snapshot.specs.Shown.{endpoint_shown};
 
 use std::alloc::AllocError;
 use sva_accepted::{can_ask, part_at};
-use sva_listing::{end_line, put_field, put_word};
+use sva_lines::{end_line, put_field, put_word};
 use sva_snapshot::{Endpoint, RequestTag, Snapshot};
 use sva_standing::{Level, put_indent, put_out, put_start};
 use sva_step::Step;

@@ -5,7 +5,8 @@ use Rattle.sva_model.specs.State.{GroupState, PasidState}
 use Rattle.sva_model.specs.State.PasidState.{Off, On, Ending}
 use Rattle.sva_model.specs.Wire.{DeviceWire, EndpointWire, GroupWire, RequestWire, TakenWire, TranslationWire, UseWire}
 use Rattle.sva_model.specs.Wire.UseWire.{RunningWire, DeadWire}
-use Rattle.sva_listing.specs.Pieces.{extent_text, field, head, line_end, listed, rows, word_if}
+use Rattle.sva_lines.specs.Pieces.{extent_text, field, head, line_end, listed, rows, word_if}
+use Rattle.sva_lines.specs.Words.{translation_text}
 
 -- `endpoint 0  pasid 1 on`
 abbrev pub pasid_line : (endpoint pasid : ℕ) → (state : List ℕ) → List ℕ
@@ -15,12 +16,6 @@ abbrev pub pasid_lines : (endpoint pasid : ℕ) → PasidState → List ℕ
 pasid_lines endpoint pasid Off = []
 pasid_lines endpoint pasid On = pasid_line endpoint pasid (codes " on")
 pasid_lines endpoint pasid Ending = pasid_line endpoint pasid (codes " stopping")
-
--- ` pasid 1 page 16 frame 0 w`
-abbrev pub translation_text : TranslationWire → List ℕ
-translation_text translation =
-    field (codes " pasid ") translation.pasid ++ field (codes " page ") translation.page ++ field (codes " frame ") translation.frame
-    ++ word_if translation.write (codes " w")
 
 -- `endpoint 0  cached pasid 1 page 16 frame 0 w`
 abbrev pub cached_line : (endpoint : ℕ) → TranslationWire → List ℕ

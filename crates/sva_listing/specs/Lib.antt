@@ -1,4 +1,3 @@
-pub mod Pieces
 pub mod Memory
 pub mod Devices
 pub mod Units

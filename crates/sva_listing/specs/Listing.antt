@@ -4,7 +4,7 @@ use Rattle.sva_model.specs.Wire.{Wire}
 use Rattle.sva_listing.specs.Devices.{endpoint_lines}
 use Rattle.sva_listing.specs.Memory.{binding_line, frame_lines, frames_line, space_lines}
 use Rattle.sva_listing.specs.Messages.{message_line}
-use Rattle.sva_listing.specs.Pieces.{rows}
+use Rattle.sva_lines.specs.Pieces.{rows}
 use Rattle.sva_listing.specs.Units.{hand_lines, job_line, unit_lines}
 
 -- spaces, frames that are withheld, and bindings

@@ -1,10 +1,10 @@
 -- What is said of spaces, frames and bindings.
-use Rattle.std.specs.Prelude.{ℕ, suc, Bool, true, false, if◌then◌else◌, Option, Some, None, List, [], ◌∷◌, ◌++◌, codes, count_by, flat_map}
-use Rattle.sva_model.specs.Wire.{SpaceWire, PageWire, PlaceWire, TargetWire, BindingWire, StageWire}
+use Rattle.std.specs.Prelude.{ℕ, suc, false, Option, Some, None, List, [], ◌∷◌, ◌++◌, codes, count_by, flat_map}
+use Rattle.sva_model.specs.Wire.{SpaceWire, PageWire, PlaceWire, TargetWire, BindingWire}
 use Rattle.sva_model.specs.Wire.PlaceWire.{FreeWire, MappedWire, WithheldWire}
 use Rattle.sva_model.specs.Wire.TargetWire.{Cookie, ResetEnd}
-use Rattle.sva_model.specs.Wire.StageWire.{LiveWire, StoppingWire, DrainingWire, InvalidatingWire, QuietWire, LostWire}
-use Rattle.sva_listing.specs.Pieces.{field, head, line_end, listed, padded, word_if}
+use Rattle.sva_lines.specs.Pieces.{field, head, line_end, listed, padded, word_if}
+use Rattle.sva_lines.specs.Words.{is_free, is_mapped, is_withheld, stage_text}
 
 -- `space 0     page 16 frame 0 w`
 abbrev pub page_line : (space : ℕ) → PageWire → List ℕ
@@ -38,32 +38,11 @@ frame_lines frame MappedWire = []
 frame_lines frame (WithheldWire targets) =
     head (codes "frame ") frame ++ codes " withheld:" ++ listed false (target_texts 0 targets) ++ line_end
 
-abbrev pub stage_text : StageWire → List ℕ
-stage_text LiveWire = codes " live"
-stage_text (StoppingWire marked) = if marked then codes " marked" else codes " stopping"
-stage_text (DrainingWire cookie) = field (codes " draining wait ") cookie
-stage_text (InvalidatingWire cookie) = field (codes " invalidating wait ") cookie
-stage_text QuietWire = codes " quiet"
-stage_text LostWire = codes " lost"
-
 -- `binding 0   endpoint 0 space 0 pasid 1 live`
 abbrev pub binding_line : BindingWire → List ℕ
 binding_line binding =
     head (codes "binding ") binding.binding ++ field (codes " endpoint ") binding.endpoint ++ field (codes " space ") binding.space
     ++ field (codes " pasid ") binding.pasid ++ stage_text binding.stage ++ line_end
-
--- is the frame free? mapped? withheld?
-abbrev pub is_free : PlaceWire → Bool
-is_free FreeWire = true
-is_free _ = false
-
-abbrev pub is_mapped : PlaceWire → Bool
-is_mapped MappedWire = true
-is_mapped _ = false
-
-abbrev pub is_withheld : PlaceWire → Bool
-is_withheld (WithheldWire targets) = true
-is_withheld _ = false
 
 -- `frames      free 3 mapped 1 withheld 1`
 abbrev pub frames_line : List PlaceWire → List ℕ

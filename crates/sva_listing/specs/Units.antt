@@ -1,9 +1,9 @@
 -- What is said of the units, of jobs and of workers.
 use Rattle.std.specs.Prelude.{ℕ, if◌then◌else◌, Option, Some, None, List, [], ◌++◌, codes, flat_map}
 use Rattle.sva_model.specs.Wire.{BusyWire, Descriptor, EndpointWire, HostGroupWire, JobWire, PageRequestWire, UnitWire}
-use Rattle.sva_model.specs.Wire.BusyWire.{Fresh, Counting}
 use Rattle.sva_model.specs.Wire.Descriptor.{RangeDescriptor, PasidDescriptor, WaitDescriptor}
-use Rattle.sva_listing.specs.Pieces.{asks_text, field, head, line_end, padded, range_text, request_text, rows, word_if}
+use Rattle.sva_lines.specs.Pieces.{asks_text, field, head, line_end, padded, range_text, request_text, rows, word_if}
+use Rattle.sva_lines.specs.Words.{busy_text}
 
 -- `unit 0      open, waits done below 3`: the wait with a cookie is done where that is below the number
 abbrev pub unit_line : (unit : ℕ) → UnitWire → List ℕ
@@ -19,11 +19,6 @@ descriptor_text (WaitDescriptor cookie drain) = field (codes " wait ") cookie ++
 -- `unit 0      queued page 16 of pasid 1`
 abbrev pub queued_line : (unit : ℕ) → Descriptor → List ℕ
 queued_line unit descriptor = head (codes "unit ") unit ++ codes " queued" ++ descriptor_text descriptor ++ line_end
-
--- how many completions came of how many, once one came
-abbrev pub busy_text : BusyWire → List ℕ
-busy_text Fresh = []
-busy_text (Counting count arrived) = field (codes ", ") arrived ++ field (codes " of ") count
 
 -- `unit 0      itag 0 busy, 1 of 3`
 abbrev pub busy_lines : (unit itag : ℕ) → Option BusyWire → List ℕ

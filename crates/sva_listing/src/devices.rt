@@ -5,12 +5,12 @@ ghost use Rattle.std.specs.List.{list_any};
 ghost use Rattle.sva_listing.specs.Devices.{cached_line, device_lines, disabled_lines, endpoint_lines};
 ghost use Rattle.sva_listing.specs.Devices.{group_line, group_lines, noted_text};
 ghost use Rattle.sva_listing.specs.Devices.{pasid_lines, slot_texts, tag_lines, taken_lines};
-ghost use Rattle.sva_listing.specs.Devices.{translation_text, use_lines};
-ghost use Rattle.sva_listing.specs.Pieces.{listed, rows};
+ghost use Rattle.sva_listing.specs.Devices.{use_lines};
+ghost use Rattle.sva_lines.specs.Pieces.{listed, rows};
 ghost use Rattle.sva_parts_by_labels.specs.Device.{group_seen, pasid_seen, slot_seen, tag_seen, taken_seen};
 ghost use Rattle.sva_snapshot.specs.Shown.{cached_shown, device_shown, endpoint_shown};
 
-use crate::pieces::{end_line, put_extent, put_field, put_head, put_if, put_word};
+use sva_lines::{end_line, put_extent, put_field, put_head, put_if, put_word};
 use std::alloc::AllocError;
 use sva_snapshot::{Cached, Device, Endpoint, GroupPlace, PasidState, RequestTag, Taken, UseSlot};
 
@@ -43,23 +43,6 @@ fn put_pasids(out: &mut Vec<u8>, endpoint: u64, states: &[PasidState]) -> Result
         put_pasid(out, endpoint, place as u64 + 1, *state)?;
     }
     Ok(())
-}
-
-/// Appends what a translation, or a use of one, is of.
-pub fn put_translation(
-    out: &mut Vec<u8>,
-    pasid: u64,
-    page: u64,
-    frame: u32,
-    write: bool,
-) -> Result<(), AllocError>
-    ensures { OnOk result (out.new.items ≡ out.old.items
-        ++ translation_text (record { pasid = pasid; page = page; frame = frame; write = write })) }
-{
-    put_field(out, " pasid ", pasid)?;
-    put_field(out, " page ", page)?;
-    put_field(out, " frame ", u64::from(frame))?;
-    put_if(out, write, " w")
 }
 
 /// Appends the line of a cached translation.

@@ -4,13 +4,13 @@ ghost use Rattle.std.specs.Prelude.{◌≡◌, ◌++◌, OnOk, count_by, false, 
 ghost use Rattle.sva_address_spaces.specs.Seen.{page_seen, pages_seen, place_seen, places_seen, target_seen};
 ghost use Rattle.sva_address_spaces.specs.Seen.{targets_seen};
 ghost use Rattle.sva_frames.specs.Reading.{holding_of};
-ghost use Rattle.sva_listing.specs.Memory.{binding_line, frame_lines, frames_line, is_free, is_mapped};
-ghost use Rattle.sva_listing.specs.Memory.{is_withheld, page_line, space_lines, stage_text};
+ghost use Rattle.sva_lines.specs.Words.{is_free, is_mapped, is_withheld};
+ghost use Rattle.sva_listing.specs.Memory.{binding_line, frame_lines, frames_line, page_line, space_lines};
 ghost use Rattle.sva_listing.specs.Memory.{target_text, target_texts};
-ghost use Rattle.sva_listing.specs.Pieces.{listed, rows};
-ghost use Rattle.sva_snapshot.specs.Shown.{binding_shown, space_shown, stage_shown};
+ghost use Rattle.sva_lines.specs.Pieces.{listed, rows};
+ghost use Rattle.sva_snapshot.specs.Shown.{binding_shown, space_shown};
 
-use crate::pieces::{end_line, put_field, put_head, put_if, put_plain_head, put_word};
+use sva_lines::{end_line, put_field, put_head, put_if, put_plain_head, put_word};
 use std::alloc::AllocError;
 use sva_snapshot::{Binding, Held, Mapping, Space, Stage, Target};
 
@@ -67,21 +67,6 @@ fn put_binding(out: &mut Vec<u8>, binding: &Binding) -> Result<(), AllocError>
     put_field(out, " pasid ", u64::from(binding.pasid))?;
     put_stage(out, binding.stage)?;
     end_line(out)
-}
-
-/// Appends a stage.
-pub fn put_stage(out: &mut Vec<u8>, stage: Stage) -> Result<(), AllocError>
-    ensures { OnOk result (out.new.items ≡ out.old.items ++ stage_text (stage_shown stage)) }
-{
-    match stage {
-        Stage::Live => put_word(out, " live"),
-        Stage::Stopping { marked: true } => put_word(out, " marked"),
-        Stage::Stopping { marked: false } => put_word(out, " stopping"),
-        Stage::Draining { cookie } => put_field(out, " draining wait ", cookie),
-        Stage::Invalidating { cookie } => put_field(out, " invalidating wait ", cookie),
-        Stage::Quiet => put_word(out, " quiet"),
-        Stage::Lost => put_word(out, " lost"),
-    }
 }
 
 /// Appends the lines of the bindings.

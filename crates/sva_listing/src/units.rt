@@ -2,14 +2,14 @@
 
 ghost use Rattle.std.specs.Prelude.{◌≡◌, ◌++◌, OnOk, flat_map, map, option_map};
 ghost use Rattle.sva_iommu.specs.Seen.{busy_seen, descriptor_seen};
-ghost use Rattle.sva_listing.specs.Pieces.{rows};
-ghost use Rattle.sva_listing.specs.Units.{busy_lines, busy_text, descriptor_text, filed_line, hand_lines};
+ghost use Rattle.sva_lines.specs.Pieces.{rows};
+ghost use Rattle.sva_listing.specs.Units.{busy_lines, descriptor_text, filed_line, hand_lines};
 ghost use Rattle.sva_listing.specs.Units.{job_line, job_text, queued_line, request_line};
 ghost use Rattle.sva_listing.specs.Units.{unit_line, unit_lines};
 ghost use Rattle.sva_msg.specs.Seen.{page_request_seen};
 ghost use Rattle.sva_snapshot.specs.Shown.{endpoint_shown, host_group_shown, job_shown, unit_shown};
 
-use crate::pieces::{
+use sva_lines::{
     end_line, put_asks, put_field, put_head, put_if, put_plain_head, put_range, put_request,
     put_word,
 };
@@ -62,19 +62,6 @@ fn put_queue(out: &mut Vec<u8>, unit: u64, queue: &[Descriptor]) -> Result<(), A
         put_queued(out, unit, descriptor)?;
     }
     Ok(())
-}
-
-/// Appends how many completions came of how many, once one came.
-pub fn put_busy(out: &mut Vec<u8>, busy: &Busy) -> Result<(), AllocError>
-    ensures { OnOk result (out.new.items ≡ out.old.items ++ busy_text (busy_seen busy.now)) }
-{
-    match busy {
-        Busy::Fresh => Ok(()),
-        Busy::Counting { count, arrived } => {
-            put_field(out, ", ", u64::from(*arrived))?;
-            put_field(out, " of ", u64::from(*count))
-        }
-    }
 }
 
 /// Appends the line of an ITag that is busy.

@@ -1,7 +1,7 @@
 //! The lines of the ends.
 
 ghost use Rattle.std.specs.Prelude.{◌≡◌, ◌++◌, ◌+◌, ◌<◌, ◌^◌, [], OnOk, get_or, length};
-ghost use Rattle.sva_listing.specs.Pieces.{rows};
+ghost use Rattle.sva_lines.specs.Pieces.{rows};
 ghost use Rattle.sva_race_ends.specs.Kinds.{counted_text, end_texts, kind_line, kind_line_if, kinds_text, left_out};
 ghost use Rattle.sva_race_ends.specs.Kinds.{left_out_if, most_told};
 

@@ -2,7 +2,7 @@
 
 ghost use Rattle.std.specs.Prelude.{◌≡◌, ◌++◌, IfOk, OnOk, Some};
 ghost use Rattle.sva_grammar.specs.Laws.{step_words};
-ghost use Rattle.sva_listing.specs.Pieces.{rows};
+ghost use Rattle.sva_lines.specs.Pieces.{rows};
 ghost use Rattle.sva_reports.specs.Report.{ended, reply_text};
 ghost use Rattle.sva_script_reading.specs.Begins.{joined_words};
 ghost use Rattle.sva_script_reports.specs.Whys.{case_line, held_text};

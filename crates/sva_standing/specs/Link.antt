@@ -8,8 +8,9 @@ use Rattle.sva_model.specs.Message.Message.{StartMessage, StopMessage, ResetMess
 use Rattle.sva_model.specs.Message.Message.{InvalidatedMessage, PageRequestMessage, MarkerMessage, ResetDoneMessage}
 use Rattle.sva_model.specs.Wire.{FlightWire, Wire}
 use Rattle.sva_labels.specs.Finding.{holds_back}
-use Rattle.sva_listing.specs.Messages.{behind_text, message_text}
-use Rattle.sva_listing.specs.Pieces.{field, line_end}
+use Rattle.sva_lines.specs.Kinds.{behind_text}
+use Rattle.sva_lines.specs.Kinds.{message_text}
+use Rattle.sva_lines.specs.Pieces.{field, line_end}
 use Rattle.sva_standing.specs.declared.link.Topic.{Topic}
 use Rattle.sva_standing.specs.declared.link.Topic.TheVariants.{Start, Stop, Marker, Reset, Itag, Tag, Asks, Responds}
 use Rattle.sva_standing.specs.declared.levels.Level.{Level}

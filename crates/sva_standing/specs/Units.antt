@@ -11,10 +11,10 @@ use Rattle.sva_labels.specs.Outcomes.{may_pass}
 use Rattle.sva_frames.specs.declared.reading.Held.{Held}
 use Rattle.sva_frames.specs.Reading.{holding_of}
 use Rattle.sva_address_spaces.specs.Seen.{place_seen}
-use Rattle.sva_listing.specs.Devices.{translation_text}
-use Rattle.sva_listing.specs.Messages.{hex_text}
-use Rattle.sva_listing.specs.Pieces.{extent_text, field, line_end, rows}
-use Rattle.sva_listing.specs.Units.{busy_text}
+use Rattle.sva_lines.specs.Words.{translation_text}
+use Rattle.sva_lines.specs.Kinds.{hex_text}
+use Rattle.sva_lines.specs.Pieces.{extent_text, field, line_end, rows}
+use Rattle.sva_lines.specs.Words.{busy_text}
 use Rattle.sva_standing.specs.declared.levels.Level.{Level}
 use Rattle.sva_standing.specs.declared.levels.Level.TheVariants.{First}
 use Rattle.sva_standing.specs.declared.link.Topic.TheVariants.{Itag, Reset}

@@ -2,7 +2,7 @@
 
 ghost use Rattle.std.specs.Prelude.{◌≡◌, ◌++◌, OnOk, map};
 ghost use Rattle.std.specs.List.{list_any};
-ghost use Rattle.sva_listing.specs.Pieces.{rows};
+ghost use Rattle.sva_lines.specs.Pieces.{rows};
 ghost use Rattle.sva_parts_by_labels.specs.Device.{group_seen};
 ghost use Rattle.sva_snapshot.specs.Shown.{device_shown};
 ghost use Rattle.sva_standing.specs.Tables.{all_unfinished_text, credit_if, credit_text, disabled_if, due_if, is_due};
@@ -12,7 +12,7 @@ use crate::levels::{Level, below, put_bracket, put_indent};
 use crate::link::{Topic, put_about};
 use std::alloc::AllocError;
 use sva_accepted::{can_reset, has_no_credit};
-use sva_listing::{end_line, put_field, put_word};
+use sva_lines::{end_line, put_field, put_word};
 use sva_snapshot::{Device, GroupPlace, Snapshot};
 
 /// Appends a reset in brackets.

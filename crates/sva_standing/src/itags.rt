@@ -3,7 +3,7 @@
 ghost use Rattle.std.specs.Prelude.{◌≡◌, ◌++◌, None, OnOk, map, option_map, slice_index_or};
 ghost use Rattle.sva_iommu.specs.Seen.{busy_seen};
 ghost use Rattle.sva_labels.specs.Finding.{taken_at, use_at};
-ghost use Rattle.sva_listing.specs.Pieces.{rows};
+ghost use Rattle.sva_lines.specs.Pieces.{rows};
 ghost use Rattle.sva_parts_by_labels.specs.Device.{slot_seen, taken_seen};
 ghost use Rattle.sva_snapshot.specs.Shown.{endpoint_shown};
 ghost use Rattle.sva_standing.specs.Units.{busy_if, busy_lines, end_text, finish_text, taken_line, taken_lines};
@@ -13,9 +13,7 @@ use crate::levels::{Level, below, put_bracket_of_two, put_indent, put_start};
 use crate::link::{Topic, put_about};
 use std::alloc::AllocError;
 use sva_accepted::{can_end, can_finish, taken_at, vector_of};
-use sva_listing::{
-    end_line, put_busy, put_extent, put_field, put_translation, put_vector, put_word,
-};
+use sva_lines::{end_line, put_busy, put_extent, put_field, put_translation, put_vector, put_word};
 use sva_snapshot::{Busy, Endpoint, Snapshot, Taken, UseSlot};
 
 /// Appends what a use is of.

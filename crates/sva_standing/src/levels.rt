@@ -4,7 +4,7 @@ ghost use Rattle.std.specs.Prelude.{◌≡◌, ◌++◌, OnOk};
 ghost use Rattle.sva_standing.specs.Lines.{below, bracket, bracket_of_two, indent, start};
 
 use std::alloc::AllocError;
-use sva_listing::{put_field, put_word};
+use sva_lines::{put_field, put_word};
 
 /// How deep a line stands: what holds a step back is at the first level.
 #[derive(Clone, Copy, PartialEq, Eq)]

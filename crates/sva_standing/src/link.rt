@@ -10,7 +10,7 @@ ghost use Rattle.sva_standing.specs.Link.{older_lines};
 use crate::levels::{Level, put_bracket, put_indent};
 use std::alloc::AllocError;
 use sva_accepted::{can_deliver, is_set};
-use sva_listing::{end_line, put_field, put_kind, put_word};
+use sva_lines::{end_line, put_field, put_kind, put_word};
 use sva_snapshot::{Flight, Kind, Snapshot, held_back_by, holds_back};
 
 /// What a message may be about.

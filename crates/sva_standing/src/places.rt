@@ -3,7 +3,7 @@
 ghost use Rattle.std.specs.Prelude.{◌≡◌, ◌++◌, OnOk, Some, map, option_copied, option_map, slice_get};
 ghost use Rattle.sva_address_spaces.specs.Seen.{places_seen, target_seen};
 ghost use Rattle.sva_frames.specs.Reading.{holding_of};
-ghost use Rattle.sva_listing.specs.Pieces.{rows};
+ghost use Rattle.sva_lines.specs.Pieces.{rows};
 ghost use Rattle.sva_standing.specs.Units.{place_lines, target_lines, held_seen};
 
 use crate::levels::Level;

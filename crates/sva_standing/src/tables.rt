@@ -15,7 +15,7 @@ use crate::link::{Topic, put_about};
 use crate::units::put_reset_if;
 use std::alloc::AllocError;
 use sva_accepted::{can_end, can_finish_group, is_unfinished, is_use_of, pasid_state};
-use sva_listing::{end_line, put_field, put_if, put_stage, put_word};
+use sva_lines::{end_line, put_field, put_if, put_stage, put_word};
 use sva_snapshot::{Binding, Endpoint, GroupPlace, PasidState, RequestTag, Snapshot, UseSlot};
 
 /// Appends the last request of a group in brackets.

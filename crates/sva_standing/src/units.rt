@@ -11,7 +11,7 @@ use crate::levels::{Level, below, put_bracket, put_indent, put_start};
 use crate::link::{Topic, put_about};
 use std::alloc::AllocError;
 use sva_accepted::{can_pump, can_serve, has_room, is_full, is_some_busy};
-use sva_listing::{end_line, put_field, put_word};
+use sva_lines::{end_line, put_field, put_word};
 use sva_snapshot::{Descriptor, Endpoint, Snapshot};
 
 /// Appends the lines of a unit in reset.

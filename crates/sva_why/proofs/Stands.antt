@@ -13,7 +13,7 @@ use Rattle.sva_model.specs.Wire.StageWire.{DrainingWire, InvalidatingWire, LiveW
 use Rattle.sva_labels.specs.Finding.{binding_of, flight_of, has_room, has_unfinished_group, held_by, holds_back, is_mapped, is_request_of, is_use_of}
 use Rattle.sva_labels.specs.Finding.{is_wait_done, page_at, pages_in, pasid_state, submits}
 use Rattle.sva_labels.specs.Replying.{is_read_only_at, pages_of_job}
-use Rattle.sva_listing.specs.Pieces.{field, line_end, rows}
+use Rattle.sva_lines.specs.Pieces.{field, line_end, rows}
 use Rattle.sva_standing.specs.declared.link.Topic.TheVariants.{Itag, Start, Tag}
 use Rattle.sva_standing.specs.declared.levels.Level.TheVariants.{First, Second}
 use Rattle.sva_standing.specs.Lines.{indent}

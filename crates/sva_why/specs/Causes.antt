@@ -7,7 +7,7 @@ use Rattle.sva_step.specs.declared.steps.Step.{Step}
 use Rattle.sva_step.specs.declared.steps.Step.TheVariants as step
 use Rattle.sva_model.specs.Wire.{BindingWire, EndpointWire, FlightWire, PageWire, Wire}
 use Rattle.sva_labels.specs.Finding.{binding_of, flight_of, held_by, is_mapped, pages_in, submits}
-use Rattle.sva_listing.specs.Pieces.{field, line_end, rows}
+use Rattle.sva_lines.specs.Pieces.{field, line_end, rows}
 use Rattle.sva_standing.specs.declared.levels.Level.TheVariants.{First}
 use Rattle.sva_standing.specs.Lines.{indent}
 use Rattle.sva_standing.specs.Link.{older_lines}

@@ -5,7 +5,7 @@ use Rattle.sva_model.specs.Wire.{AskWire, EndpointWire, GroupWire, HostGroupWire
 use Rattle.sva_labels.specs.Finding.{group_at, page_at}
 use Rattle.sva_labels.specs.Moves.{is_of_job}
 use Rattle.sva_labels.specs.Replying.{is_read_only_at, pages_of_job}
-use Rattle.sva_listing.specs.Pieces.{field, line_end, rows}
+use Rattle.sva_lines.specs.Pieces.{field, line_end, rows}
 use Rattle.sva_standing.specs.declared.levels.Level.{Level}
 use Rattle.sva_standing.specs.declared.levels.Level.TheVariants.{First}
 use Rattle.sva_standing.specs.declared.link.Topic.TheVariants.{Asks}

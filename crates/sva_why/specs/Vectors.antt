@@ -2,7 +2,7 @@
 use Rattle.std.specs.Prelude.{ℕ, if◌then◌else◌, Option, Some, None, List, [], ◌++◌, codes}
 use Rattle.sva_model.specs.Labels.{is_set, names_none}
 use Rattle.sva_model.specs.Wire.{EndpointWire, TakenWire, Wire}
-use Rattle.sva_listing.specs.Pieces.{line_end, rows}
+use Rattle.sva_lines.specs.Pieces.{line_end, rows}
 use Rattle.sva_standing.specs.declared.levels.Level.{Level}
 use Rattle.sva_standing.specs.declared.levels.Level.TheVariants.{First}
 use Rattle.sva_standing.specs.declared.link.Topic.TheVariants.{Itag}

@@ -12,7 +12,7 @@ use crate::groups::put_open;
 use std::alloc::AllocError;
 use sva_accepted::{can_quit, part_at};
 use sva_lacking::{put_advance, put_unbind};
-use sva_listing::{end_line, put_field, put_stage, put_word};
+use sva_lines::{end_line, put_field, put_stage, put_word};
 use sva_snapshot::{Binding, Endpoint, Snapshot, Stage};
 use sva_standing::{
     Level, Topic, below, put_about, put_bracket_of_two, put_busy_pasid, put_reset_if, put_room,

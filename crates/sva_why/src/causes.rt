@@ -2,7 +2,7 @@
 
 ghost use Rattle.std.specs.Prelude.{◌≡◌, ◌++◌, ◌+◌, ◌^◌, ◌≤◌, OnOk, map};
 ghost use Rattle.sva_address_spaces.specs.Seen.{pages_seen};
-ghost use Rattle.sva_listing.specs.Pieces.{rows};
+ghost use Rattle.sva_lines.specs.Pieces.{rows};
 ghost use Rattle.sva_snapshot.specs.Shown.{endpoint_shown};
 ghost use Rattle.sva_step.specs.declared.steps.Step.TheVariants as steps;
 ghost use Rattle.sva_why.specs.Causes.{bad_verdict, busy, disabled, endpoint_of, full_if, in_use, no_credit};
@@ -21,7 +21,7 @@ use sva_lacking::{
     put_hands_full, put_no_frame, put_no_job, put_no_pasid, put_no_slot, put_no_tag, put_not_held,
     put_space_full, put_too_many,
 };
-use sva_listing::{end_line, put_field, put_word};
+use sva_lines::{end_line, put_field, put_word};
 use sva_snapshot::{Endpoint, Mapping, Snapshot};
 use sva_standing::{
     Level, put_busy_pasid, put_credit, put_disabled, put_in_reset, put_indent, put_not_started,

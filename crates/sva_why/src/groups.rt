@@ -3,7 +3,7 @@
 ghost use Rattle.std.specs.Prelude.{◌≡◌, ◌++◌, None, OnOk, Some, flat_map, map, option_map, slice_index_or};
 ghost use Rattle.sva_address_spaces.specs.Seen.{pages_seen};
 ghost use Rattle.sva_labels.specs.Moves.{is_of_job};
-ghost use Rattle.sva_listing.specs.Pieces.{rows};
+ghost use Rattle.sva_lines.specs.Pieces.{rows};
 ghost use Rattle.sva_msg.specs.Seen.{page_request_seen};
 ghost use Rattle.sva_parts_by_labels.specs.Device.{group_seen};
 ghost use Rattle.sva_prq.specs.Job.{ask_seen};
@@ -14,7 +14,7 @@ ghost use Rattle.sva_why.specs.Groups.{read_only_lines, request_if, take_if, unf
 use std::alloc::AllocError;
 use sva_accepted::{can_serve, can_take, is_read_only_at, pages_of_job};
 use sva_lacking::put_invalid;
-use sva_listing::{end_line, put_field, put_word};
+use sva_lines::{end_line, put_field, put_word};
 use sva_snapshot::{Ask, Endpoint, GroupPlace, HostGroup, Job, Mapping, PageRequest, Snapshot};
 use sva_standing::{Level, Topic, below, put_about, put_bracket, put_indent, put_unfinished_if};
 

@@ -1,7 +1,7 @@
 //! The ITags that a vector names.
 
 ghost use Rattle.std.specs.Prelude.{◌≡◌, ◌++◌, OnOk, option_map};
-ghost use Rattle.sva_listing.specs.Pieces.{rows};
+ghost use Rattle.sva_lines.specs.Pieces.{rows};
 ghost use Rattle.sva_parts_by_labels.specs.Device.{taken_seen};
 ghost use Rattle.sva_snapshot.specs.Shown.{endpoint_shown};
 ghost use Rattle.sva_why.specs.Vectors.{free_or_out_lines, none_named_line, not_pending_line};
@@ -9,7 +9,7 @@ ghost use Rattle.sva_why.specs.Vectors.{in_use_if, in_use_lines, not_pending_if,
 
 use std::alloc::AllocError;
 use sva_accepted::{is_set, names_none};
-use sva_listing::{end_line, put_word};
+use sva_lines::{end_line, put_word};
 use sva_snapshot::{Endpoint, Snapshot, Taken};
 use sva_standing::{
     Level, Topic, below, put_about, put_indent, put_reset_if, put_start, put_waits_for,

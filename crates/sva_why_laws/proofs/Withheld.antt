@@ -11,7 +11,7 @@ use Rattle.sva_model.specs.Wire.TargetWire.{Cookie, ResetEnd}
 use Rattle.sva_labels.specs.Finding.{pages_in}
 use Rattle.sva_labels.specs.Moves.{is_between, place_for, placed, targets_of, unmapped}
 use Rattle.sva_lacking.specs.Ranges.{awaited_at, frames_line, target_behind}
-use Rattle.sva_listing.specs.Pieces.{rows}
+use Rattle.sva_lines.specs.Pieces.{rows}
 use Rattle.sva_standing.specs.declared.levels.Level.TheVariants.{First, Second}
 use Rattle.sva_standing.specs.declared.link.Topic.TheVariants.{Reset}
 use Rattle.sva_standing.specs.Link.{about_lines}

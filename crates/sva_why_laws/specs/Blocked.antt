@@ -5,8 +5,8 @@ use Rattle.sva_step.specs.declared.steps.Step.TheVariants as step
 use Rattle.sva_model.specs.Wire.{BusyWire, Descriptor, EndpointWire, Wire}
 use Rattle.sva_model.specs.Wire.Descriptor.{RangeDescriptor, PasidDescriptor, WaitDescriptor}
 use Rattle.sva_labels.specs.Finding.{lowest_label}
-use Rattle.sva_listing.specs.Pieces.{field, line_end}
-use Rattle.sva_listing.specs.Units.{busy_text}
+use Rattle.sva_lines.specs.Pieces.{field, line_end}
+use Rattle.sva_lines.specs.Words.{busy_text}
 use Rattle.sva_accepted.specs.Accepted.{is_accepted}
 use Rattle.sva_standing.specs.declared.levels.Level.{Level}
 use Rattle.sva_standing.specs.declared.levels.Level.TheVariants.{First, Second}

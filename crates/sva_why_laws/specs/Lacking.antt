@@ -10,7 +10,7 @@ use Rattle.sva_model.specs.Wire.PlaceWire.{WithheldWire}
 use Rattle.sva_model.specs.Wire.UseWire.{RunningWire, DeadWire}
 use Rattle.sva_labels.specs.Finding.{held_by, outstanding, pages_in}
 use Rattle.sva_labels.specs.Replying.{space_of_job}
-use Rattle.sva_listing.specs.Pieces.{field, line_end}
+use Rattle.sva_lines.specs.Pieces.{field, line_end}
 use Rattle.sva_accepted.specs.Accepted.{is_accepted}
 use Rattle.sva_lacking.specs.Frames.{frames_lines, pages_line, to_map_line, withheld_line}
 use Rattle.sva_lacking.specs.Hands.{hand_line}

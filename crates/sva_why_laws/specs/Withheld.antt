@@ -9,7 +9,7 @@ use Rattle.sva_model.specs.Wire.PlaceWire.{WithheldWire}
 use Rattle.sva_model.specs.Wire.TargetWire.{Cookie, ResetEnd}
 use Rattle.sva_labels.specs.Finding.{pages_in}
 use Rattle.sva_labels.specs.Moves.{is_between, unmapped}
-use Rattle.sva_listing.specs.Pieces.{field, line_end}
+use Rattle.sva_lines.specs.Pieces.{field, line_end}
 use Rattle.sva_lacking.specs.Ranges.{frames_line, target_behind}
 use Rattle.sva_standing.specs.declared.levels.Level.TheVariants.{First}
 use Rattle.sva_standing.specs.Lines.{indent}

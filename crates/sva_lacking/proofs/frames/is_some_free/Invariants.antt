@@ -1,6 +1,6 @@
 use Rattle.std.proofs.Common.{◌≡◌, drop, map}
 use Rattle.std.specs.List.{list_any}
-use Rattle.sva_listing.specs.Memory.{is_free}
+use Rattle.sva_lines.specs.Words.{is_free}
 use Rattle.sva_standing.specs.Units.{held_seen}
 use Rattle.sva_lacking.proofs.frames.is_some_free.Given as goal
 

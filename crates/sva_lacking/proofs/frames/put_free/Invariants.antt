@@ -1,6 +1,6 @@
 use Rattle.std.proofs.Common.{◌≡◌, ◌++◌, drop, map}
 use Rattle.sva_lacking.specs.Frames.{free_if}
-use Rattle.sva_listing.specs.Pieces.{rows}
+use Rattle.sva_lines.specs.Pieces.{rows}
 use Rattle.sva_standing.specs.Units.{held_seen}
 use Rattle.sva_lacking.proofs.frames.put_free.Given as goal
 

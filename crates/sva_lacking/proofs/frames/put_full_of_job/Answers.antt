@@ -1,4 +1,4 @@
-use Rattle.sva_listing.proofs.Lines.{both}
+use Rattle.sva_lines.proofs.Lines.{both}
 use Rattle.sva_lacking.proofs.frames.put_full_of_job.Goals as goal
 
 pub returns : goal.returns

@@ -1,8 +1,8 @@
 use Rattle.std.proofs.Common.{◌≡◌, ◌∙◌, ◌++◌, ap, length, subst, sym}
 use Rattle.std.proofs.lemmas.List.{length-map}
 use Rattle.std.specs.Prelude.{OnOk, codes}
-use Rattle.sva_listing.specs.Pieces.{line_end}
-use Rattle.sva_listing.proofs.Lines.{both}
+use Rattle.sva_lines.specs.Pieces.{line_end}
+use Rattle.sva_lines.proofs.Lines.{both}
 use Rattle.sva_standing.specs.declared.levels.Level.TheVariants.{First}
 use Rattle.sva_standing.specs.Lines.{start}
 use Rattle.sva_standing.specs.Units.{held_seen}

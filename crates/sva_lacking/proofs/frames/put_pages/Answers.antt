@@ -2,8 +2,8 @@ use Rattle.std.proofs.Common.{◌≡◌, ◌++◌, subst, sym}
 use Rattle.std.proofs.lemmas.List.{length-map}
 use Rattle.std.specs.Prelude.{codes}
 use Rattle.sva_address_spaces.specs.Seen.{page_seen}
-use Rattle.sva_listing.specs.Pieces.{field}
-use Rattle.sva_listing.proofs.Lines.{both}
+use Rattle.sva_lines.specs.Pieces.{field}
+use Rattle.sva_lines.proofs.Lines.{both}
 use Rattle.sva_standing.proofs.Chains.{joined}
 use Rattle.sva_lacking.proofs.frames.put_pages.Goals as goal
 

@@ -1,6 +1,6 @@
 use Rattle.std.proofs.Common.{◌∙◌, ap}
 use Rattle.std.specs.List.{find}
-use Rattle.sva_listing.specs.Memory.{is_withheld}
+use Rattle.sva_lines.specs.Words.{is_withheld}
 use Rattle.sva_standing.proofs.Frames.{all_seen}
 use Rattle.sva_lacking.proofs.frames.withheld_among.Goals as goal
 

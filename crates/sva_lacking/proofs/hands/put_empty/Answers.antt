@@ -1,6 +1,6 @@
 use Rattle.std.proofs.Common.{◌≡◌, ◌++◌, subst}
 use Rattle.std.specs.Prelude.{codes}
-use Rattle.sva_listing.proofs.Lines.{both}
+use Rattle.sva_lines.proofs.Lines.{both}
 use Rattle.sva_standing.specs.Lines.{bracket}
 use Rattle.sva_standing.proofs.Chains.{joined}
 use Rattle.sva_lacking.proofs.hands.put_empty.Goals as goal

@@ -1,4 +1,4 @@
-use Rattle.sva_listing.proofs.Lines.{both}
+use Rattle.sva_lines.proofs.Lines.{both}
 use Rattle.sva_standing.proofs.Chains.{joined}
 use Rattle.sva_lacking.proofs.pasids.put_all_borne.Goals as goal
 

@@ -1,7 +1,7 @@
 use Rattle.std.proofs.Common.{◌≡◌, ◌++◌, subst}
 use Rattle.std.specs.Prelude.{codes}
-use Rattle.sva_listing.specs.Pieces.{field}
-use Rattle.sva_listing.proofs.Lines.{both}
+use Rattle.sva_lines.specs.Pieces.{field}
+use Rattle.sva_lines.proofs.Lines.{both}
 use Rattle.sva_standing.proofs.Chains.{joined}
 use Rattle.sva_lacking.proofs.pasids.put_bearer.Goals as goal
 

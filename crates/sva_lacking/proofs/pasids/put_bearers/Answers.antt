@@ -1,6 +1,6 @@
 use Rattle.std.proofs.Common.{get_or}
 use Rattle.sva_lacking.specs.Pasids.{bearer_line}
-use Rattle.sva_listing.proofs.Lines.{said_more}
+use Rattle.sva_lines.proofs.Lines.{said_more}
 use Rattle.sva_snapshot.specs.declared.bindings.Binding.{Binding}
 use Rattle.sva_snapshot.specs.declared.bindings.Stage.TheVariants.{Live}
 use Rattle.sva_snapshot.specs.Shown.{binding_shown}

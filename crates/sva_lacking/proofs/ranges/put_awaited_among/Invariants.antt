@@ -1,6 +1,6 @@
 use Rattle.std.proofs.Common.{◌≡◌, ◌++◌, drop, map}
 use Rattle.sva_lacking.specs.Ranges.{awaited_at}
-use Rattle.sva_listing.specs.Pieces.{rows}
+use Rattle.sva_lines.specs.Pieces.{rows}
 use Rattle.sva_snapshot.specs.Shown.{endpoint_shown}
 use Rattle.sva_lacking.proofs.ranges.put_awaited_among.Given as goal
 

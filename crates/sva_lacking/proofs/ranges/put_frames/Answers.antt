@@ -1,7 +1,7 @@
 use Rattle.std.proofs.Common.{◌≡◌, ◌++◌, subst}
 use Rattle.std.specs.Prelude.{OnOk}
 use Rattle.sva_lacking.specs.Ranges.{frame_if}
-use Rattle.sva_listing.specs.Pieces.{rows}
+use Rattle.sva_lines.specs.Pieces.{rows}
 use Rattle.sva_standing.proofs.Frames.{all_seen}
 use Rattle.sva_lacking.proofs.ranges.put_frames.Goals as goal
 

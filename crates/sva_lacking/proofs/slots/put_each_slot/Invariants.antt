@@ -1,6 +1,6 @@
 use Rattle.std.proofs.Common.{◌≡◌, ◌++◌, drop, map}
 use Rattle.sva_lacking.specs.Slots.{slot_if}
-use Rattle.sva_listing.specs.Pieces.{rows}
+use Rattle.sva_lines.specs.Pieces.{rows}
 use Rattle.sva_parts_by_labels.specs.Device.{slot_seen}
 use Rattle.sva_lacking.proofs.slots.put_each_slot.Given as goal
 

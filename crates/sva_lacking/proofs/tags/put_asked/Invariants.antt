@@ -1,6 +1,6 @@
 use Rattle.std.proofs.Common.{◌≡◌, ◌++◌, drop, map}
 use Rattle.sva_lacking.specs.Tags.{asked_if}
-use Rattle.sva_listing.specs.Pieces.{rows}
+use Rattle.sva_lines.specs.Pieces.{rows}
 use Rattle.sva_parts_by_labels.specs.Device.{tag_seen}
 use Rattle.sva_snapshot.specs.Shown.{endpoint_shown}
 use Rattle.sva_lacking.proofs.tags.put_asked.Given as goal

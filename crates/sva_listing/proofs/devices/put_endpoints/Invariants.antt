@@ -1,6 +1,6 @@
 use Rattle.std.proofs.Common.{◌≡◌, ◌++◌, drop, map}
 use Rattle.sva_listing.specs.Devices.{endpoint_lines}
-use Rattle.sva_listing.specs.Pieces.{rows}
+use Rattle.sva_lines.specs.Pieces.{rows}
 use Rattle.sva_snapshot.specs.Shown.{endpoint_shown}
 use Rattle.sva_listing.proofs.devices.put_endpoints.Given as goal
 

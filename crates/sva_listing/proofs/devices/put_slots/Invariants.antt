@@ -1,6 +1,6 @@
 use Rattle.std.proofs.Common.{◌≡◌, ◌++◌, drop, false}
 use Rattle.sva_listing.specs.Devices.{slot_texts}
-use Rattle.sva_listing.specs.Pieces.{listed}
+use Rattle.sva_lines.specs.Pieces.{listed}
 use Rattle.sva_listing.proofs.devices.put_slots.Given as goal
 
 -- what was said and what is left make the whole

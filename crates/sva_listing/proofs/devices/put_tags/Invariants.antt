@@ -1,6 +1,6 @@
 use Rattle.std.proofs.Common.{◌≡◌, ◌++◌, drop, map}
 use Rattle.sva_listing.specs.Devices.{tag_lines}
-use Rattle.sva_listing.specs.Pieces.{rows}
+use Rattle.sva_lines.specs.Pieces.{rows}
 use Rattle.sva_parts_by_labels.specs.Device.{tag_seen}
 use Rattle.sva_listing.proofs.devices.put_tags.Given as goal
 

@@ -1,6 +1,6 @@
 use Rattle.std.proofs.Common.{◌≡◌, ◌++◌, drop, map}
 use Rattle.sva_listing.specs.Devices.{use_lines}
-use Rattle.sva_listing.specs.Pieces.{rows}
+use Rattle.sva_lines.specs.Pieces.{rows}
 use Rattle.sva_parts_by_labels.specs.Device.{slot_seen}
 use Rattle.sva_listing.proofs.devices.put_uses.Given as goal
 

@@ -2,7 +2,7 @@ use Rattle.std.proofs.Common.{◌≡◌, ◌++◌, drop, map}
 use Rattle.sva_address_spaces.specs.Seen.{places_seen}
 use Rattle.sva_frames.specs.Reading.{holding_of}
 use Rattle.sva_listing.specs.Memory.{frame_lines}
-use Rattle.sva_listing.specs.Pieces.{rows}
+use Rattle.sva_lines.specs.Pieces.{rows}
 use Rattle.sva_listing.proofs.memory.put_frames.Given as goal
 
 -- what was said and what is left make the whole

@@ -1,7 +1,7 @@
 use Rattle.std.proofs.Common.{◌≡◌, ◌++◌, drop, false}
 use Rattle.sva_address_spaces.specs.Seen.{targets_seen}
 use Rattle.sva_listing.specs.Memory.{target_texts}
-use Rattle.sva_listing.specs.Pieces.{listed}
+use Rattle.sva_lines.specs.Pieces.{listed}
 use Rattle.sva_listing.proofs.memory.put_targets.Given as goal
 
 -- what was said and what is left make the whole

@@ -1,6 +1,6 @@
 use Rattle.std.proofs.Common.{◌≡◌, ◌++◌, drop, map, option_map}
 use Rattle.sva_iommu.specs.Seen.{busy_seen}
-use Rattle.sva_listing.specs.Pieces.{rows}
+use Rattle.sva_lines.specs.Pieces.{rows}
 use Rattle.sva_listing.specs.Units.{busy_lines}
 use Rattle.sva_listing.proofs.units.put_busy_itags.Given as goal
 

@@ -1,5 +1,5 @@
 use Rattle.std.proofs.Common.{◌≡◌, ◌++◌, drop, map, option_map}
-use Rattle.sva_listing.specs.Pieces.{rows}
+use Rattle.sva_lines.specs.Pieces.{rows}
 use Rattle.sva_listing.specs.Units.{hand_lines}
 use Rattle.sva_snapshot.specs.Shown.{job_shown}
 use Rattle.sva_listing.proofs.units.put_hands.Given as goal

@@ -1,6 +1,6 @@
 use Rattle.sva_snapshot.specs.Shown.{job_shown}
 use Rattle.sva_listing.specs.Units.{job_line}
-use Rattle.sva_listing.proofs.Lines.{said_more}
+use Rattle.sva_lines.proofs.Lines.{said_more}
 use Rattle.sva_listing.proofs.units.put_jobs.Goals as goal
 
 pub loop-job-preserved : goal.loop-job-preserved

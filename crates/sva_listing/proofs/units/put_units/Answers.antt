@@ -1,6 +1,6 @@
 use Rattle.sva_snapshot.specs.Shown.{endpoint_shown}
 use Rattle.sva_listing.specs.Units.{unit_lines}
-use Rattle.sva_listing.proofs.Lines.{rows_more}
+use Rattle.sva_lines.proofs.Lines.{rows_more}
 use Rattle.sva_listing.proofs.units.put_units.Goals as goal
 
 pub loop-number-preserved : goal.loop-number-preserved

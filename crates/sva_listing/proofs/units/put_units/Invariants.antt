@@ -1,5 +1,5 @@
 use Rattle.std.proofs.Common.{◌≡◌, ◌++◌, drop, map}
-use Rattle.sva_listing.specs.Pieces.{rows}
+use Rattle.sva_lines.specs.Pieces.{rows}
 use Rattle.sva_listing.specs.Units.{unit_lines}
 use Rattle.sva_snapshot.specs.Shown.{endpoint_shown}
 use Rattle.sva_listing.proofs.units.put_units.Given as goal

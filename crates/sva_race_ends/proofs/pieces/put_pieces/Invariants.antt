@@ -1,5 +1,5 @@
 use Rattle.std.proofs.Common.{◌≡◌, ◌++◌, drop}
-use Rattle.sva_listing.specs.Pieces.{rows}
+use Rattle.sva_lines.specs.Pieces.{rows}
 use Rattle.sva_race_ends.specs.Ends.{piece}
 use Rattle.sva_race_ends.proofs.pieces.put_pieces.Given as goal
 

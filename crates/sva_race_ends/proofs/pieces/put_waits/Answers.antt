@@ -1,5 +1,5 @@
 use Rattle.std.proofs.Common.{◌≡◌, [], ◌++◌, codes, decimal, if◌then◌else◌, OnOk, rules, subst, sym, true}
-use Rattle.sva_listing.proofs.Lines.{both}
+use Rattle.sva_lines.proofs.Lines.{both}
 use Rattle.sva_race_ends.proofs.Rows.{if_well, joined}
 use Rattle.sva_race_ends.proofs.pieces.put_waits.Goals as goal
 

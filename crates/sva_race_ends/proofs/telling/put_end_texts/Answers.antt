@@ -1,5 +1,5 @@
 use Rattle.std.proofs.Common.{◌≡◌, ◌++◌, OnOk, subst}
-use Rattle.sva_listing.proofs.Lines.{both}
+use Rattle.sva_lines.proofs.Lines.{both}
 use Rattle.sva_race_ends.specs.Kinds.{Kinds, kinds_text, left_out_if}
 use Rattle.sva_race_ends.proofs.telling.put_end_texts.Goals as goal
 

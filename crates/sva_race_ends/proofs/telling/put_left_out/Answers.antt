@@ -1,5 +1,5 @@
 use Rattle.std.proofs.Common.{[], ◌∷◌, ◌++◌, codes, decimal}
-use Rattle.sva_listing.proofs.Lines.{both}
+use Rattle.sva_lines.proofs.Lines.{both}
 use Rattle.sva_race_ends.proofs.Rows.{if_well}
 use Rattle.sva_race_ends.proofs.telling.put_left_out.Goals as goal
 

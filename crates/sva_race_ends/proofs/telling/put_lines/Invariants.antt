@@ -1,5 +1,5 @@
 use Rattle.std.proofs.Common.{◌≡◌, ◌++◌, drop}
-use Rattle.sva_listing.specs.Pieces.{rows}
+use Rattle.sva_lines.specs.Pieces.{rows}
 use Rattle.sva_race_ends.specs.Kinds.{kind_line_if}
 use Rattle.sva_race_ends.proofs.telling.put_lines.Given as goal
 

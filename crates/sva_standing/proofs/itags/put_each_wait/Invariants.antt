@@ -1,5 +1,5 @@
 use Rattle.std.proofs.Common.{◌≡◌, ◌++◌, drop}
-use Rattle.sva_listing.specs.Pieces.{rows}
+use Rattle.sva_lines.specs.Pieces.{rows}
 use Rattle.sva_snapshot.specs.Shown.{endpoint_shown}
 use Rattle.sva_standing.specs.Units.{waits_if}
 use Rattle.sva_standing.proofs.itags.put_each_wait.Given as goal

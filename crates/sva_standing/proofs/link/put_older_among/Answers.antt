@@ -1,4 +1,4 @@
-use Rattle.sva_listing.proofs.Lines.{said_more}
+use Rattle.sva_lines.proofs.Lines.{said_more}
 use Rattle.sva_snapshot.specs.Shown.{flight_shown}
 use Rattle.sva_standing.specs.Link.{older_if}
 use Rattle.sva_standing.proofs.link.put_older_among.Goals as goal

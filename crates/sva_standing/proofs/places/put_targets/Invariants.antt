@@ -1,5 +1,5 @@
 use Rattle.std.proofs.Common.{◌≡◌, ◌++◌, drop, map, option_map}
-use Rattle.sva_listing.specs.Pieces.{rows}
+use Rattle.sva_lines.specs.Pieces.{rows}
 use Rattle.sva_address_spaces.specs.Seen.{target_seen}
 use Rattle.sva_standing.specs.Units.{target_lines}
 use Rattle.sva_standing.proofs.places.put_targets.Given as goal

@@ -1,5 +1,5 @@
 use Rattle.std.proofs.Common.{◌≡◌, ◌++◌, drop, map}
-use Rattle.sva_listing.specs.Pieces.{rows}
+use Rattle.sva_lines.specs.Pieces.{rows}
 use Rattle.sva_parts_by_labels.specs.Device.{slot_seen}
 use Rattle.sva_standing.specs.Tables.{use_if}
 use Rattle.sva_standing.proofs.tables.put_uses.Given as goal

@@ -1,4 +1,4 @@
-use Rattle.sva_listing.proofs.Lines.{both}
+use Rattle.sva_lines.proofs.Lines.{both}
 use Rattle.std.proofs.Common.{◌≡◌, ◌++◌, subst}
 use Rattle.std.specs.Prelude.{OnOk}
 use Rattle.sva_snapshot.specs.Shown.{endpoint_shown}

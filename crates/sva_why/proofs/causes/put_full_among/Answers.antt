@@ -1,5 +1,5 @@
 use Rattle.sva_snapshot.specs.Shown.{endpoint_shown}
-use Rattle.sva_listing.proofs.Lines.{rows_more}
+use Rattle.sva_lines.proofs.Lines.{rows_more}
 use Rattle.sva_why.specs.Causes.{full_if}
 use Rattle.sva_why.proofs.causes.put_full_among.Goals as goal
 

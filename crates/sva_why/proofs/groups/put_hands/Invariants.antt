@@ -1,5 +1,5 @@
 use Rattle.std.proofs.Common.{◌≡◌, ◌++◌, drop, map, option_map}
-use Rattle.sva_listing.specs.Pieces.{rows}
+use Rattle.sva_lines.specs.Pieces.{rows}
 use Rattle.sva_snapshot.specs.Shown.{host_group_shown, job_shown}
 use Rattle.sva_why.specs.Groups.{hand_if}
 use Rattle.sva_why.proofs.groups.put_hands.Given as goal

@@ -1,4 +1,4 @@
-use Rattle.sva_listing.proofs.Lines.{said_more}
+use Rattle.sva_lines.proofs.Lines.{said_more}
 use Rattle.sva_snapshot.specs.Shown.{endpoint_shown, host_group_shown}
 use Rattle.sva_why.specs.Groups.{open_if}
 use Rattle.sva_why.proofs.groups.put_open_among.Goals as goal

@@ -1,5 +1,5 @@
 use Rattle.std.proofs.Common.{◌≡◌, ◌++◌, drop, map, option_map}
-use Rattle.sva_listing.specs.Pieces.{rows}
+use Rattle.sva_lines.specs.Pieces.{rows}
 use Rattle.sva_snapshot.specs.Shown.{job_shown}
 use Rattle.sva_why.specs.Groups.{take_if}
 use Rattle.sva_why.proofs.groups.put_takes.Given as goal

@@ -1,5 +1,5 @@
 use Rattle.std.proofs.Common.{◌≡◌, ◌++◌, drop, map, option_map}
-use Rattle.sva_listing.specs.Pieces.{rows}
+use Rattle.sva_lines.specs.Pieces.{rows}
 use Rattle.sva_parts_by_labels.specs.Device.{taken_seen}
 use Rattle.sva_why.specs.Vectors.{in_use_if}
 use Rattle.sva_snapshot.specs.Shown.{endpoint_shown}

@@ -1,5 +1,5 @@
-use Rattle.sva_listing.proofs.Lines.{both}
-use Rattle.sva_listing.proofs.messages.put_translation_request.Goals as goal
+use Rattle.sva_lines.proofs.Lines.{both}
+use Rattle.sva_lines.proofs.kinds.put_translation_request.Goals as goal
 
 pub returns : goal.returns
 returns c = both c.put_field.result c.args.out.now.items c.put_two.new.out.items c.put_field.new.out.items _ _ c.in_ok-put_two.ensures c.put_field.ensures

@@ -1,8 +1,8 @@
 //! The pieces of a line, appended one after another.
 
 ghost use Rattle.std.specs.Prelude.{◌≡◌, ◌++◌, ◌-◌, OnOk, false, map, replicate};
-ghost use Rattle.sva_listing.specs.Pieces.{ask_text, asks_text, extent_text, field, flags_text, head};
-ghost use Rattle.sva_listing.specs.Pieces.{line_end, listed, padded, range_text, request_text, word_if};
+ghost use Rattle.sva_lines.specs.Pieces.{ask_text, asks_text, extent_text, field, flags_text, head};
+ghost use Rattle.sva_lines.specs.Pieces.{line_end, listed, padded, range_text, request_text, word_if};
 ghost use Rattle.sva_msg.specs.Seen.{extent_seen};
 ghost use Rattle.sva_prq.specs.Job.{ask_seen};
 
@@ -23,7 +23,7 @@ pub fn put_field(out: &mut Vec<u8>, word: &str, number: u64) -> Result<(), Alloc
 }
 
 /// Fills a head column up, of which so many bytes are written.
-pub(crate) fn pad(out: &mut Vec<u8>, written: usize) -> Result<(), AllocError>
+fn pad(out: &mut Vec<u8>, written: usize) -> Result<(), AllocError>
     ensures { OnOk result (out.new.items ≡ out.old.items ++ replicate (11 - written) 32) }
 {
     let missing = HEAD.saturating_sub(written);
@@ -31,7 +31,7 @@ pub(crate) fn pad(out: &mut Vec<u8>, written: usize) -> Result<(), AllocError>
 }
 
 /// Appends a head column.
-pub(crate) fn put_head(out: &mut Vec<u8>, word: &str, number: u64) -> Result<(), AllocError>
+pub fn put_head(out: &mut Vec<u8>, word: &str, number: u64) -> Result<(), AllocError>
     ensures { OnOk result (out.new.items ≡ out.old.items ++ head word.now number) }
 {
     let start = out.len();
@@ -64,7 +64,7 @@ pub fn end_line(out: &mut Vec<u8>) -> Result<(), AllocError>
 }
 
 /// Appends whether something may be read, and written.
-pub(crate) fn put_flags(out: &mut Vec<u8>, read: bool, write: bool) -> Result<(), AllocError>
+pub fn put_flags(out: &mut Vec<u8>, read: bool, write: bool) -> Result<(), AllocError>
     ensures { OnOk result (out.new.items ≡ out.old.items ++ flags_text read write) }
 {
     put_word(
@@ -79,7 +79,7 @@ pub(crate) fn put_flags(out: &mut Vec<u8>, read: bool, write: bool) -> Result<()
 }
 
 /// Appends a head column that has no number.
-pub(crate) fn put_plain_head(out: &mut Vec<u8>, word: &str) -> Result<(), AllocError>
+pub fn put_plain_head(out: &mut Vec<u8>, word: &str) -> Result<(), AllocError>
     ensures { OnOk result (out.new.items ≡ out.old.items ++ padded word.now) }
 {
     put_word(out, word)?;
@@ -87,7 +87,7 @@ pub(crate) fn put_plain_head(out: &mut Vec<u8>, word: &str) -> Result<(), AllocE
 }
 
 /// Appends the pages of a range.
-pub(crate) fn put_range(out: &mut Vec<u8>, range: Range) -> Result<(), AllocError>
+pub fn put_range(out: &mut Vec<u8>, range: Range) -> Result<(), AllocError>
     ensures { OnOk result (out.new.items ≡ out.old.items ++ range_text range) }
 {
     if range.order() == 0 {
@@ -116,7 +116,7 @@ fn put_ask(out: &mut Vec<u8>, ask: &Ask) -> Result<(), AllocError>
 }
 
 /// Appends what the page requests of a group ask for.
-pub(crate) fn put_asks(out: &mut Vec<u8>, asks: &[Ask]) -> Result<(), AllocError>
+pub fn put_asks(out: &mut Vec<u8>, asks: &[Ask]) -> Result<(), AllocError>
     ensures { OnOk result (out.new.items ≡ out.old.items ++ asks_text (map ask_seen asks.now)) }
 {
     put_word(out, ":")?;
@@ -137,7 +137,7 @@ fn put_each_ask(out: &mut Vec<u8>, asks: &[Ask]) -> Result<(), AllocError>
 }
 
 /// Appends a page request.
-pub(crate) fn put_request(out: &mut Vec<u8>, request: &PageRequest) -> Result<(), AllocError>
+pub fn put_request(out: &mut Vec<u8>, request: &PageRequest) -> Result<(), AllocError>
     ensures { OnOk result (out.new.items ≡ out.old.items
         ++ request_text request.now.pasid request.now.index request.now.page request.now.read request.now.write
         request.now.last) }

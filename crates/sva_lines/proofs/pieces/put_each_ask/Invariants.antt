@@ -1,7 +1,7 @@
 use Rattle.std.proofs.Common.{◌≡◌, ◌++◌, drop, false, map}
-use Rattle.sva_listing.specs.Pieces.{ask_text, listed}
+use Rattle.sva_lines.specs.Pieces.{ask_text, listed}
 use Rattle.sva_prq.specs.Job.{ask_seen}
-use Rattle.sva_listing.proofs.pieces.put_each_ask.Given as goal
+use Rattle.sva_lines.proofs.pieces.put_each_ask.Given as goal
 
 -- what was said and what is left make the whole
 abbrev pub invariant-loop-ask : goal.invariant-loop-ask

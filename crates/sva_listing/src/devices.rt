@@ -10,8 +10,8 @@ ghost use Rattle.sva_lines.specs.Pieces.{listed, rows};
 ghost use Rattle.sva_parts_by_labels.specs.Device.{group_seen, pasid_seen, slot_seen, tag_seen, taken_seen};
 ghost use Rattle.sva_snapshot.specs.Shown.{cached_shown, device_shown, endpoint_shown};
 
-use sva_lines::{end_line, put_extent, put_field, put_head, put_if, put_word};
 use std::alloc::AllocError;
+use sva_lines::{end_line, put_extent, put_field, put_head, put_if, put_word};
 use sva_snapshot::{Cached, Device, Endpoint, GroupPlace, PasidState, RequestTag, Taken, UseSlot};
 
 /// Appends the line of a PASID that isn't off.

@@ -10,8 +10,8 @@ ghost use Rattle.sva_listing.specs.Memory.{target_text, target_texts};
 ghost use Rattle.sva_lines.specs.Pieces.{listed, rows};
 ghost use Rattle.sva_snapshot.specs.Shown.{binding_shown, space_shown};
 
-use sva_lines::{end_line, put_field, put_head, put_if, put_plain_head, put_word};
 use std::alloc::AllocError;
+use sva_lines::{end_line, put_field, put_head, put_if, put_plain_head, put_word};
 use sva_snapshot::{Binding, Held, Mapping, Space, Stage, Target};
 
 /// Appends the line of a mapped page.

@@ -9,11 +9,11 @@ ghost use Rattle.sva_listing.specs.Units.{unit_line, unit_lines};
 ghost use Rattle.sva_msg.specs.Seen.{page_request_seen};
 ghost use Rattle.sva_snapshot.specs.Shown.{endpoint_shown, host_group_shown, job_shown, unit_shown};
 
+use std::alloc::AllocError;
 use sva_lines::{
     end_line, put_asks, put_field, put_head, put_if, put_plain_head, put_range, put_request,
     put_word,
 };
-use std::alloc::AllocError;
 use sva_snapshot::{Busy, Descriptor, Endpoint, HostGroup, Job, PageRequest, Unit};
 
 /// Appends the line of a unit itself.

@@ -7,8 +7,8 @@ use Rattle.sva_step.specs.declared.steps.Step.TheVariants as step
 use Rattle.sva_model.specs.Wire.{JobWire, PageWire, PlaceWire, SpaceWire, Wire}
 use Rattle.sva_labels.specs.Finding.{held_by, pages_in}
 use Rattle.sva_labels.specs.Replying.{newly_mapped, space_of_job}
-use Rattle.sva_lines.specs.Words.{is_free, is_withheld}
 use Rattle.sva_lines.specs.Pieces.{field, line_end, rows}
+use Rattle.sva_lines.specs.Words.{is_free, is_withheld}
 use Rattle.sva_accepted.specs.Accepted.{is_accepted}
 use Rattle.sva_standing.specs.declared.levels.Level.TheVariants.{First}
 use Rattle.sva_standing.specs.Lines.{bracket_of_two, indent, start}

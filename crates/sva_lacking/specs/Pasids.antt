@@ -2,8 +2,8 @@
 use Rattle.std.specs.Prelude.{ℕ, List, ◌++◌, codes, flat_map}
 use Rattle.sva_step.specs.declared.steps.Step.TheVariants as step
 use Rattle.sva_model.specs.Wire.{BindingWire, Wire}
-use Rattle.sva_lines.specs.Words.{stage_text}
 use Rattle.sva_lines.specs.Pieces.{field, line_end}
+use Rattle.sva_lines.specs.Words.{stage_text}
 use Rattle.sva_accepted.specs.Accepted.{is_accepted}
 use Rattle.sva_standing.specs.declared.levels.Level.TheVariants.{First, Second}
 use Rattle.sva_standing.specs.Lines.{bracket, indent, start}

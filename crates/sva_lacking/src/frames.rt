@@ -10,8 +10,8 @@ ghost use Rattle.sva_lacking.specs.Frames.{each_space, frames_lines, free_if, fr
 ghost use Rattle.sva_lacking.specs.Frames.{most_pages_line, no_frame, number_where, numbers_line, of_job, pages_if, pages_line};
 ghost use Rattle.sva_lacking.specs.Frames.{space_full, space_if, to_map_line, unmap_text, withheld_by, withheld_if};
 ghost use Rattle.sva_lacking.specs.Frames.{withheld_line, withheld_lines};
-ghost use Rattle.sva_lines.specs.Words.{is_free, is_withheld};
 ghost use Rattle.sva_lines.specs.Pieces.{rows};
+ghost use Rattle.sva_lines.specs.Words.{is_free, is_withheld};
 ghost use Rattle.sva_snapshot.specs.Shown.{job_shown, space_shown};
 ghost use Rattle.sva_standing.specs.Units.{held_seen};
 

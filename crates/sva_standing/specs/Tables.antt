@@ -8,8 +8,8 @@ use Rattle.sva_model.specs.State.{GroupState, PasidState}
 use Rattle.sva_model.specs.State.PasidState.{Off, On, Ending}
 use Rattle.sva_model.specs.Wire.{BindingWire, DeviceWire, EndpointWire, GroupWire, RequestWire, UseWire, Wire}
 use Rattle.sva_labels.specs.Finding.{has_unfinished_group, is_use_of, outstanding, pasid_state}
-use Rattle.sva_lines.specs.Words.{stage_text}
 use Rattle.sva_lines.specs.Pieces.{field, line_end, rows, word_if}
+use Rattle.sva_lines.specs.Words.{stage_text}
 use Rattle.sva_standing.specs.declared.levels.Level.{Level}
 use Rattle.sva_standing.specs.declared.levels.Level.TheVariants.{First, Second}
 use Rattle.sva_standing.specs.declared.link.Topic.TheVariants.{Asks, Responds, Start, Tag}

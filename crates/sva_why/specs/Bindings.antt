@@ -3,8 +3,8 @@ use Rattle.std.specs.Prelude.{ℕ, ◌==◌, Bool, true, false, if◌then◌else
 use Rattle.sva_step.specs.declared.steps.Step.TheVariants as step
 use Rattle.sva_model.specs.Wire.{BindingWire, EndpointWire, StageWire, Wire}
 use Rattle.sva_model.specs.Wire.StageWire.{LiveWire, StoppingWire, DrainingWire, InvalidatingWire, QuietWire, LostWire}
-use Rattle.sva_lines.specs.Words.{stage_text}
 use Rattle.sva_lines.specs.Pieces.{field, line_end}
+use Rattle.sva_lines.specs.Words.{stage_text}
 use Rattle.sva_standing.specs.declared.levels.Level.{Level}
 use Rattle.sva_standing.specs.declared.levels.Level.TheVariants.{First, Second}
 use Rattle.sva_standing.specs.declared.link.Topic.TheVariants.{Marker, Stop}

@@ -14,8 +14,8 @@ use Rattle.sva_model.specs.Wire.PlaceWire.{FreeWire, MappedWire, WithheldWire}
 use Rattle.sva_model.specs.Wire.UseWire.{RunningWire, DeadWire}
 use Rattle.sva_labels.specs.Finding.{held_by, outstanding, pages_in}
 use Rattle.sva_labels.specs.Replying.{space_of_job}
-use Rattle.sva_lines.specs.Words.{is_withheld}
 use Rattle.sva_lines.specs.Pieces.{field, line_end, rows}
+use Rattle.sva_lines.specs.Words.{is_withheld}
 use Rattle.sva_accepted.specs.Accepted.{is_accepted}
 use Rattle.sva_lacking.specs.Frames.{each_space, frames_lines, free_line, full_of_job, most_pages_line, of_job, pages_if, pages_line, space_if, to_map_line}
 use Rattle.sva_lacking.specs.Frames.{withheld_by, withheld_if, withheld_line, withheld_lines}

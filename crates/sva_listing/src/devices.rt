@@ -11,7 +11,7 @@ ghost use Rattle.sva_parts_by_labels.specs.Device.{group_seen, pasid_seen, slot_
 ghost use Rattle.sva_snapshot.specs.Shown.{cached_shown, device_shown, endpoint_shown};
 
 use std::alloc::AllocError;
-use sva_lines::{end_line, put_extent, put_field, put_head, put_if, put_word};
+use sva_lines::{end_line, put_extent, put_field, put_head, put_if, put_translation, put_word};
 use sva_snapshot::{Cached, Device, Endpoint, GroupPlace, PasidState, RequestTag, Taken, UseSlot};
 
 /// Appends the line of a PASID that isn't off.

@@ -11,7 +11,7 @@ ghost use Rattle.sva_lines.specs.Pieces.{listed, rows};
 ghost use Rattle.sva_snapshot.specs.Shown.{binding_shown, space_shown};
 
 use std::alloc::AllocError;
-use sva_lines::{end_line, put_field, put_head, put_if, put_plain_head, put_word};
+use sva_lines::{end_line, put_field, put_head, put_if, put_plain_head, put_stage, put_word};
 use sva_snapshot::{Binding, Held, Mapping, Space, Stage, Target};
 
 /// Appends the line of a mapped page.

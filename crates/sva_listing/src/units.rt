@@ -11,8 +11,8 @@ ghost use Rattle.sva_snapshot.specs.Shown.{endpoint_shown, host_group_shown, job
 
 use std::alloc::AllocError;
 use sva_lines::{
-    end_line, put_asks, put_field, put_head, put_if, put_plain_head, put_range, put_request,
-    put_word,
+    end_line, put_asks, put_busy, put_field, put_head, put_if, put_plain_head, put_range,
+    put_request, put_word,
 };
 use sva_snapshot::{Busy, Descriptor, Endpoint, HostGroup, Job, PageRequest, Unit};
 

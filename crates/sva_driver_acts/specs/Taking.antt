@@ -14,11 +14,6 @@ abbrev pub Gives : {A B : Type 0} → (seen : B → A) → Result A DriverWrong 
 Gives seen read (Ok found) = read ≡ Ok (seen found)
 Gives seen read (Err why) = Fails read why
 
--- they are right, or this is wrong with them
-abbrev pub Judges : Result (Unit {0}) DriverWrong → Result (Unit {0}) DriverStop → Type 0
-Judges read (Ok done) = read ≡ Ok tt
-Judges read (Err why) = Fails read why
-
 -- a list with what was read at its end
 abbrev pub appended : {A : Type 0} → List A → Result A DriverWrong → Result (List A) DriverWrong
 appended list (Ok value) = Ok (list ++ value ∷ [])

@@ -14,24 +14,24 @@ use Rattle.sva_open.specs.declared.works.Work.{Work}
 use Rattle.sva_open.specs.declared.works.Work.TheVariants.{Use, Taken}
 use Rattle.sva_open.specs.declared.settings.Stopped.{Stopped}
 use Rattle.sva_open.specs.declared.settings.Stopped.TheVariants.{Marker, Status, Known}
-use Rattle.sva_open.specs.World.{Part, covers, if_so, is_of, is_on, is_stopping, lowest_free, put, sent, with_row, with_translation, without_covered}
+use Rattle.sva_open.specs.World.{Part, covers, if_so, is_of, is_stopping, is_used, lowest_free, put, sent, with_row, with_translation, without_covered}
 
 -- ---- to ask, to use, to let go
 
--- a translation request goes out under the lowest free tag, for whom the PASID was started
+-- a translation request goes out under the lowest free tag, for the owner whose start or stop of the PASID came last
 abbrev pub ask : Part → (pasid page : ℕ) → Option Row → Option Part
 ask part pasid page None = None
 ask part pasid page (Some row) =
-    if_so (is_on row.state)
+    if_so (is_used row.state)
     (sent
     (record part { requests = put part.requests (record { pasid = pasid; page = page; owner = row.user; is_doomed = false }) })
     row.user part.time (message.Request (lowest_free part.requests) pasid page))
 
--- a use needs a PASID that is on, and a held translation of the page
+-- a use needs a PASID that is used, and a held translation of the page
 abbrev pub begin_use : Part → Option Row → Option Translation → Option Part
 begin_use part None held = None
 begin_use part (Some row) None = None
-begin_use part (Some row) (Some translation) = if_so (is_on row.state) (record part { works = part.works ++ Use translation ∷ [] })
+begin_use part (Some row) (Some translation) = if_so (is_used row.state) (record part { works = part.works ++ Use translation ∷ [] })
 
 abbrev pub use_of : Part → (pasid page : ℕ) → Option Part
 use_of part pasid page = begin_use part (slice_get part.rows pasid) (find (is_of pasid page) part.held)
@@ -52,13 +52,13 @@ evict part (Some place) = Some (record part { held = remove part.held place })
 abbrev pub fault : Part → (pasid page : ℕ) → (write last : Bool) → Option Row → Option Part
 fault part pasid page write last None = None
 fault part pasid page write last (Some row) =
-    if_so (is_on row.state && part.is_enabled)
+    if_so (is_used row.state && part.is_enabled)
     (sent
     (record part { groups = put part.groups (record { pasid = pasid; owner = row.user; is_finished = last }) })
     row.user part.time
     (message.PageRequest (record { pasid = pasid; index = lowest_free part.groups; page = page; write = write; last = last })))
 
--- a group that isn't finished goes on, while its PASID stops too
+-- a group that isn't finished goes on
 abbrev pub more : Part → (index page : ℕ) → (write last : Bool) → Option (Option Group) → Option Part
 more part index page write last None = None
 more part index page write last (Some None) = None

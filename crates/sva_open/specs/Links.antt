@@ -2,14 +2,14 @@
 use Rattle.std.specs.Prelude.{ℕ, if◌then◌else◌, Bool, List, [], ◌∷◌, ◌++◌, remove, slice_get, Option, Some, None}
 use Rattle.sva_open.specs.declared.frames.Mapping.{Mapping}
 use Rattle.sva_open.specs.declared.rows.State.{State}
-use Rattle.sva_open.specs.declared.rows.State.TheVariants.{On, Stopping}
+use Rattle.sva_open.specs.declared.rows.State.TheVariants.{On}
 use Rattle.sva_open.specs.declared.rows.Row.{Row}
 use Rattle.sva_open.specs.declared.messages.Message.{Message}
 use Rattle.sva_open.specs.declared.messages.Message.TheVariants as message
 use Rattle.sva_open.specs.declared.messages.PageRequest.{PageRequest}
 use Rattle.sva_open.specs.declared.messages.Sent.{Sent}
 use Rattle.sva_open.specs.declared.settings.Settings.{Settings}
-use Rattle.sva_open.specs.World.{Part, if_so, with_row}
+use Rattle.sva_open.specs.World.{Part, if_so, stopped_by, with_row}
 use Rattle.sva_open.specs.Order.{may_deliver}
 use Rattle.sva_open.specs.Devices.{complete, end_group, invalidate, reset_taken}
 use Rattle.sva_open.specs.Units.{answer, answered_stop, complete_itag}
@@ -18,6 +18,11 @@ use Rattle.sva_open.specs.Units.{answer, answered_stop, complete_itag}
 abbrev pub told : Part → (pasid : ℕ) → State → (owner : ℕ) → Option Row → Part
 told part pasid state owner None = part
 told part pasid state owner (Some row) = with_row part pasid (record row { state = state; user = owner })
+
+-- it is told to stop one
+abbrev pub told_to_stop : Part → (pasid owner : ℕ) → Option Row → Part
+told_to_stop part pasid owner None = part
+told_to_stop part pasid owner (Some row) = told part pasid (stopped_by row.state) owner (Some row)
 
 abbrev pub arrive : Part → Sent → PageRequest → Part
 arrive part one request = record part { arrived = part.arrived ++ (record { request = request; owner = one.owner; time = one.time }) ∷ [] }
@@ -29,7 +34,7 @@ if_open part after = if part.is_open then after else part
 -- what a message comes to, of a part in whose flight it isn't any more
 abbrev pub received : Settings → List Mapping → Part → Sent → Message → Part
 received settings mappings part one (message.Start pasid) = told part pasid On one.owner (slice_get part.rows pasid)
-received settings mappings part one (message.Stop pasid) = told part pasid Stopping one.owner (slice_get part.rows pasid)
+received settings mappings part one (message.Stop pasid) = told_to_stop part pasid one.owner (slice_get part.rows pasid)
 received settings mappings part one message.Reset = reset_taken part
 received settings mappings part one (message.Completion tag target) = complete part tag target (slice_get part.requests tag)
 received settings mappings part one (message.Invalidate itag scope) = invalidate part itag scope

@@ -9,7 +9,7 @@ use Rattle.sva_open.specs.declared.frames.Translation.{Translation}
 use Rattle.sva_open.specs.declared.scopes.Scope.{Scope}
 use Rattle.sva_open.specs.declared.scopes.Scope.TheVariants as scope
 use Rattle.sva_open.specs.declared.rows.State.{State}
-use Rattle.sva_open.specs.declared.rows.State.TheVariants.{Off, On, Stopping}
+use Rattle.sva_open.specs.declared.rows.State.TheVariants.{Off, On, Stopping, Answering}
 use Rattle.sva_open.specs.declared.rows.Row.{Row}
 use Rattle.sva_open.specs.declared.rows.KeptEntry.{KeptEntry}
 use Rattle.sva_open.specs.declared.messages.Message.{Message}
@@ -109,16 +109,29 @@ abbrev pub is_off : State → Bool
 is_off Off = true
 is_off On = false
 is_off Stopping = false
+is_off Answering = false
 
-abbrev pub is_on : State → Bool
-is_on Off = false
-is_on On = true
-is_on Stopping = false
+-- may more begin under it? A function that is asked to stop may go on queuing requests until the stop is complete (PCI Express Base 5.0,
+-- section 6.20)
+abbrev pub is_used : State → Bool
+is_used Off = false
+is_used On = true
+is_used Stopping = true
+is_used Answering = false
 
+-- has the endpoint to say that it has stopped?
 abbrev pub is_stopping : State → Bool
 is_stopping Off = false
 is_stopping On = false
 is_stopping Stopping = true
+is_stopping Answering = true
+
+-- what it is once its stop has come: under one that is off nothing begins, and the endpoint has only to say so
+abbrev pub stopped_by : State → State
+stopped_by Off = Answering
+stopped_by On = Stopping
+stopped_by Stopping = Stopping
+stopped_by Answering = Answering
 
 -- ---- labels: the lowest free place, or one more behind all
 

@@ -9,24 +9,39 @@ pub enum State {
     Off,
     /// Its start has come.
     On,
-    /// Its stop has come: nothing new begins, and what began goes on.
+    /// Its stop has come while it was on. Until the endpoint says that it has stopped, more may begin: a function that is
+    /// asked to stop goes on queuing requests until the stop is complete (PCI Express Base 5.0, section 6.20).
     Stopping,
+    /// Its stop has come while it was off. Nothing begins, and the endpoint has only to say so.
+    Answering,
 }
 
 impl State {
     ghost use Rattle.std.specs.Prelude.{◌≡◌};
-    ghost use Rattle.sva_open.specs.World.{is_off, is_on, is_stopping};
+    ghost use Rattle.sva_open.specs.World.{is_off, is_stopping, is_used, stopped_by};
 
-    pub fn is_on(&self) -> bool
-        ensures { result ≡ is_on self.now }
+    /// Whether more may begin under it.
+    pub fn is_used(&self) -> bool
+        ensures { result ≡ is_used self.now }
     {
-        matches!(self, State::On)
+        matches!(self, State::On | State::Stopping)
     }
 
+    /// Whether the endpoint has to say that it has stopped.
     pub fn is_stopping(&self) -> bool
         ensures { result ≡ is_stopping self.now }
     {
-        matches!(self, State::Stopping)
+        matches!(self, State::Stopping | State::Answering)
+    }
+
+    /// What it is once its stop has come.
+    pub fn stopped(self) -> State
+        ensures { result ≡ stopped_by self }
+    {
+        match self {
+            State::Off | State::Answering => State::Answering,
+            State::On | State::Stopping => State::Stopping,
+        }
     }
 
     pub fn is_off(&self) -> bool

@@ -17,7 +17,7 @@ pub(crate) fn ask(part: &mut Part, pasid: usize, page: u64) -> Result<bool, Allo
     let Some(row) = part.row(pasid) else {
         return Ok(false);
     };
-    if !row.state.is_on() {
+    if !row.state.is_used() {
         return Ok(false);
     }
     let time = part.time;
@@ -43,7 +43,7 @@ pub(crate) fn begin_use(part: &mut Part, pasid: usize, page: u64) -> Result<bool
     let Some(translation) = find_translation(part.held.as_slice(), pasid, page) else {
         return Ok(false);
     };
-    if !row.state.is_on() {
+    if !row.state.is_used() {
         return Ok(false);
     }
     part.works.push(Work::Use(translation))?;
@@ -86,7 +86,7 @@ pub(crate) fn fault(
     let Some(row) = part.row(pasid) else {
         return Ok(false);
     };
-    if !(row.state.is_on() && part.is_enabled) {
+    if !(row.state.is_used() && part.is_enabled) {
         return Ok(false);
     }
     let time = part.time;

@@ -51,7 +51,7 @@ fn receive(
             Ok(())
         }
         Message::Stop { pasid } => {
-            tell(part, pasid, State::Stopping, one.owner);
+            tell_to_stop(part, pasid, one.owner);
             Ok(())
         }
         Message::Reset => take_reset(part),
@@ -103,6 +103,15 @@ fn tell(part: &mut Part, pasid: usize, state: State, owner: u64)
             ..row
         },
     );
+}
+
+fn tell_to_stop(part: &mut Part, pasid: usize, owner: u64)
+    ensures { part.new ≡ link.told_to_stop part.old pasid owner (slice_get part.old.rows pasid) }
+{
+    let Some(row) = part.row(pasid) else {
+        return;
+    };
+    tell(part, pasid, row.state.stopped(), owner);
 }
 
 fn answer_stop(part: &mut Part, pasid: usize, owner: u64)

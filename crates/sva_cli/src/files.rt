@@ -1,12 +1,24 @@
 //! The files that a command line names, and the search of several.
 
+use clap::error::ErrorKind;
 use std::alloc::{AllocError, Global};
 use std::fs::OpenFile;
 use std::rt::Files as FileSystem;
 use std::{fs, io};
-use sva_command::{Asked, Named, files_of, named_in, parse, part_of};
+use sva_command::{Asked, Awaited, Named, files_of, named_in, parse, part_of};
 use sva_reports::{DriveFault, Told, read_all};
 use sva_several::Search;
+
+/// Several files, and what is done with them.
+#[derive(Drop)]
+pub struct Several {
+    /// What is done with each.
+    pub search: Search,
+    /// Whether they are a part.
+    pub is_part: bool,
+    /// Their names.
+    pub names: Vec<String>,
+}
 
 /// What a command line says of files.
 #[derive(Drop)]
@@ -25,14 +37,7 @@ pub enum Files {
         file: String,
     },
     /// It names several, or asks for a part of them.
-    Several {
-        /// What is done with each.
-        search: Search,
-        /// Whether they are a part.
-        is_part: bool,
-        /// Their names.
-        names: Vec<String>,
-    },
+    Several(Several),
     /// What it says of a part can't be meant.
     Wrong {
         /// What is told of that.
@@ -87,11 +92,11 @@ fn part_in(
             )?,
         });
     }
-    Ok(Files::Several {
+    Ok(Files::Several(Several {
         search: search_of(asked),
         is_part: true,
         names: files_of(alloc, part, files)?,
-    })
+    }))
 }
 
 /// What the words say of files, where the others are this command.
@@ -100,8 +105,12 @@ fn of_files(alloc: Global, asked: Asked, named: Named) -> Result<Files, AllocErr
         own,
         mut files,
         part,
-        ..
+        awaited,
     } = named;
+    if matches!(awaited, Awaited::Part) {
+        // No word is behind the last `--part`.
+        return part_in(alloc, asked, b"", files.as_slice());
+    }
     if let Some(text) = part {
         return part_in(alloc, asked, text.as_slice(), files.as_slice());
     }
@@ -110,11 +119,11 @@ fn of_files(alloc: Global, asked: Asked, named: Named) -> Result<Files, AllocErr
             return Ok(Files::One { own, file });
         }
     }
-    Ok(Files::Several {
+    Ok(Files::Several(Several {
         search: search_of(asked),
         is_part: false,
         names: files,
-    })
+    }))
 }
 
 /// What the words of a command line say of files, the program's name first.
@@ -127,7 +136,10 @@ pub fn files_in(alloc: Global, words: Vec<String>) -> Result<Files, AllocError> 
     }
     match parse(alloc, named.own.as_slice()) {
         Ok(asked) => of_files(alloc, asked, named),
-        Err(_) => Ok(Files::Input { own: named.own }),
+        Err(error) => match error.kind() {
+            ErrorKind::OutOfMemory => Err(AllocError),
+            _ => Ok(Files::Input { own: named.own }),
+        },
     }
 }
 

@@ -5,7 +5,7 @@ mod files;
 
 ghost use Rattle.sva_reports.specs.Streams.{IsNew};
 
-use crate::files::{Files, Unread, files_in, open, read_files, unreadable};
+use crate::files::{Files, Several, Unread, files_in, open, read_files, unreadable};
 use std::alloc::AllocError;
 use std::io;
 use std::io::{IsTerminal, Read, Write};
@@ -13,9 +13,10 @@ use std::process::ExitCode;
 use std::rt::{Env, Files as FileSystem};
 use std::sync::Wait;
 use std::thread::Threads;
-use sva_program::{Progress, Told, Watch, faulted, main_with, unread};
+use sva_program::{Told, Watch, faulted, main_with, unread};
 use sva_reports::{DriveFault, write_all};
-use sva_several::{Meter, Search, Searched, tell_all};
+use sva_several::{Meter, Searched, tell_all};
+use sva_terminal::Progress;
 
 /// The command line is wrong, or names a file that can't be read.
 const MISTAKE: u8 = 2;
@@ -67,9 +68,7 @@ fn run_on<
 /// A command on several files.
 fn search_on<X: AllocGlobal + Threads + Sync + FileSystem, O: Write + Drop, E: Write, M: Meter>(
     rt: &X,
-    search: Search,
-    is_part: bool,
-    names: &[String],
+    several: &Several,
     output: O,
     errors: &mut Told<E>,
     meter: &M,
@@ -77,11 +76,25 @@ fn search_on<X: AllocGlobal + Threads + Sync + FileSystem, O: Write + Drop, E: W
     requires { IsNew errors.old }
 {
     let alloc = rt.alloc();
-    match read_files(rt, alloc, names) {
+    let Several {
+        search,
+        is_part,
+        names,
+    } = several;
+    match read_files(rt, alloc, names.as_slice()) {
         Ok(texts) => {
             let mut writer = Told::new(output);
-            let texts = texts.as_slice();
-            let told = tell_all(rt, alloc, search, is_part, names, texts, &mut writer, meter);
+            let (names, texts) = (names.as_slice(), texts.as_slice());
+            let told = tell_all(
+                rt,
+                alloc,
+                *search,
+                *is_part,
+                names,
+                texts,
+                &mut writer,
+                meter,
+            );
             ended(told, errors)
         }
         Err(Unread::File(name)) => mistaken(unreadable(alloc, name), errors),
@@ -103,35 +116,17 @@ fn main(rt: HostRuntime) -> ExitCode {
             let (input, output) = (rt.stdin(), rt.stdout());
             run_on(&rt, own.as_slice(), input, output, &mut errors, &mut watch)
         }
-        Ok(Files::One { own, file }) => match open(&rt, file.as_str()) {
-            Ok(input) => run_on(
-                &rt,
-                own.as_slice(),
-                input,
-                rt.stdout(),
-                &mut errors,
-                &mut watch,
-            ),
-            Err(_) => mistaken(unreadable(alloc, file.as_str()), &mut errors),
-        },
-        Ok(
-            Files::Several {
-                search,
-                is_part,
-                names,
-            },
-        ) => {
-            let meter = Searched::new(&rt, alloc, names.len(), rt.stderr(), &rt, is_terminal);
-            let names = names.as_slice();
-            search_on(
-                &rt,
-                search,
-                is_part,
-                names,
-                rt.stdout(),
-                &mut errors,
-                &meter,
-            )
+        Ok(Files::One { own, file }) => {
+            let (own, output) = (own.as_slice(), rt.stdout());
+            match open(&rt, file.as_str()) {
+                Ok(input) => run_on(&rt, own, input, output, &mut errors, &mut watch),
+                Err(_) => mistaken(unreadable(alloc, file.as_str()), &mut errors),
+            }
+        }
+        Ok(Files::Several(several)) => {
+            let count = several.names.len();
+            let meter = Searched::new(&rt, alloc, count, rt.stderr(), &rt, is_terminal);
+            search_on(&rt, &several, rt.stdout(), &mut errors, &meter)
         }
         Ok(Files::Wrong { said }) => mistaken(Ok(said), &mut errors),
         Err(_) => faulted(DriveFault::Memory, &mut errors),

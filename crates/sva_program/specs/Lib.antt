@@ -1,2 +1,1 @@
-pub mod Progress
 pub mod Run

@@ -2,11 +2,9 @@
 //! arguments, and with the standard streams or a file.
 #![tactic(auto)]
 
-mod progress;
 mod run;
 mod storming;
 
-pub use progress::Progress;
 pub use run::{Ending, faulted, main_with, unread};
 pub use sva_scenario::Told;
 pub use sva_search::{Unwatched, Watch};

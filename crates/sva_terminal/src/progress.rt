@@ -1,15 +1,15 @@
 //! A line on a terminal that says how far a search is: how many moments were looked at, how deep, and how long that took.
 
 ghost use Rattle.std.specs.Prelude.{◌≡◌, ◌++◌, OnOk};
-ghost use Rattle.sva_program.specs.Progress.{progress_line};
+ghost use Rattle.sva_terminal.specs.Progress.{progress_line};
 
+use crate::in_place::{InPlace, put_seconds};
+use itoa::Buffer;
 use std::alloc::{AllocError, Global};
 use std::io::Write;
 use std::marker::Model;
 use std::time::Clock;
-use sva_script_reading::put_number;
 use sva_search::Watch;
-use sva_terminal::{InPlace, put_seconds};
 
 /// Shows in place how far a search is, if that is seen on a terminal. What can't be written is left out, and so are the
 /// seconds where the clock can't be read, and the search goes on.
@@ -38,9 +38,9 @@ fn put_line(
     ensures { OnOk result (out.new.items ≡ out.old.items ++ progress_line moments depth seconds) }
 {
     out.extend_from_slice(b"\rsvahost: ")?;
-    put_number(out, moments as u64)?;
+    out.extend_from_slice(Buffer::new().format(moments as u64).as_bytes())?;
     out.extend_from_slice(b" moments, ")?;
-    put_number(out, depth as u64)?;
+    out.extend_from_slice(Buffer::new().format(depth as u64).as_bytes())?;
     out.extend_from_slice(b" deep")?;
     put_seconds(out, seconds)
 }

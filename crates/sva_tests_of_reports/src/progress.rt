@@ -1,15 +1,11 @@
 //! The line that says on a terminal how far a search is. `scripts/commands` tries it on one.
 
-use crate::programs::run_watched;
 use crate::streams::{Slow, is_front};
-use std::alloc::AllocError;
 use std::cell::Cell;
 use std::io::{self, Write};
-use std::sync::Wait;
-use std::test::Fail;
-use std::thread::Threads;
 use std::time::{Clock, Duration};
-use sva_program::{Progress, Watch};
+use sva_search::Watch;
+use sva_terminal::Progress;
 
 /// Two lines, and what hides the second.
 const SHOWN: &str =
@@ -128,32 +124,4 @@ fn ignores_what_is_not_taken(rt: HostRuntime) {
             "{most}"
         );
     }
-}
-
-/// A race and a driver of few moments.
-const RACE: &[u8] =
-    b"config 1 4 1\ns: space\nm: map s 0x10 r\nrace\nends always look m => mapped\n";
-
-const DRIVER: &[u8] = b"config 1 4 1\nrace\nthread driver\npte 0 16 0 w\n";
-
-static SHORT: [(&str, &[u8]); 2] = [("explore", RACE), ("judge", DRIVER)];
-
-/// Is nothing shown of a search of few moments, and is it reported?
-fn shows_nothing<X: AllocGlobal + Threads + Wait + Sync>(
-    rt: &X,
-    word: &str,
-    text: &[u8],
-) -> Result<bool, AllocError> {
-    let mut progress = Progress::new(rt.alloc(), Vec::new(rt.alloc()), by_seven(), true);
-    let streams = (text, Vec::new(rt.alloc()), Vec::new(rt.alloc()));
-    let ended = run_watched(rt, &[word], streams, &mut progress)?;
-    Ok(ended.status == 0 && !ended.writer.inner().is_empty() && progress.to().is_empty())
-}
-
-#[test]
-fn shows_nothing_of_a_short_search(rt: HostRuntime) -> Result<(), Fail> {
-    for (word, text) in &SHORT {
-        assert!(rt; shows_nothing(&rt, word, text)?, "{word}");
-    }
-    Ok(())
 }

@@ -10,25 +10,30 @@ _svahost() {
   fi
   if [ "$COMP_CWORD" -eq 1 ]; then
     words='replay check storm plain test show why chart explore judge trace --help --version'
+    # the script of the repository proves too
+    [[ $1 == */* ]] && words+=' prove'
   elif [ "$command" = trace ]; then
     words='--live --why --help'
   elif [ "$command" = chart ]; then
     words='--svg --help'
   elif [[ $command == explore || $command == judge ]]; then
-    [[ $before == --most || $before == --part ]] && return
+    # readline takes the = of --most=N for a word
+    [[ $before == --most || $before == --part || $before == = ]] && return
     words='--most --part --help'
     if [ "$command" = judge ]; then words="--run $words"; else words="--why --ends $words"; fi
     if [[ $current != -* ]]; then
       compopt -o filenames 2> /dev/null
-      mapfile -t COMPREPLY < <(compgen -f -X "!*.sv[rd]" -- "$current"; compgen -d -- "$current")
+      local kind=r
+      [ "$command" = judge ] && kind=d
+      mapfile -t COMPREPLY < <(compgen -f -X "!*.sv$kind" -- "$current"; compgen -d -- "$current")
       return
     fi
   elif [ "$command" = storm ]; then
-    [ "$before" = --turns ] && return
+    [[ $before == --turns || $before == = ]] && return
     words='--turns --help'
   elif [[ $1 == */* && $command == show ]]; then
     # the script of the repository takes --after and files too, and an installed program doesn't
-    [ "$before" = --after ] && return
+    [[ $before == --after || $before == = ]] && return
     words='--after --help'
   elif [[ $1 == */* && $command == test ]]; then
     compopt -o filenames 2> /dev/null

@@ -64,7 +64,7 @@
  * - No call from a signal handler, nor in the child of fork() where the parent had several threads: malloc isn't safe
  *   there.
  * - A call takes up to three quarters of a MiB of stack: give a thread that calls one MiB or more.
-- A call starts no thread, takes no lock and doesn't wait. How long it takes grows with the text, and no bound of it
+ * - A call starts no thread, takes no lock and doesn't wait. How long it takes grows with the text, and no bound of it
  *   is promised.
  * - The library is for x86-64 Linux with glibc. It needs a processor of the level x86-64-v2 (SSE4.2 and POPCNT, say),
  *   and doesn't look whether it has one.

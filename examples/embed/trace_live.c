@@ -6,8 +6,8 @@
  *     ./trace_live --speed N [PROGRAM]    how many lines a second are asked and answered, one after the other
  *
  * The partner is `svahost trace --live`. Each line that is a step, or is wrong, has one row, which comes at once. A
- * config that is right, a comment and an empty line have none, so who waits for one waits for ever. For a test of your
- * own take partner_begin, partner_ask and partner_end.
+ * config that is right, a comment, an empty line and `end => ..` have none, so who waits for one waits for ever. For a
+ * test of your own take partner_begin, partner_ask and partner_end.
  */
 #define _POSIX_C_SOURCE 200809L
 #include <errno.h>
@@ -152,12 +152,18 @@ static void partner_begin(struct partner *it, const char *program, const char *c
         fail("the program can't be run");
 }
 
+/* Whether a line has `end =>` at this word. Such a line has no row, and none may follow it. */
+static int is_end(const char *word)
+{
+    return strncmp(word, "end ", 4) == 0 && strncmp(word + 3 + strspn(word + 3, " "), "=>", 2) == 0;
+}
+
 /* The row of a line that is a step. It stays. */
 static const char *partner_ask(struct partner *it, const char *line)
 {
     char row[MOST_BYTES];
     const char *first = line + strspn(line, " ");
-    if (*first == '\0' || *first == '#' || strchr(line, '\n') != NULL || it->count == MOST_LINES)
+    if (*first == '\0' || *first == '#' || is_end(first) || strchr(line, '\n') != NULL || it->count == MOST_LINES)
         fail("that is no step, or there are too many");
     say(it, line, row);
     /* the config has a row only where something is wrong with it */

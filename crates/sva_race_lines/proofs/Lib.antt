@@ -3,5 +3,4 @@ pub mod DeviceLemmas
 pub mod CountLemmas
 pub mod ReadLemmas
 pub mod RunLemmas
-pub mod TakeLemmas
 pub mod WholeLemmas

@@ -1,5 +1,4 @@
-//! The cache as it was before its order: a list that is scanned from its front, entry after entry. It stands for comparison: tests
-//! alone use it.
+//! A cache without an order, to compare with: a list that is scanned from its front, entry after entry.
 
 use arrayvec::ArrayVec;
 use sva_cache::{Invalidation, Translation};

@@ -1,5 +1,4 @@
-//! The pool as it was before its chains: each settlement looks at every frame, and each search at one after the other. It stands
-//! for comparison: tests alone use it.
+//! A pool without chains, to compare with: each settlement looks at every frame, and each search at one after the other.
 
 use std::alloc::{AllocError, Global};
 use sva_frames::{Counts, PENDING, Place, Target};

@@ -22,12 +22,29 @@
 
 typedef enum svahost_status function(const void *, size_t, void *, size_t, size_t *);
 
+/* so many moments are looked at, at most */
+static enum svahost_status judge(const void *text, size_t length, void *report, size_t room, size_t *needed)
+{
+    return svahost_judge(text, length, 1000, report, room, needed);
+}
+
+static enum svahost_status judge_one(const void *text, size_t length, void *report, size_t room, size_t *needed)
+{
+    return svahost_judge(text, length, 1, report, room, needed);
+}
+
+static enum svahost_status explore(const void *text, size_t length, void *report, size_t room, size_t *needed)
+{
+    return svahost_explore(text, length, 1000, report, room, needed);
+}
+
 static const struct command {
     const char *name;
     function *call;
 } commands[] = {
     {"replay", svahost_replay}, {"check", svahost_check}, {"test", svahost_test},
-    {"plain", svahost_plain},   {"show", svahost_show},
+    {"plain", svahost_plain},   {"show", svahost_show},   {"judge", judge},
+    {"judge, a moment", judge_one},   {"run", svahost_run}, {"explore", explore},
 };
 enum { COMMANDS = sizeof commands / sizeof *commands, PAGE = 4096 };
 
@@ -255,7 +272,8 @@ static void with_command(const struct command *command, const char *name, const 
     enum svahost_status status = call(command, text, length, NULL, 0, &size), ended;
     unsigned char *whole = there(malloc(size + 1));
     ended = call(command, text, length, whole, size, &again);
-    if (status != SVAHOST_TOO_SMALL || size == 0 || again != size || (ended != SVAHOST_DONE && ended != SVAHOST_FAULTED))
+    if (status != SVAHOST_TOO_SMALL || size == 0 || again != size || ended == SVAHOST_NO_MEMORY
+        || ended == SVAHOST_BAD_ARGUMENT)
         is_wrong("%s: %s: status %d, length %zu with no room, and then %d, %zu", name, command->name, (int)status, size,
                  (int)ended, again);
     else {
@@ -321,11 +339,18 @@ static const char scenario[] = "config 1 4 1\nspace\nmap 0 16 w\nbind 0 0\ndeliv
 static const char answers[] =
     "space 0\nframe 0\nbinding 0 pasid 1\nstarted\nwithheld 0\nfree 3 mapped 0 withheld 1\n";
 
+/* unsafe: the frame has another owner while the endpoint may still ask for it */
+#define DRIVER \
+    "config 1 4 1\ndevice 0 1 asks\npte 0 16 0 w\nentry 0 1 0\nstart 0 1\ndeliver start 0\nrace\nfree 0\n"
+
 static void *in_a_thread(void *unused)
 {
     char report[512];
     size_t needed;
     long bad = 0;
+    for (int i = 0; i < 8; i++)
+        bad += svahost_judge(DRIVER, sizeof DRIVER - 1, 1000, report, sizeof report, &needed) != SVAHOST_FAILS
+               || memcmp(report, "unsafe in ", 10) != 0;
     for (int i = 0; i < 200; i++)
         bad += svahost_replay(scenario, sizeof scenario - 1, report, sizeof report, &needed) != SVAHOST_DONE
                || needed != sizeof answers - 1 || memcmp(report, answers, needed) != 0;
@@ -345,9 +370,9 @@ static void with_threads(void)
     for (int i = 0; i < 8; i++) {
         void *bad;
         pthread_join(threads[i], &bad);
-        tried += 200;
+        tried += 208;
         if (bad != NULL)
-            is_wrong("thread %d: %ld of 200 reports are wrong", i, (long)bad);
+            is_wrong("thread %d: %ld of 208 reports are wrong", i, (long)bad);
     }
 }
 
@@ -380,6 +405,10 @@ int main(void)
     TEXT("CR", "config 1 4 1\r\nspace\r\n");
     TEXT("tab", "config\t1\t4\t1\n");
     TEXT("bad config", "config 9 4 1\nspace\n");
+    TEXT("driver", DRIVER);
+    TEXT("driver, no LF", "config 1 4 1\npte 0 16 0 w\nrace\nfree 0");
+    TEXT("race", "config 1 4 1\ns: space\nm: map s 0x10 w\nrace\nunmap s 0x10\nends always look m => free\n");
+    TEXT("claim that fails", "config 1 4 1\ns: space\nm: map s 0x10 w\nrace\nunmap s 0x10\nnever look m => free\n");
     TEXT("large numbers", "config 1 4 1\nlook 18446744073709551615\nlook 18446744073709551616\n");
     with_long_text("3000 lines", "config 1 4 1\n", "space\n", 3000);
     with_long_text("a byte too many", "", "#", 1048577);

@@ -4,9 +4,11 @@
  *     cc replay.c $(pkg-config --cflags --libs svahost) -o replay
  *     ./replay < ../first.sva               the report of a scenario, as by `svahost replay`
  *     ./replay test < ../held-back.svs      or check, plain, show
+ *     ./replay judge < ../judge/free-before-wait.svd      or run, for its lines one by one; or explore, of a race
  *
- * The status is 0 where the library says SVAHOST_DONE, 1 for SVAHOST_FAULTED, 2 for a wrong command line, 3 for all
- * else. Take `ask` for a test of your own: it gives a report in memory of the right size.
+ * The status is 0 where the library says SVAHOST_DONE, 1 for SVAHOST_FAULTED, 4 for SVAHOST_FAILS, 5 for SVAHOST_CUT_OFF,
+ * 2 for a wrong command line, 3 for all else. Take `ask` for a test of your own: it gives a report in memory of the right
+ * size.
  */
 #include <stdio.h>
 #include <stdlib.h>
@@ -28,15 +30,44 @@ static char *ask(function *call, const void *text, size_t length, size_t *needed
         }
         report = larger;
         *status = call(text, length, report, room, needed);
-        if (*status == SVAHOST_DONE || *status == SVAHOST_FAULTED)
-            return report;
-        if (*status != SVAHOST_TOO_SMALL)
+        if (*status == SVAHOST_NO_MEMORY || *status == SVAHOST_BAD_ARGUMENT)
             break;
+        if (*status != SVAHOST_TOO_SMALL)
+            return report;
         /* the same text has the same report: the next call is the last one */
         room = *needed;
     }
     free(report);
     return NULL;
+}
+
+/* How many moments a search looks at, at most. */
+enum { MOST = 1000000 };
+
+static enum svahost_status judge(const void *text, size_t length, void *report, size_t room, size_t *needed)
+{
+    return svahost_judge(text, length, MOST, report, room, needed);
+}
+
+static enum svahost_status explore(const void *text, size_t length, void *report, size_t room, size_t *needed)
+{
+    return svahost_explore(text, length, MOST, report, room, needed);
+}
+
+static int exit_status(enum svahost_status status)
+{
+    switch (status) {
+    case SVAHOST_DONE:
+        return 0;
+    case SVAHOST_FAULTED:
+        return 1;
+    case SVAHOST_FAILS:
+        return 4;
+    case SVAHOST_CUT_OFF:
+        return 5;
+    default:
+        return 3;
+    }
 }
 
 /* All of standard input, in memory that the caller frees, or null. */
@@ -70,7 +101,8 @@ int main(int argc, char **argv)
         function *call;
     } commands[] = {
         {"replay", svahost_replay}, {"check", svahost_check}, {"test", svahost_test},
-        {"plain", svahost_plain},   {"show", svahost_show},
+        {"plain", svahost_plain},   {"show", svahost_show},   {"judge", judge},
+        {"run", svahost_run},       {"explore", explore},
     };
     const char *name = argc > 1 ? argv[1] : "replay";
     size_t length, needed, i;
@@ -81,7 +113,7 @@ int main(int argc, char **argv)
         if (argc <= 2 && strcmp(commands[i].name, name) == 0)
             break;
     if (i == sizeof commands / sizeof *commands) {
-        fprintf(stderr, "replay: wanted replay, check, test, plain or show\n");
+        fprintf(stderr, "replay: wanted replay, check, test, plain, show, judge, run or explore\n");
         return 2;
     }
     text = read_input(&length);
@@ -98,5 +130,5 @@ int main(int argc, char **argv)
     if (fwrite(report, 1, needed, stdout) != needed || fflush(stdout) != 0)
         status = SVAHOST_NO_MEMORY;
     free(report);
-    return status == SVAHOST_DONE ? 0 : status == SVAHOST_FAULTED ? 1 : 3;
+    return exit_status(status);
 }

@@ -24,11 +24,11 @@ filled report old = take (length old) report ++ drop (length report) old
 
 -- The report was handed over: the buffer has what fits of it, its length is told, and the status is that of the run, or
 -- that the buffer is too small.
-abbrev pub IsHandedOver : (report : List ℕ) → Outcome → (old new : List ℕ) → (needed status : ℕ) → Type 0
-IsHandedOver report outcome old new needed status =
+abbrev pub IsHandedOver : (report : List ℕ) → (ended : ℕ) → (old new : List ℕ) → (needed status : ℕ) → Type 0
+IsHandedOver report ended old new needed status =
     (new ≡ filled report old)
     × (needed ≡ length report)
-    × (status ≡ (if nat_le (length report) (length old) then status_of outcome else TOO_SMALL))
+    × (status ≡ (if nat_le (length report) (length old) then ended else TOO_SMALL))
 
 -- memory ran out: the buffer is as it was
 abbrev pub LacksMemory : (old new : List ℕ) → (needed status : ℕ) → Type 0
@@ -37,4 +37,4 @@ LacksMemory old new needed status = (new ≡ old) × (needed ≡ 0) × (status �
 -- what a call comes to, where the definitions say this of its text
 abbrev pub Gives : Said → (old new : List ℕ) → (needed status : ℕ) → Type 0
 Gives said old new needed status =
-    IsHandedOver said.text said.outcome old new needed status ⊎ LacksMemory old new needed status
+    IsHandedOver said.text (status_of said.outcome) old new needed status ⊎ LacksMemory old new needed status

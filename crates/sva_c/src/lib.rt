@@ -8,16 +8,20 @@
 
 ghost use Rattle.std.specs.Prelude.{◌≡◌};
 ghost use Rattle.sva_c.specs.Buffers.{Gives, check_said, replay_said};
+ghost use Rattle.sva_c.specs.Searches.{Explores, Judges, Runs};
 ghost use Rattle.sva_script_reports.specs.Scripts.{plain_of, test_of};
 ghost use Rattle.sva_script_reports.specs.Shows.{show_of};
 
 mod handing;
 mod statuses;
 
-use crate::handing::{hand_over, lack};
+use crate::handing::{explored_status, hand_over, lack, ruled_status, status_of};
 use std::alloc::Global;
+use sva_driver_runs::{judge_text, run_text};
+use sva_race_reports::{Wanted, explore_text};
 use sva_reports::{Told, check_text, report_text};
 use sva_script_reports::{plain, show, test};
+use sva_search::Unwatched;
 
 /// The report of a scenario, as `replay` prints it.
 #[unsafe(no_mangle)]
@@ -31,7 +35,12 @@ pub extern "C" fn sva_c_replay(
 {
     let mut writer = Told::new(Vec::new(alloc));
     match report_text(alloc, text, &mut writer) {
-        Ok(outcome) => hand_over(writer.inner().as_slice(), outcome, report, needed),
+        Ok(outcome) => hand_over(
+            writer.inner().as_slice(),
+            status_of(outcome),
+            report,
+            needed,
+        ),
         Err(_) => lack(needed),
     }
 }
@@ -48,7 +57,12 @@ pub extern "C" fn sva_c_check(
 {
     let mut writer = Told::new(Vec::new(alloc));
     match check_text(alloc, text, &mut writer) {
-        Ok(outcome) => hand_over(writer.inner().as_slice(), outcome, report, needed),
+        Ok(outcome) => hand_over(
+            writer.inner().as_slice(),
+            status_of(outcome),
+            report,
+            needed,
+        ),
         Err(_) => lack(needed),
     }
 }
@@ -65,7 +79,7 @@ pub extern "C" fn sva_c_test(
 {
     let mut said = Vec::new(alloc);
     match test(alloc, text, &mut said) {
-        Ok(outcome) => hand_over(said.as_slice(), outcome, report, needed),
+        Ok(outcome) => hand_over(said.as_slice(), status_of(outcome), report, needed),
         Err(_) => lack(needed),
     }
 }
@@ -82,7 +96,7 @@ pub extern "C" fn sva_c_plain(
 {
     let mut said = Vec::new(alloc);
     match plain(alloc, text, &mut said) {
-        Ok(outcome) => hand_over(said.as_slice(), outcome, report, needed),
+        Ok(outcome) => hand_over(said.as_slice(), status_of(outcome), report, needed),
         Err(_) => lack(needed),
     }
 }
@@ -99,7 +113,68 @@ pub extern "C" fn sva_c_show(
 {
     let mut said = Vec::new(alloc);
     match show(alloc, text, &mut said) {
-        Ok(outcome) => hand_over(said.as_slice(), outcome, report, needed),
+        Ok(outcome) => hand_over(said.as_slice(), status_of(outcome), report, needed),
+        Err(_) => lack(needed),
+    }
+}
+
+/// Whether each permitted order of a driver is safe, as `judge` prints it. At most so many moments are looked at, but for
+/// the first, which is looked at in any case.
+#[unsafe(no_mangle)]
+pub extern "C" fn sva_c_judge(
+    alloc: Global,
+    text: &[u8],
+    most: u64,
+    report: &mut [u8],
+    needed: &mut usize,
+) -> u32
+    ensures { Judges text.now most report.old report.new needed.new result }
+{
+    let mut said = Vec::new(alloc);
+    match judge_text(alloc, most, text, &mut said, &mut Unwatched) {
+        Ok(ruling) => hand_over(said.as_slice(), ruled_status(ruling), report, needed),
+        Err(_) => lack(needed),
+    }
+}
+
+/// Whether a driver is safe whose lines are taken one after another, as `judge --run` prints it.
+#[unsafe(no_mangle)]
+pub extern "C" fn sva_c_run(
+    alloc: Global,
+    text: &[u8],
+    report: &mut [u8],
+    needed: &mut usize,
+) -> u32
+    ensures { Runs text.now report.old report.new needed.new result }
+{
+    let mut said = Vec::new(alloc);
+    match run_text(alloc, text, &mut said) {
+        Ok(ruling) => hand_over(said.as_slice(), ruled_status(ruling), report, needed),
+        Err(_) => lack(needed),
+    }
+}
+
+/// What every permitted order of a race comes to, as `explore` prints it. At most so many moments are looked at, but for
+/// the first, which is looked at in any case.
+#[unsafe(no_mangle)]
+pub extern "C" fn sva_c_explore(
+    alloc: Global,
+    text: &[u8],
+    most: u64,
+    report: &mut [u8],
+    needed: &mut usize,
+) -> u32
+    ensures { Explores text.now most report.old report.new needed.new result }
+{
+    let mut said = Vec::new(alloc);
+    let wanted = Wanted {
+        most,
+        whys: false,
+        few_ends: false,
+        is_brief: false,
+    };
+    match explore_text(alloc, wanted, text, &mut said, &mut Unwatched) {
+        Ok(judged) => hand_over(said.as_slice(), explored_status(judged), report, needed),
         Err(_) => lack(needed),
     }
 }

@@ -11,3 +11,9 @@ pub const TOO_SMALL: u32 = 2;
 
 /// Memory ran out.
 pub const NO_MEMORY: u32 = 3;
+
+/// The report is whole: an order is unsafe, a line waits for ever, or a claim fails.
+pub const FAILS: u32 = 5;
+
+/// The report is whole, and the search was cut off before that was known.
+pub const CUT_OFF: u32 = 6;

@@ -165,7 +165,7 @@ respond_line config words = do
 
 abbrev pub frame_freed : Config → List (List ℕ) → Result SayingSaid DriverWrong
 frame_freed config words = do
-  frame ← frame_at config 1 wanted.Frame words
+  frame ← frame_at config 1 wanted.Freed words
   _ ← no_more 2 words
   Ok (DoesSaid (act.FreeFrame frame))
 

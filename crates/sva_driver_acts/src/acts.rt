@@ -259,7 +259,7 @@ pub(crate) fn respond_line(config: &Config, words: &[&[u8]]) -> Result<Saying, D
 fn frame_freed(config: &Config, words: &[&[u8]]) -> Result<Saying, DriverWrong>
     ensures { read_seen result ≡ sayings.frame_freed config.now (map (λ word. word.now) words.now) }
 {
-    let frame = frame_at(config, words, 1, DriverWanted::Frame)?;
+    let frame = frame_at(config, words, 1, DriverWanted::Freed)?;
     judge_end(words, 2)?;
     Ok(Saying::Does {
         act: Act::FreeFrame { frame },

@@ -8,13 +8,16 @@ ghost use Rattle.sva_driver_acts.specs.Taking.{Adds, Gives};
 
 use std::alloc::{AllocError, Global};
 use sva_driver_words::{
-    DriverStop, DriverWanted, DriverWrong, endpoint_at, has_word, judge_end, lacking, order_at,
-    page_at, pasid_at, says,
+    DriverStop, DriverWanted, DriverWrong, SubmitWanted, endpoint_at, has_word, lacking, order_at,
+    page_by, pasid_at, says,
 };
 use sva_judge::Saying;
 use sva_open::{Act, Descriptor, LocalAct, Scope};
 use sva_race_words::{count_of, piece_len, words_at, words_from};
 use sva_step::Config;
+
+/// How many descriptors a line may have: its queue has as many places.
+const MOST_DESCRIPTORS: usize = 64;
 
 /// The aligned range of 2^order pages that has a page.
 fn aligned(pasid: usize, page: u64, order: u64) -> Scope
@@ -29,14 +32,24 @@ fn aligned(pasid: usize, page: u64, order: u64) -> Scope
     }
 }
 
+/// Whether a descriptor has no word behind so many: `+` stands before the next one.
+fn ends_at(words: &[&[u8]], count: usize) -> Result<(), DriverWrong>
+    ensures { result ≡ descriptors.ends_at count (map (λ word. word.now) words.now) }
+{
+    if count < count_of(words) {
+        return Err(lacking(count, DriverWanted::Submit(SubmitWanted::PlusOrEnd)));
+    }
+    Ok(())
+}
+
 /// Reads `P PAGE K` behind the first word.
-fn range_of(words: &[&[u8]]) -> Result<Scope, DriverWrong>
-    ensures { result ≡ descriptors.range_of (map (λ word. word.now) words.now) }
+fn range_of(words: &[&[u8]], wanted: DriverWanted) -> Result<Scope, DriverWrong>
+    ensures { result ≡ descriptors.range_of wanted (map (λ word. word.now) words.now) }
 {
     let pasid = pasid_at(words, 1)?;
-    let page = page_at(words, 2)?;
+    let page = page_by(words, 2, wanted)?;
     let order = order_at(words, 3)?;
-    judge_end(words, 4)?;
+    ends_at(words, 4)?;
     Ok(aligned(pasid, page, order))
 }
 
@@ -45,7 +58,7 @@ fn pasid_of(words: &[&[u8]]) -> Result<usize, DriverWrong>
     ensures { result ≡ descriptors.pasid_of (map (λ word. word.now) words.now) }
 {
     let pasid = pasid_at(words, 1)?;
-    judge_end(words, 2)?;
+    ends_at(words, 2)?;
     Ok(pasid)
 }
 
@@ -54,7 +67,7 @@ fn scope_of(words: &[&[u8]]) -> Result<Scope, DriverWrong>
     ensures { result ≡ descriptors.scope_of (map (λ word. word.now) words.now) }
 {
     if has_word(words, 2) {
-        return range_of(words);
+        return range_of(words, DriverWanted::Submit(SubmitWanted::PageOrPlus));
     }
     let pasid = pasid_of(words)?;
     Ok(Scope::Pasid { pasid })
@@ -69,6 +82,22 @@ fn behind(at: usize, is_there: bool) -> usize
     if is_there { at + 1 } else { at }
 }
 
+/// What a wait may have behind what it has.
+fn wait_wanted(drain: bool, fence: bool) -> SubmitWanted
+    ensures { result ≡ descriptors.wait_wanted drain fence }
+{
+    if drain && fence {
+        return SubmitWanted::PlusOrEnd;
+    }
+    if drain {
+        return SubmitWanted::FenceOrPlus;
+    }
+    if fence {
+        return SubmitWanted::DrainOrPlus;
+    }
+    SubmitWanted::FlagOrPlus
+}
+
 /// Reads the end of a wait, which has so many words.
 fn wait_with(
     name: usize,
@@ -80,14 +109,32 @@ fn wait_with(
     ensures { result ≡ descriptors.wait_with name drain fence count (map (λ word. word.now) words.now) }
 {
     if count < count_of(words) {
-        return Err(lacking(count, DriverWanted::DrainOrFence));
+        return Err(lacking(count, DriverWanted::Submit(wait_wanted(drain, fence))));
     }
     Ok(Descriptor::Wait { name, drain, fence })
 }
 
-/// Reads `wait [drain] [fence]`.
+/// Reads `wait`, with `drain` and `fence` in either order.
 fn wait_of(name: usize, words: &[&[u8]]) -> Result<Descriptor, DriverWrong>
     ensures { result ≡ descriptors.wait_of name (map (λ word. word.now) words.now) }
+{
+    if says(words, 1, b"fence") {
+        return fence_first(name, words);
+    }
+    drain_first(name, words)
+}
+
+/// Reads `wait fence [drain]`.
+fn fence_first(name: usize, words: &[&[u8]]) -> Result<Descriptor, DriverWrong>
+    ensures { result ≡ descriptors.fence_first name (map (λ word. word.now) words.now) }
+{
+    let drain = says(words, 2, b"drain");
+    wait_with(name, drain, true, behind(2, drain), words)
+}
+
+/// Reads `wait [drain] [fence]`.
+fn drain_first(name: usize, words: &[&[u8]]) -> Result<Descriptor, DriverWrong>
+    ensures { result ≡ descriptors.drain_first name (map (λ word. word.now) words.now) }
 {
     let drain = says(words, 1, b"drain");
     let at = behind(1, drain);
@@ -100,7 +147,7 @@ fn descriptor_of(name: usize, words: &[&[u8]]) -> Result<Descriptor, DriverWrong
     ensures { result ≡ descriptors.descriptor_of name (map (λ word. word.now) words.now) }
 {
     if says(words, 0, b"range") {
-        let scope = range_of(words)?;
+        let scope = range_of(words, DriverWanted::Page)?;
         return Ok(Descriptor::Device { scope });
     }
     if says(words, 0, b"pasid") {
@@ -134,10 +181,22 @@ fn place_stop(start: usize, found: DriverWrong) -> Result<Descriptor, DriverStop
     }
 }
 
-/// A descriptor; its words begin at `at`.
-fn read_descriptor(name: usize, words: &[&[u8]], at: usize) -> Result<Descriptor, DriverStop>
-    ensures { Gives descriptors.itself (descriptors.descriptor_at name at (map (λ word. word.now) words.now)) result }
+/// A descriptor behind so many; its words begin at `at`.
+fn read_descriptor(
+    name: usize,
+    count: usize,
+    words: &[&[u8]],
+    at: usize,
+) -> Result<Descriptor, DriverStop>
+    ensures { Gives descriptors.itself (descriptors.descriptor_at name count at (map (λ word. word.now) words.now))
+        result }
 {
+    if MOST_DESCRIPTORS <= count {
+        return Err(DriverStop::Wrong(lacking(
+            at.saturating_sub(1),
+            DriverWanted::Submit(SubmitWanted::Few),
+        )));
+    }
     match descriptor_of(name, words) {
         Ok(descriptor) => Ok(descriptor),
         Err(found) => place_stop(at, found),
@@ -160,10 +219,11 @@ fn add_descriptor(
     at: usize,
     list: &mut Vec<Descriptor>,
 ) -> Result<(), DriverStop>
-    ensures { Adds descriptors.itself (descriptors.descriptor_at name at (map (λ word. word.now) words.now))
+    ensures { Adds descriptors.itself
+        (descriptors.descriptor_at name (length list.old.items) at (map (λ word. word.now) words.now))
         list.old.items list.new.items result }
 {
-    match read_descriptor(name, words, at) {
+    match read_descriptor(name, list.len(), words, at) {
         Ok(one) => match push_descriptor(list, one) {
             Ok(()) => Ok(()),
             Err(_) => Err(DriverStop::Memory),

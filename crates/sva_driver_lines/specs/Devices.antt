@@ -108,6 +108,7 @@ pub record DeviceSaid : Type 0 where
   pub evicts : Bool
   pub is_silent : Bool
   pub lies : Bool
+  pub awaits : Bool
 
 abbrev pub untold : DeviceSaid
 untold = record {
@@ -117,6 +118,7 @@ untold = record {
   evicts = false;
   is_silent = false;
   lies = false;
+  awaits = false;
 }
 
 abbrev pub device_seen : DeviceRead → DeviceSaid
@@ -127,6 +129,7 @@ device_seen device = record {
   evicts = device.evicts;
   is_silent = device.is_silent;
   lies = device.lies;
+  awaits = device.awaits;
 }
 
 -- a budget with what a word counts
@@ -138,13 +141,18 @@ counted budget count at words =
     lacking at wanted.Counted
 
 abbrev pub is_flag : (at : ℕ) → List (List ℕ) → Bool
-is_flag at words = says at (codes "evicts") words || says at (codes "silent") words || says at (codes "lies") words
+is_flag at words =
+    says at (codes "evicts") words
+    || says at (codes "silent") words
+    || says at (codes "lies") words
+    || says at (codes "awaits") words
 
 abbrev pub flagged : DeviceSaid → (at : ℕ) → List (List ℕ) → DeviceSaid
 flagged device at words =
     if says at (codes "evicts") words then record device { evicts = true } else
     if says at (codes "silent") words then record device { is_silent = true } else
-    record device { lies = true }
+    if says at (codes "lies") words then record device { lies = true } else
+    record device { awaits = true }
 
 -- all that stands behind `pages` is a page: so many words from a place on
 unfoldable pub pages_by : (at : ℕ) → (pages : List ℕ) → (rest : List (List ℕ)) → List (List ℕ) → Result (List ℕ) DriverWrong

@@ -1,5 +1,6 @@
 -- What is read of a driver, line by line.
-use Rattle.std.specs.Prelude.{ℕ, ◌+◌, ◌||◌, not, nat_lt, if◌then◌else◌, Bool, true, false, List, [], ◌∷◌, ◌++◌, codes, length}
+use Rattle.std.specs.Prelude.{ℕ, ◌+◌, ◌&&◌, ◌||◌, not, nat_lt, if◌then◌else◌, Bool, true, false, List, [], ◌∷◌}
+use Rattle.std.specs.Prelude.{◌++◌, codes, length}
 use Rattle.std.specs.Prelude.{◌≡◌, replicate, slice_get, slice_set, Option, Some, None, is_some, Result, Ok, Err}
 use Rattle.std.specs.List.{list_any}
 use Rattle.std.specs.Str.{bytes_eq}
@@ -212,9 +213,20 @@ other_line config reading words =
     if reading.is_race then other_behind reading words else
     other_before reading words
 
+-- the words that begin a line which is no act
+abbrev pub begins_other : (word : List ℕ) → Bool
+begins_other word =
+    is_setting word || bytes_eq word (codes "workers") || bytes_eq word (codes "device") || bytes_eq word (codes "race")
+    || bytes_eq word (codes "thread")
+
+-- behind a name stands a word that begins no line: an act was meant
+abbrev pub is_misspelt : Parts → Bool
+is_misspelt parts = is_some parts.name && not (begins_other (word_at 0 parts.step))
+
 abbrev pub line_by : Config → Reading → (number : ℕ) → List (List ℕ) → Parts → Result Reading DriverWrong
 line_by config reading number words parts =
     if is_act (word_at 0 parts.step) then act_line config reading number parts (thread_of reading parts.step) else
+    if is_misspelt parts then lacking (step_begins parts) wanted.Act else
     (nameless parts.name >>= λ done. other_line config reading words)
 
 -- ---- All lines behind the config

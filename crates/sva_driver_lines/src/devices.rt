@@ -76,7 +76,10 @@ fn pages_from(alloc: Global, words: &[&[u8]], at: usize) -> Result<Vec<u64>, Dri
 fn is_flag(words: &[&[u8]], at: usize) -> bool
     ensures { result ≡ devices.is_flag at (map (λ word. word.now) words.now) }
 {
-    says(words, at, b"evicts") || says(words, at, b"silent") || says(words, at, b"lies")
+    says(words, at, b"evicts")
+        || says(words, at, b"silent")
+        || says(words, at, b"lies")
+        || says(words, at, b"awaits")
 }
 
 /// The endpoint with what such a word says.
@@ -87,8 +90,10 @@ fn set_flag(device: &mut DeviceRead, words: &[&[u8]], at: usize)
         device.evicts = true;
     } else if says(words, at, b"silent") {
         device.is_silent = true;
-    } else {
+    } else if says(words, at, b"lies") {
         device.lies = true;
+    } else {
+        device.awaits = true;
     }
 }
 

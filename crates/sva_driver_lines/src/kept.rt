@@ -17,4 +17,6 @@ pub struct DeviceRead {
     pub is_silent: bool,
     /// Whether it may complete an invalidation too early.
     pub lies: bool,
+    /// Whether it says that it has stopped only once its page requests are answered.
+    pub awaits: bool,
 }

@@ -257,6 +257,25 @@ fn take_other(
     Err(DriverStop::Wrong(lacking(0, DriverWanted::Before)))
 }
 
+/// Whether a word begins a line that is no act.
+fn begins_other(word: &[u8]) -> bool
+    ensures { result ≡ readings.begins_other word.now }
+{
+    is_setting(word)
+        || is(word, b"workers")
+        || is(word, b"device")
+        || is(word, b"race")
+        || is(word, b"thread")
+}
+
+/// Whether a word that begins no line stands behind a name.
+fn is_misspelt(words: &[&[u8]]) -> bool
+    ensures { result ≡ readings.is_misspelt (parts_of (map (λ word. word.now) words.now)) }
+{
+    let parts = parts_of(words);
+    parts.name.is_some() && !begins_other(word_at(parts.step, 0))
+}
+
 /// Takes a line.
 fn take_line(
     alloc: Global,
@@ -271,6 +290,9 @@ fn take_line(
     let parts = parts_of(words);
     if is_act(word_at(parts.step, 0)) {
         return take_act(alloc, config, reading, number, words);
+    }
+    if is_misspelt(words) {
+        return Err(DriverStop::Wrong(lacking(parts.step_at, DriverWanted::Act)));
     }
     if name_in(words).is_some() {
         return Err(DriverStop::Wrong(lacking(0, DriverWanted::Race(RaceWanted::NoName))));

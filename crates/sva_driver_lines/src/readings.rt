@@ -87,6 +87,7 @@ pub(crate) fn untold() -> DeviceRead
         evicts: false,
         is_silent: false,
         lies: false,
+        awaits: false,
     }
 }
 

@@ -12,8 +12,9 @@ use Rattle.sva_judge.specs.declared.drivers.Device.{Device}
 use Rattle.sva_judge.specs.declared.drivers.Line.{Line}
 use Rattle.sva_driver_texts.specs.declared.kept.Text.{Text}
 use Rattle.sva_driver_reports.specs.Reports.{budgets_from, group_text, groups_from, marked_text, part_text, parts_from, rows_from, stopping_text}
-use Rattle.sva_driver_reports.specs.Reports.{waiting_place, waits_by}
-use Rattle.sva_driver_reports.specs.Witness.{EventSaid, before_text, befores, lie_text, lies_from, wider, width_from}
+use Rattle.sva_driver_reports.specs.Reports.{other_text, others_from, waiting_place, waits_by}
+use Rattle.sva_driver_reports.specs.Witness.{EventSaid, before_text, befores, conduct_text, conducts_from, wider}
+use Rattle.sva_driver_reports.specs.Witness.{width_from}
 
 -- ---- A piece, and what follows it
 
@@ -36,23 +37,28 @@ module _ {A : Type 0} (all : ℕ → List A → List ℕ) (piece : ℕ → A →
   last_piece none xs i out whole past so_far =
       sym (append-nil out) ∙ sym (ap (λ l. out ++ l) (ap (all i) (drop_all i xs past) ∙ none i)) ∙ so_far
 
--- ---- Endpoints that lie
+-- ---- What endpoints are like
 
-lies_more : (i : ℕ) (x : Part) (xs : List Part) → lies_from i (x ∷ xs) ≡ lie_text i x.lies ++ lies_from (i + 1) xs
-unfolding lies_from
-lies_more i x xs = refl
+conducts_more : (i : ℕ) (x : Part) (xs : List Part)
+    → conducts_from i (x ∷ xs) ≡ conduct_text i x ++ conducts_from (i + 1) xs
+unfolding conducts_from
+conducts_more i x xs = refl
 
-lies_none : (i : ℕ) → lies_from i [] ≡ []
-unfolding lies_from
-lies_none i = refl
+conducts_none : (i : ℕ) → conducts_from i [] ≡ []
+unfolding conducts_from
+conducts_none i = refl
 
-pub lies_next : (xs : List Part) (i : ℕ) (blank : Part) (out new whole : List ℕ) → i < length xs → out ++ lies_from i (drop i xs) ≡ whole
-    → new ≡ out ++ lie_text i (get_or xs i blank).lies → new ++ lies_from (i + 1) (drop (i + 1) xs) ≡ whole
-lies_next xs i blank out new whole inside so_far is =
-    next_piece (λ i xs. lies_from i xs) (λ i (x : Part). lie_text i x.lies) lies_more xs i blank out new whole inside so_far is
+pub conducts_next : (xs : List Part) (i : ℕ) (blank : Part) (out new whole : List ℕ) → i < length xs
+    → out ++ conducts_from i (drop i xs) ≡ whole
+    → new ≡ out ++ conduct_text i (get_or xs i blank) → new ++ conducts_from (i + 1) (drop (i + 1) xs) ≡ whole
+conducts_next xs i blank out new whole inside so_far is =
+    next_piece (λ i xs. conducts_from i xs) (λ i x. conduct_text i x)
+    conducts_more xs i blank out new whole inside so_far is
 
-pub lies_end : (xs : List Part) (i : ℕ) (out whole : List ℕ) → length xs ≤ i → out ++ lies_from i (drop i xs) ≡ whole → out ≡ whole
-lies_end xs i out whole past so_far = last_piece (λ i xs. lies_from i xs) (λ i (x : Part). lie_text i x.lies) lies_none xs i out whole past so_far
+pub conducts_end : (xs : List Part) (i : ℕ) (out whole : List ℕ) → length xs ≤ i
+    → out ++ conducts_from i (drop i xs) ≡ whole → out ≡ whole
+conducts_end xs i out whole past so_far =
+    last_piece (λ i xs. conducts_from i xs) (λ i x. conduct_text i x) conducts_none xs i out whole past so_far
 
 -- ---- PASIDs
 
@@ -116,25 +122,29 @@ parts_end xs i out whole past so_far = last_piece (λ i xs. parts_from i xs) (λ
 
 -- ---- Budgets
 
-budgets_more : (mark : List ℕ) (of : List Part) (i : ℕ) (x : Device) (xs : List Device)
-    → budgets_from mark of i (x ∷ xs) ≡ marked_text mark of i x ++ budgets_from mark of (i + 1) xs
-unfolding budgets_from
-budgets_more mark of i x xs = refl
+module _ (mark : List ℕ) (of : List Part) (lines : List Line) where
+  budgets_more : (i : ℕ) (x : Device) (xs : List Device)
+      → budgets_from mark of lines i (x ∷ xs) ≡ marked_text mark of lines i x ++ budgets_from mark of lines (i + 1) xs
+  unfolding budgets_from
+  budgets_more i x xs = refl
 
-budgets_none : (mark : List ℕ) (of : List Part) (i : ℕ) → budgets_from mark of i [] ≡ []
-unfolding budgets_from
-budgets_none mark of i = refl
+  budgets_none : (i : ℕ) → budgets_from mark of lines i [] ≡ []
+  unfolding budgets_from
+  budgets_none i = refl
 
-pub budgets_next : (mark : List ℕ) (of : List Part) (xs : List Device) (i : ℕ) (blank : Device) (out new whole : List ℕ) → i < length xs
-    → out ++ budgets_from mark of i (drop i xs) ≡ whole
-    → new ≡ out ++ marked_text mark of i (get_or xs i blank) → new ++ budgets_from mark of (i + 1) (drop (i + 1) xs) ≡ whole
-budgets_next mark of xs i blank out new whole inside so_far is =
-    next_piece (λ i xs. budgets_from mark of i xs) (λ i x. marked_text mark of i x) (budgets_more mark of) xs i blank out new whole inside so_far is
+  pub budgets_next : (xs : List Device) (i : ℕ) (blank : Device) (out new whole : List ℕ) → i < length xs
+      → out ++ budgets_from mark of lines i (drop i xs) ≡ whole
+      → new ≡ out ++ marked_text mark of lines i (get_or xs i blank)
+      → new ++ budgets_from mark of lines (i + 1) (drop (i + 1) xs) ≡ whole
+  budgets_next xs i blank out new whole inside so_far is =
+      next_piece (λ i xs. budgets_from mark of lines i xs) (λ i x. marked_text mark of lines i x)
+      budgets_more xs i blank out new whole inside so_far is
 
-pub budgets_end : (mark : List ℕ) (of : List Part) (xs : List Device) (i : ℕ) (out whole : List ℕ) → length xs ≤ i
-    → out ++ budgets_from mark of i (drop i xs) ≡ whole → out ≡ whole
-budgets_end mark of xs i out whole past so_far = last_piece (λ i xs. budgets_from mark of i xs) (λ i x. marked_text mark of i x)
-    (budgets_none mark of) xs i out whole past so_far
+  pub budgets_end : (xs : List Device) (i : ℕ) (out whole : List ℕ) → length xs ≤ i
+      → out ++ budgets_from mark of lines i (drop i xs) ≡ whole → out ≡ whole
+  budgets_end xs i out whole past so_far =
+      last_piece (λ i xs. budgets_from mark of lines i xs) (λ i x. marked_text mark of lines i x)
+      budgets_none xs i out whole past so_far
 
 -- ---- The lines before `race`
 
@@ -177,6 +187,35 @@ pub waiting_none : (text : Text) (spot : Spot) (lines : List Line) (place : ℕ)
     → waiting_place text spot place (drop place lines) ≡ None
 unfolding waiting_place
 waiting_none text spot lines place past = ap (waiting_place text spot place) (drop_all place lines past)
+
+-- ---- The others that wait
+
+module _ (text : Text) (spot : Spot) (first : ℕ) where
+  others_more : (i : ℕ) (x : Line) (xs : List Line)
+      → others_from text spot first i (x ∷ xs)
+      ≡ other_text spot first i x (slice_get text.said.items i) ++ others_from text spot first (i + 1) xs
+  unfolding others_from
+  others_more i x xs = refl
+
+  others_none : (i : ℕ) → others_from text spot first i [] ≡ []
+  unfolding others_from
+  others_none i = refl
+
+  pub others_next : (xs : List Line) (i : ℕ) (blank : Line) (out new whole : List ℕ) → i < length xs
+      → out ++ others_from text spot first i (drop i xs) ≡ whole
+      → new ≡ out ++ other_text spot first i (get_or xs i blank) (slice_get text.said.items i)
+      → new ++ others_from text spot first (i + 1) (drop (i + 1) xs) ≡ whole
+  others_next xs i blank out new whole inside so_far is =
+      next_piece (λ i xs. others_from text spot first i xs)
+      (λ i x. other_text spot first i x (slice_get text.said.items i))
+      others_more xs i blank out new whole inside so_far is
+
+  pub others_end : (xs : List Line) (i : ℕ) (out whole : List ℕ) → length xs ≤ i
+      → out ++ others_from text spot first i (drop i xs) ≡ whole → out ≡ whole
+  others_end xs i out whole past so_far =
+      last_piece (λ i xs. others_from text spot first i xs)
+      (λ i x. other_text spot first i x (slice_get text.said.items i))
+      others_none xs i out whole past so_far
 
 -- ---- Widths
 

@@ -4,7 +4,7 @@ use Rattle.sva_open_wrongs.specs.declared.wrongs.Thing.{Thing}
 use Rattle.sva_open_wrongs.specs.declared.wrongs.Thing.TheVariants as thing
 use Rattle.sva_open_wrongs.specs.declared.wrongs.Wrong.{Wrong}
 use Rattle.sva_open_wrongs.specs.declared.wrongs.Wrong.TheVariants as wrong
-use Rattle.sva_driver_reports.specs.Events.{and_number, with_endpoint}
+use Rattle.sva_driver_words.specs.Pieces.{and_number, with_endpoint}
 
 abbrev pub thing_text : Thing → List ℕ
 thing_text thing.Held = codes "held translation"

@@ -1,8 +1,10 @@
 -- The report of a driver that was judged, and what it says in a word.
-use Rattle.std.specs.Prelude.{ℕ, ◌+◌, not, if◌then◌else◌, Bool, true, false, List, [], ◌∷◌, ◌++◌, codes, length, slice_get}
+use Rattle.std.specs.Prelude.{ℕ, ◌+◌, ◌&&◌, not, nat_lt, if◌then◌else◌, Bool, true, false, List, [], ◌∷◌, ◌++◌}
+use Rattle.std.specs.Prelude.{codes, length, slice_get}
 use Rattle.std.specs.Prelude.{Option, Some, None}
 use Rattle.sva_open.specs.World.{Part, is_stopping}
 use Rattle.sva_open.specs.declared.rows.Row.{Row}
+use Rattle.sva_open.specs.declared.settings.Conduct.{Conduct}
 use Rattle.sva_open.specs.declared.works.Group.{Group}
 use Rattle.sva_open_wrongs.specs.Wrongs.{first_wrong}
 use Rattle.sva_open_wrongs.specs.declared.wrongs.Wrong.{Wrong}
@@ -13,9 +15,10 @@ use Rattle.sva_judge.specs.Choices.{is_next}
 use Rattle.sva_judge.specs.Spots.{Spot, start_of}
 use Rattle.sva_judge.specs.declared.verdicts.Verdict.{Verdict}
 use Rattle.sva_judge.specs.declared.verdicts.Verdict.TheVariants as verdict
+use Rattle.sva_driver_texts.specs.Budgets.{is_pageless, is_unasked, is_unstarted}
 use Rattle.sva_driver_texts.specs.declared.kept.Said.{Said}
 use Rattle.sva_driver_texts.specs.declared.kept.Text.{Text}
-use Rattle.sva_driver_reports.specs.Events.{and_number, counted_text, with_endpoint}
+use Rattle.sva_driver_words.specs.Pieces.{and_number, counted_text, with_endpoint}
 use Rattle.sva_driver_reports.specs.Findings.{wrong_text}
 use Rattle.sva_driver_reports.specs.Witness.{EventSaid, events_from, events_text, front_text, last_spot, line_who, said_if}
 use Rattle.sva_driver_reports.specs.declared.reports.Ruling.{Ruling}
@@ -29,29 +32,41 @@ events_count count = counted_text count (codes "event") (codes "events")
 
 -- ---- What endpoints may do by themselves
 
-abbrev pub within_text : (endpoint : ℕ) → Device → (lies : Bool) → List ℕ
-within_text endpoint device lies =
+-- what can't be made of it, and why
+abbrev pub unmade_text : List Line → (endpoint : ℕ) → Device → List ℕ
+unmade_text lines endpoint device =
+    if is_unstarted lines endpoint device
+    then codes "; none can be made: no line starts a PASID there"
+    else said_if (is_pageless device) (codes "; no ask or fault can be made: it has no page")
+    ++ said_if (is_unasked lines endpoint device) (codes "; no use can be made: nothing asks there")
+
+abbrev pub within_text : List Line → (endpoint : ℕ) → Device → Conduct → List ℕ
+within_text lines endpoint device conduct =
     with_endpoint (codes "within endpoint") endpoint ++ codes ": "
     ++ counted_text device.budget.asks (codes "ask") (codes "asks") ++ codes ", "
     ++ counted_text device.budget.uses (codes "use") (codes "uses") ++ codes ", "
     ++ counted_text device.budget.faults (codes "fault") (codes "faults")
-    ++ said_if device.evicts (codes ", evicts") ++ said_if device.is_silent (codes ", silent") ++ said_if lies (codes ", lies") ++ 10 ∷ []
+    ++ said_if device.evicts (codes ", evicts") ++ said_if device.is_silent (codes ", silent")
+    ++ said_if conduct.lies (codes ", lies") ++ said_if conduct.awaits (codes ", awaits")
+    ++ unmade_text lines endpoint device ++ 10 ∷ []
 
-abbrev pub lies_in : Option Part → Bool
-lies_in None = false
-lies_in (Some part) = part.lies
+abbrev pub conduct_in : Option Part → Conduct
+conduct_in None = record { lies = false; awaits = false }
+conduct_in (Some part) = record { lies = part.lies; awaits = part.awaits }
 
 -- each line behind a mark
-abbrev pub marked_text : (mark : List ℕ) → List Part → (endpoint : ℕ) → Device → List ℕ
-marked_text mark parts endpoint device = mark ++ within_text endpoint device (lies_in (slice_get parts endpoint))
+abbrev pub marked_text : (mark : List ℕ) → List Part → List Line → (endpoint : ℕ) → Device → List ℕ
+marked_text mark parts lines endpoint device =
+    mark ++ within_text lines endpoint device (conduct_in (slice_get parts endpoint))
 
-unfoldable pub budgets_from : (mark : List ℕ) → List Part → (endpoint : ℕ) → List Device → List ℕ
-budgets_from mark parts endpoint [] = []
-budgets_from mark parts endpoint (device ∷ devices) =
-    marked_text mark parts endpoint device ++ budgets_from mark parts (endpoint + 1) devices
+unfoldable pub budgets_from : (mark : List ℕ) → List Part → List Line → (endpoint : ℕ) → List Device → List ℕ
+budgets_from mark parts lines endpoint [] = []
+budgets_from mark parts lines endpoint (device ∷ devices) =
+    marked_text mark parts lines endpoint device ++ budgets_from mark parts lines (endpoint + 1) devices
 
 abbrev pub budgets_text : (mark : List ℕ) → Text → List ℕ
-budgets_text mark text = budgets_from mark text.driver.start.parts 0 text.driver.devices.items
+budgets_text mark text =
+    budgets_from mark text.driver.start.parts text.driver.lines.items 0 text.driver.devices.items
 
 -- ---- What endpoints are at, where a line waits
 
@@ -116,6 +131,27 @@ waiting_at text (Some place) = waiting_told (slice_get text.driver.lines.items p
 abbrev pub waiting_text : Text → Spot → List ℕ
 waiting_text text spot = waiting_at text (waiting_place text spot 0 text.driver.lines.items)
 
+-- each line behind it that waits too: the next one of another thread
+abbrev pub too_text : (thread : List ℕ) → (number : ℕ) → List ℕ
+too_text thread number = codes "# " ++ line_who thread number ++ codes ", waits too\n"
+
+abbrev pub other_text : Spot → (first place : ℕ) → Line → Option Said → List ℕ
+other_text spot first place line None = []
+other_text spot first place line (Some said) =
+    said_if (nat_lt first place && is_next spot place line) (too_text said.thread.items line.number)
+
+unfoldable pub others_from : Text → Spot → (first place : ℕ) → List Line → List ℕ
+others_from text spot first place [] = []
+others_from text spot first place (line ∷ lines) =
+    other_text spot first place line (slice_get text.said.items place) ++ others_from text spot first (place + 1) lines
+
+abbrev pub others_behind : Text → Spot → Option ℕ → List ℕ
+others_behind text spot None = []
+others_behind text spot (Some first) = others_from text spot first 0 text.driver.lines.items
+
+abbrev pub others_text : Text → Spot → List ℕ
+others_text text spot = others_behind text spot (waiting_place text spot 0 text.driver.lines.items)
+
 -- ---- The report
 
 abbrev pub finding_text : Option Wrong → List ℕ
@@ -143,7 +179,8 @@ abbrev pub stuck_text : Text → List Choice → List ℕ
 stuck_text text choices =
     codes "stuck in " ++ events_count (length choices) ++ codes ": "
     ++ waiting_text text (behind text choices)
-    ++ 10 ∷ parts_from 0 (behind text choices).world.parts
+    ++ 10 ∷ others_text text (behind text choices)
+    ++ parts_from 0 (behind text choices).world.parts
     ++ budgets_text (codes "# ") text ++ witness_text text choices
 
 abbrev pub safe_text : Text → (moments : ℕ) → List ℕ

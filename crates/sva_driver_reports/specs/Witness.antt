@@ -1,6 +1,6 @@
 -- A witness as a driver without `race`: its front, and a line for each event, with who acts.
 use Rattle.std.specs.Prelude.{ℕ, zero, suc, ◌+◌, ◌-◌, nat_lt, ◌&&◌, not, if◌then◌else◌, Bool, true, false, List, [], ◌∷◌, ◌++◌, codes, decimal, flat_map}
-use Rattle.std.specs.Prelude.{length, replicate, slice_get, Option, Some, None}
+use Rattle.std.specs.Prelude.{◌||◌, length, replicate, slice_get, Option, Some, None}
 use Rattle.sva_step.specs.declared.limits.Config.{Config}
 use Rattle.sva_open.specs.World.{Part}
 use Rattle.sva_open.specs.declared.acts.Act.TheVariants as act
@@ -21,7 +21,8 @@ use Rattle.sva_judge.specs.Choices.{act_of, next_in}
 use Rattle.sva_judge.specs.Spots.{Spot}
 use Rattle.sva_driver_texts.specs.declared.kept.Said.{Said}
 use Rattle.sva_driver_texts.specs.declared.kept.Text.{Text}
-use Rattle.sva_driver_reports.specs.Events.{and_number, local_text, with_endpoint}
+use Rattle.sva_driver_words.specs.Pieces.{and_number, with_endpoint}
+use Rattle.sva_driver_reports.specs.Events.{local_text}
 
 -- ---- Lines
 
@@ -159,12 +160,18 @@ settings_text settings =
     ++ said_if settings.has_caches (codes "caches on\n")
     ++ stopped_text settings.stopped
 
-abbrev pub lie_text : (endpoint : ℕ) → (lies : Bool) → List ℕ
-lie_text endpoint lies = said_if lies (with_endpoint (codes "device") endpoint ++ codes " lies\n")
+-- the line that says what an endpoint is like
+abbrev pub conduct_line : (endpoint : ℕ) → Part → List ℕ
+conduct_line endpoint part =
+    with_endpoint (codes "device") endpoint
+    ++ said_if part.lies (codes " lies") ++ said_if part.awaits (codes " awaits") ++ codes "\n"
 
-unfoldable pub lies_from : (endpoint : ℕ) → List Part → List ℕ
-lies_from endpoint [] = []
-lies_from endpoint (part ∷ parts) = lie_text endpoint part.lies ++ lies_from (endpoint + 1) parts
+abbrev pub conduct_text : (endpoint : ℕ) → Part → List ℕ
+conduct_text endpoint part = said_if (part.lies || part.awaits) (conduct_line endpoint part)
+
+unfoldable pub conducts_from : (endpoint : ℕ) → List Part → List ℕ
+conducts_from endpoint [] = []
+conducts_from endpoint (part ∷ parts) = conduct_text endpoint part ++ conducts_from (endpoint + 1) parts
 
 -- a line before `race`
 abbrev pub before_text : Option Line → Option Said → List ℕ
@@ -183,5 +190,5 @@ config_text config = codes "config" ++ and_number config.endpoints ++ and_number
 
 abbrev pub front_text : Text → List ℕ
 front_text text =
-    config_text text.config ++ settings_text text.driver.start.settings ++ lies_from 0 text.driver.start.parts
+    config_text text.config ++ settings_text text.driver.start.settings ++ conducts_from 0 text.driver.start.parts
     ++ befores text text.before ++ codes "# race\n"

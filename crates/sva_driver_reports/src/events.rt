@@ -4,11 +4,11 @@ ghost use Rattle.std.specs.Prelude.{◌≡◌, ◌++◌, OnOk, Some, count_by, s
 ghost use Rattle.sva_open_names.specs.Finding as finding;
 ghost use Rattle.sva_driver_reports.specs.Events as events;
 
-use crate::pieces::{
+use std::alloc::AllocError;
+use sva_driver_words::{
     access_text, code_text, kind_text, last_text, put_endpoint, put_older, put_one, put_page,
     put_pasid,
 };
-use std::alloc::AllocError;
 use sva_open::{LocalAct, Part, Sent, Work, before};
 use sva_open_names::{Kind, kind_of};
 

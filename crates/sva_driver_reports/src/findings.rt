@@ -3,8 +3,8 @@
 ghost use Rattle.std.specs.Prelude.{◌≡◌, ◌++◌, OnOk};
 ghost use Rattle.sva_driver_reports.specs.Findings as findings;
 
-use crate::pieces::{put_endpoint, put_one};
 use std::alloc::AllocError;
+use sva_driver_words::{put_endpoint, put_one};
 use sva_open_wrongs::{Thing, Wrong};
 
 fn thing_text(thing: Thing) -> &'static str

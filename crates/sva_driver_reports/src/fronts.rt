@@ -1,12 +1,12 @@
-//! The front of a witness: its config, its settings, who lies, and the lines before `race`.
+//! The front of a witness: its config, its settings, what endpoints are like, and the lines before `race`.
 
 ghost use Rattle.std.specs.Prelude.{◌≡◌, ◌++◌, OnOk, Some, slice_get};
 ghost use Rattle.sva_driver_reports.specs.Witness as witness;
 
-use crate::pieces::{put_endpoint, put_one};
 use crate::witness::{put_line_who, waits};
 use std::alloc::AllocError;
 use sva_driver_texts::{Said, Text};
+use sva_driver_words::{put_endpoint, put_one};
 use sva_judge::Line;
 use sva_open::{Link, Part, Settings, Stopped};
 use sva_step::Config;
@@ -52,23 +52,33 @@ fn put_settings(out: &mut Vec<u8>, settings: &Settings) -> Result<(), AllocError
     Ok(())
 }
 
-/// Appends that an endpoint lies, where it does.
-fn put_lie(out: &mut Vec<u8>, endpoint: usize, part: &Part) -> Result<(), AllocError>
-    ensures { OnOk result (out.new.items ≡ out.old.items ++ witness.lie_text endpoint part.now.lies) }
+/// Appends the line that says what an endpoint is like.
+fn put_conduct_line(out: &mut Vec<u8>, endpoint: usize, part: &Part) -> Result<(), AllocError>
+    ensures { OnOk result (out.new.items ≡ out.old.items ++ witness.conduct_line endpoint part.now) }
 {
-    if !part.lies {
-        return Ok(());
-    }
     put_endpoint(out, b"device", endpoint)?;
-    out.extend_from_slice(b" lies\n")
+    put_if(out, part.lies, b" lies")?;
+    put_if(out, part.awaits, b" awaits")?;
+    out.extend_from_slice(b"\n")?;
+    Ok(())
 }
 
-/// Appends a line for each endpoint that lies.
-fn put_lies(out: &mut Vec<u8>, parts: &[Part]) -> Result<(), AllocError>
-    ensures { OnOk result (out.new.items ≡ out.old.items ++ witness.lies_from 0 parts.now) }
+/// Appends what an endpoint is like, where that has to be said.
+fn put_conduct(out: &mut Vec<u8>, endpoint: usize, part: &Part) -> Result<(), AllocError>
+    ensures { OnOk result (out.new.items ≡ out.old.items ++ witness.conduct_text endpoint part.now) }
+{
+    if part.lies || part.awaits {
+        return put_conduct_line(out, endpoint, part);
+    }
+    Ok(())
+}
+
+/// Appends what each endpoint is like, where that has to be said.
+fn put_conducts(out: &mut Vec<u8>, parts: &[Part]) -> Result<(), AllocError>
+    ensures { OnOk result (out.new.items ≡ out.old.items ++ witness.conducts_from 0 parts.now) }
 {
     for endpoint in 0..parts.len() {
-        put_lie(out, endpoint, &parts[endpoint])?;
+        put_conduct(out, endpoint, &parts[endpoint])?;
     }
     Ok(())
 }
@@ -127,7 +137,7 @@ pub(crate) fn put_front(out: &mut Vec<u8>, text: &Text) -> Result<(), AllocError
 {
     put_config(out, &text.config)?;
     put_settings(out, &text.driver.start.settings)?;
-    put_lies(out, text.driver.start.parts.as_slice())?;
+    put_conducts(out, text.driver.start.parts.as_slice())?;
     put_befores(out, text)?;
     out.extend_from_slice(b"# race\n")
 }

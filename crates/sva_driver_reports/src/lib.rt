@@ -5,10 +5,9 @@ mod events;
 mod findings;
 mod fronts;
 mod notes;
-mod pieces;
 mod reports;
 mod witness;
 
 pub use findings::put_wrong;
-pub use pieces::put_counted;
 pub use reports::{Ruling, put_report, ruling_of};
+pub use sva_driver_words::put_counted;

@@ -5,21 +5,46 @@ ghost use Rattle.sva_judge.specs.Choices as choices;
 ghost use Rattle.sva_driver_reports.specs.Reports as reports;
 
 use crate::fronts::put_if;
-use crate::pieces::{put_counted, put_endpoint, put_one};
 use crate::witness::put_line_who;
 use std::alloc::AllocError;
-use sva_driver_texts::Text;
+use sva_driver_texts::{Text, is_pageless, is_unasked, is_unstarted};
+use sva_driver_words::{put_counted, put_endpoint, put_one};
 use sva_judge::{Device, Line, Spot};
-use sva_open::{Group, Part, Row};
+use sva_open::{Conduct, Group, Part, Row};
 
-/// Appends what an endpoint may do by itself.
-fn put_within(
+/// Appends what can't be made of a budget, and why.
+fn put_unmade(
     out: &mut Vec<u8>,
+    lines: &[Line],
     endpoint: usize,
     device: &Device,
-    lies: bool,
 ) -> Result<(), AllocError>
-    ensures { OnOk result (out.new.items ≡ out.old.items ++ reports.within_text endpoint device.now lies) }
+    ensures { OnOk result (out.new.items
+        ≡ out.old.items ++ reports.unmade_text lines.now endpoint device.now) }
+{
+    if is_unstarted(lines, endpoint, device) {
+        return out.extend_from_slice(b"; none can be made: no line starts a PASID there");
+    }
+    let pageless = is_pageless(device);
+    let unasked = is_unasked(lines, endpoint, device);
+    put_if(
+        out,
+        pageless,
+        b"; no ask or fault can be made: it has no page",
+    )?;
+    put_if(out, unasked, b"; no use can be made: nothing asks there")
+}
+
+/// Appends what an endpoint may do by itself, and what can't be made of it.
+fn put_within(
+    out: &mut Vec<u8>,
+    lines: &[Line],
+    endpoint: usize,
+    device: &Device,
+    conduct: Conduct,
+) -> Result<(), AllocError>
+    ensures { OnOk result (out.new.items
+        ≡ out.old.items ++ reports.within_text lines.now endpoint device.now conduct) }
 {
     put_endpoint(out, b"within endpoint", endpoint)?;
     out.extend_from_slice(b": ")?;
@@ -30,17 +55,25 @@ fn put_within(
     put_counted(out, device.budget.faults, "fault", "faults")?;
     put_if(out, device.evicts, b", evicts")?;
     put_if(out, device.is_silent, b", silent")?;
-    put_if(out, lies, b", lies")?;
+    put_if(out, conduct.lies, b", lies")?;
+    put_if(out, conduct.awaits, b", awaits")?;
+    put_unmade(out, lines, endpoint, device)?;
     out.extend_from_slice(b"\n")?;
     Ok(())
 }
 
-fn lies_in(parts: &[Part], endpoint: usize) -> bool
-    ensures { result ≡ reports.lies_in (slice_get parts.now endpoint) }
+fn conduct_in(parts: &[Part], endpoint: usize) -> Conduct
+    ensures { result ≡ reports.conduct_in (slice_get parts.now endpoint) }
 {
     match parts.get(endpoint) {
-        None => false,
-        Some(part) => part.lies,
+        None => Conduct {
+            lies: false,
+            awaits: false,
+        },
+        Some(part) => Conduct {
+            lies: part.lies,
+            awaits: part.awaits,
+        },
     }
 }
 
@@ -49,14 +82,15 @@ fn put_marked(
     out: &mut Vec<u8>,
     mark: &[u8],
     parts: &[Part],
+    lines: &[Line],
     endpoint: usize,
     device: &Device,
 ) -> Result<(), AllocError>
     ensures { OnOk result (out.new.items ≡ out.old.items
-        ++ reports.marked_text mark.now parts.now endpoint device.now) }
+        ++ reports.marked_text mark.now parts.now lines.now endpoint device.now) }
 {
     out.extend_from_slice(mark)?;
-    put_within(out, endpoint, device, lies_in(parts, endpoint))
+    put_within(out, lines, endpoint, device, conduct_in(parts, endpoint))
 }
 
 /// Appends what each endpoint may do by itself, each line behind a mark.
@@ -64,12 +98,14 @@ fn put_all_budgets(
     out: &mut Vec<u8>,
     mark: &[u8],
     parts: &[Part],
+    lines: &[Line],
     devices: &[Device],
 ) -> Result<(), AllocError>
-    ensures { OnOk result (out.new.items ≡ out.old.items ++ reports.budgets_from mark.now parts.now 0 devices.now) }
+    ensures { OnOk result (out.new.items
+        ≡ out.old.items ++ reports.budgets_from mark.now parts.now lines.now 0 devices.now) }
 {
     for endpoint in 0..devices.len() {
-        put_marked(out, mark, parts, endpoint, &devices[endpoint])?;
+        put_marked(out, mark, parts, lines, endpoint, &devices[endpoint])?;
     }
     Ok(())
 }
@@ -82,6 +118,7 @@ pub(crate) fn put_budgets(out: &mut Vec<u8>, mark: &[u8], text: &Text) -> Result
         out,
         mark,
         text.driver.start.parts.as_slice(),
+        text.driver.lines.as_slice(),
         text.driver.devices.as_slice(),
     )
 }
@@ -258,5 +295,63 @@ pub(crate) fn put_waiting(out: &mut Vec<u8>, text: &Text, spot: &Spot) -> Result
     match waiting_place(text, spot, text.driver.lines.as_slice()) {
         None => Ok(()),
         Some(place) => put_waiting_at(out, text, place),
+    }
+}
+
+/// Appends that a line waits too.
+fn put_too(out: &mut Vec<u8>, thread: &[u8], number: u64) -> Result<(), AllocError>
+    ensures { OnOk result (out.new.items ≡ out.old.items ++ reports.too_text thread.now number) }
+{
+    out.extend_from_slice(b"# ")?;
+    put_line_who(out, thread, number)?;
+    out.extend_from_slice(b", waits too\n")
+}
+
+/// Appends that the line at a place waits too, if it does and stands behind the first one.
+fn put_other(
+    out: &mut Vec<u8>,
+    text: &Text,
+    spot: &Spot,
+    first: usize,
+    place: usize,
+    line: &Line,
+) -> Result<(), AllocError>
+    ensures { OnOk result (out.new.items ≡ out.old.items
+        ++ reports.other_text spot.now first place line.now (slice_get text.now.said.items place)) }
+{
+    let Some(said) = text.said.get(place) else {
+        return Ok(());
+    };
+    if first < place && is_next(spot, place, line) {
+        return put_too(out, said.thread.as_slice(), line.number);
+    }
+    Ok(())
+}
+
+/// Appends each line behind the first one that waits too, of these.
+fn put_others_behind(
+    out: &mut Vec<u8>,
+    text: &Text,
+    spot: &Spot,
+    first: usize,
+    lines: &[Line],
+) -> Result<(), AllocError>
+    ensures { OnOk result (out.new.items
+        ≡ out.old.items ++ reports.others_from text.now spot.now first 0 lines.now) }
+{
+    for place in 0..lines.len() {
+        put_other(out, text, spot, first, place, &lines[place])?;
+    }
+    Ok(())
+}
+
+/// Appends the other lines that wait.
+pub(crate) fn put_others(out: &mut Vec<u8>, text: &Text, spot: &Spot) -> Result<(), AllocError>
+    ensures { OnOk result (out.new.items ≡ out.old.items ++ reports.others_text text.now spot.now) }
+{
+    let lines = text.driver.lines.as_slice();
+    match waiting_place(text, spot, lines) {
+        None => Ok(()),
+        Some(first) => put_others_behind(out, text, spot, first, lines),
     }
 }

@@ -6,11 +6,11 @@ ghost use Rattle.sva_driver_reports.specs.Reports as reports;
 
 use crate::findings::put_wrong;
 use crate::fronts::put_front;
-use crate::notes::{put_budgets, put_state, put_waiting};
-use crate::pieces::put_counted;
+use crate::notes::{put_budgets, put_others, put_state, put_waiting};
 use crate::witness::{Event, events_of, put_events};
 use std::alloc::{AllocError, Global};
 use sva_driver_texts::Text;
+use sva_driver_words::put_counted;
 use sva_judge::{Choice, Spot, Verdict, start};
 use sva_open_wrongs::first_wrong;
 
@@ -98,6 +98,7 @@ fn put_stuck(
     out.extend_from_slice(b": ")?;
     put_waiting(out, text, &spot)?;
     out.extend_from_slice(b"\n")?;
+    put_others(out, text, &spot)?;
     put_state(out, &spot)?;
     put_budgets(out, b"# ", text)?;
     put_witness(out, text, events.as_slice())?;

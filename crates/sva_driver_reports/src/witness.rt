@@ -4,10 +4,10 @@ ghost use Rattle.std.specs.Prelude.{◌≡◌, ◌++◌, ◌-◌, ◌∷◌, IfO
 ghost use Rattle.sva_driver_reports.specs.Witness as witness;
 
 use crate::events::put_act;
-use crate::pieces::put_endpoint;
 use std::alloc::{AllocError, Global};
 use std::marker::Model;
 use sva_driver_texts::{Said, Text};
+use sva_driver_words::put_endpoint;
 use sva_judge::{Choice, Doing, Line, Saying, Spot, act_of, take};
 use sva_open::{Act, LocalAct, Part};
 use sva_script_reading::put_number;

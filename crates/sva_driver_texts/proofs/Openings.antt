@@ -3,24 +3,27 @@ use Rattle.std.proofs.Common.{◌≡◌, ◌∙◌, ap, refl, subst, sym, ℕ, B
 use Rattle.std.proofs.lemmas.List.{length-map}
 use Rattle.sva_step.specs.declared.limits.Config.{Config}
 use Rattle.sva_open.specs.World.{Open, opened}
+use Rattle.sva_open.specs.declared.settings.Conduct.{Conduct}
 use Rattle.sva_open.specs.declared.settings.Settings.{Settings}
 use Rattle.sva_judge.specs.declared.drivers.Driver.{Driver}
 use Rattle.sva_driver_lines.specs.declared.kept.DeviceRead.{DeviceRead}
 use Rattle.sva_driver_lines.specs.Devices.{device_seen}
 use Rattle.sva_driver_lines.specs.Readings.{Reading}
-use Rattle.sva_driver_texts.specs.Texts.{IsOpening, lies_of}
+use Rattle.sva_driver_texts.specs.Texts.{IsOpening, conduct_of}
 
 pub map_twice : {A B C : Type 0} (g : B → C) (f : A → B) (xs : List A) → map (λ x. g (f x)) xs ≡ map g (map f xs)
 map_twice g f [] = refl
 map_twice g f (x ∷ xs) = ap (λ rest. g (f x) ∷ rest) (map_twice g f xs)
 
--- the world, by which endpoints lie, and by how many PASIDs they have
+-- the world, by the conduct of endpoints, and by how many PASIDs they have
 pub start_by : (config : Config) (settings : Settings) (own devices : List DeviceRead) (pasids some : ℕ) (now : Open)
-    → now ≡ opened settings (map (λ (device : DeviceRead). device.lies) own) some config.frames → own ≡ devices → some ≡ pasids
-    → now ≡ opened settings (map lies_of (map device_seen devices)) pasids config.frames
+    → now ≡ opened settings (map (λ (device : DeviceRead). conduct_of (device_seen device)) own) some config.frames
+    → own ≡ devices → some ≡ pasids
+    → now ≡ opened settings (map conduct_of (map device_seen devices)) pasids config.frames
 start_by config settings own devices pasids some now is same as_many =
-    is ∙ (λ i. opened settings (map (λ (device : DeviceRead). device.lies) (same i)) (as_many i) config.frames)
-    ∙ ap (λ lies. opened settings lies pasids config.frames) (map_twice lies_of device_seen devices)
+    let conducts : List DeviceRead → List Conduct = λ own. map (λ device. conduct_of (device_seen device)) own in
+    is ∙ (λ i. opened settings (conducts (same i)) (as_many i) config.frames)
+    ∙ ap (λ conducts. opened settings conducts pasids config.frames) (map_twice conduct_of device_seen devices)
 
 -- as many as there are in a list
 pub as_many : {A B : Type 0} (seen : A → B) (xs : List A) (list : List Bool) (count : ℕ) → list ≡ replicate count false → count ≡ length xs

@@ -14,6 +14,7 @@ use Rattle.sva_script_reading.specs.Faults as scripts
 use Rattle.sva_script_reading.specs.Faults.{Fault}
 use Rattle.sva_race_words.specs.declared.faults.RaceWanted.TheVariants as race
 use Rattle.sva_open.specs.World.{Open, opened}
+use Rattle.sva_open.specs.declared.settings.Conduct.{Conduct}
 use Rattle.sva_judge.specs.declared.choices.Choice.{Choice}
 use Rattle.sva_judge.specs.declared.choices.Doing.TheVariants as doing
 use Rattle.sva_judge.specs.declared.drivers.Driver.{Driver}
@@ -64,11 +65,12 @@ told_seen said = record { thread = said.thread.items; text = said.text.items }
 
 -- ---- The world in which nothing was done yet
 
-abbrev pub lies_of : DeviceSaid → Bool
-lies_of device = device.lies
+abbrev pub conduct_of : DeviceSaid → Conduct
+conduct_of device = record { lies = device.lies; awaits = device.awaits }
 
 abbrev pub opened_by : Config → Reading → Open
-opened_by config reading = opened reading.settings (map lies_of reading.devices) (pasids_of reading.lines) config.frames
+opened_by config reading =
+    opened reading.settings (map conduct_of reading.devices) (pasids_of reading.lines) config.frames
 
 abbrev pub workers_or : Option Workers → Workers
 workers_or workers = unwrap_or workers no_workers

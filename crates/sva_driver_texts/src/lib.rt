@@ -1,6 +1,7 @@
 //! A text as a driver: what its lines say, and the world behind those that stand before `race`.
 #![tactic(auto)]
 
+mod budgets;
 mod first;
 mod kept;
 mod opening;
@@ -8,6 +9,7 @@ mod pasids;
 mod plans;
 mod texts;
 
+pub use budgets::{is_pageless, is_unasked, is_unstarted};
 pub use first::{choose_line, take_lines};
 pub use kept::{Read, Said, Text};
 pub use opening::opening_of;

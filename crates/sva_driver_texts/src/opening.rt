@@ -3,7 +3,9 @@
 ghost use Rattle.std.specs.Prelude.{◌≡◌, IfOk, false, map, replicate};
 ghost use Rattle.sva_open.specs.World.{opened};
 ghost use Rattle.sva_driver_acts.specs.Awaits.{line_seen};
+ghost use Rattle.sva_driver_lines.specs.Devices.{device_seen};
 ghost use Rattle.sva_driver_texts.specs.Texts as texts;
+ghost use Rattle.sva_driver_texts.specs.Texts.{conduct_of};
 
 use crate::kept::Said;
 use crate::pasids::pasids_of;
@@ -12,7 +14,7 @@ use std::alloc::{AllocError, Global};
 use sva_driver_acts::LineRead;
 use sva_driver_lines::{DeviceRead, Reading};
 use sva_judge::{Driver, Line, Workers};
-use sva_open::{Open, Settings};
+use sva_open::{Conduct, Open, Settings};
 use sva_step::Config;
 
 /// So many times `false`.
@@ -26,15 +28,18 @@ fn falses(alloc: Global, count: usize) -> Result<Vec<bool>, AllocError>
     Ok(list)
 }
 
-/// Of each endpoint, whether it lies.
-fn lies_of(alloc: Global, devices: &[DeviceRead]) -> Result<Vec<bool>, AllocError>
-    ensures { IfOk result (λ lies. lies.items ≡ map (λ device. device.lies) devices.now) }
+/// The conduct of each endpoint.
+fn conducts_of(alloc: Global, devices: &[DeviceRead]) -> Result<Vec<Conduct>, AllocError>
+    ensures { IfOk result (λ conducts. conducts.items ≡ map (λ device. conduct_of (device_seen device)) devices.now) }
 {
-    let mut lies = Vec::new(alloc);
+    let mut conducts = Vec::new(alloc);
     for device in devices {
-        lies.push(device.lies)?;
+        conducts.push(Conduct {
+            lies: device.lies,
+            awaits: device.awaits,
+        })?;
     }
-    Ok(lies)
+    Ok(conducts)
 }
 
 /// The world in which nothing was done yet.
@@ -46,13 +51,13 @@ fn opened_by(
     pasids: usize,
 ) -> Result<Open, AllocError>
     ensures { IfOk result (λ now. now
-        ≡ opened settings (map (λ device. device.lies) devices.now) pasids config.now.frames) }
+        ≡ opened settings (map (λ device. conduct_of (device_seen device)) devices.now) pasids config.now.frames) }
 {
-    let lies = lies_of(alloc, devices)?;
+    let conducts = conducts_of(alloc, devices)?;
     Open::new(
         alloc,
         settings,
-        lies.as_slice(),
+        conducts.as_slice(),
         pasids,
         config.frames as usize,
     )

@@ -10,6 +10,8 @@ use Rattle.sva_race_words.specs.Faults as races
 use Rattle.sva_race_words.specs.declared.faults.RaceWanted.TheVariants as race
 use Rattle.sva_driver_words.specs.declared.faults.DriverWanted.{DriverWanted}
 use Rattle.sva_driver_words.specs.declared.faults.DriverWanted.TheVariants as wanted
+use Rattle.sva_driver_words.specs.declared.faults.SubmitWanted.{SubmitWanted}
+use Rattle.sva_driver_words.specs.declared.faults.SubmitWanted.TheVariants as submit
 use Rattle.sva_driver_words.specs.declared.faults.DriverWrong.{DriverWrong}
 
 -- what a line is read as that is wrong at this word
@@ -27,10 +29,20 @@ placed start (Err wrong) = lacking (start + wrong.at) wrong.wanted
 
 -- ---- What was wanted; what a race's line wants is told as of a race
 
+-- of descriptors
+abbrev pub submit_text : SubmitWanted → List ℕ
+submit_text submit.Few = codes "no more than 64 descriptors"
+submit_text submit.PlusOrEnd = codes "+ or no further word"
+submit_text submit.PageOrPlus = codes "the number of a page or +"
+submit_text submit.FlagOrPlus = codes "drain, fence or +"
+submit_text submit.FenceOrPlus = codes "fence or +"
+submit_text submit.DrainOrPlus = codes "drain or +"
+
 abbrev pub wanted_text : DriverWanted → List ℕ
 wanted_text (wanted.Race want) = codes ""
 wanted_text wanted.Before = codes "an act, a setting, workers, device or race"
 wanted_text wanted.Behind = codes "an act, thread, workers or device"
+wanted_text wanted.Act = codes "an act"
 wanted_text wanted.NoRace = codes "no second race"
 wanted_text wanted.Earlier = codes "an act or race: settings stand before the first act"
 wanted_text wanted.NoAnswer = codes "no answer: a driver is judged, not compared"
@@ -41,6 +53,7 @@ wanted_text wanted.Drain = codes "empty or arrived"
 wanted_text wanted.Caches = codes "off or on"
 wanted_text wanted.Stopped = codes "marker, status or known"
 wanted_text wanted.Frame = codes "a frame of the config"
+wanted_text wanted.Freed = codes "a frame of the config, space or pasid"
 wanted_text wanted.Pasid = codes "a PASID, 1 to 32"
 wanted_text wanted.Space = codes "a space, 0 to 63"
 wanted_text wanted.SpaceOrNone = codes "a space, 0 to 63, or none"
@@ -55,12 +68,12 @@ wanted_text wanted.GroupOrNew = codes "new or the index of a group"
 wanted_text wanted.MoreOrLast = codes "more or last"
 wanted_text wanted.Code = codes "success, invalid or failure"
 wanted_text wanted.Kind = codes "the kind of a message"
+wanted_text (wanted.Submit want) = submit_text want
 wanted_text wanted.Descriptor = codes "range, pasid, iotlb, entry or wait"
-wanted_text wanted.DrainOrFence = codes "drain, fence or +"
 wanted_text wanted.Awaited = codes "wait, stopped, queue, groups, reset or the name of a line above"
 wanted_text wanted.WaitAbove = codes "an endpoint at which a line above in this thread submits a wait"
 wanted_text wanted.Lock = codes "the name of a lock"
-wanted_text wanted.Part = codes "a number, 0 to 65535, evicts, silent, lies or pages"
+wanted_text wanted.Part = codes "a number, 0 to 65535, evicts, silent, lies, awaits or pages"
 wanted_text wanted.Counted = codes "asks, uses or faults"
 wanted_text wanted.Permitted = codes "an act that is permitted now"
 
@@ -90,13 +103,19 @@ more_kind_words = codes "status" ∷ []
 unfoldable pub descriptor_words : List (List ℕ)
 descriptor_words = codes "range" ∷ codes "pasid" ∷ codes "iotlb" ∷ codes "entry" ∷ codes "wait" ∷ []
 
+-- the words that begin what is freed, where it isn't a frame
+unfoldable pub freed_words : List (List ℕ)
+freed_words = codes "space" ∷ codes "pasid" ∷ []
+
 -- the word that is near to the wrong one, of those that were wanted
 abbrev pub near_wanted : Known → (word : List ℕ) → DriverWanted → Option (List ℕ)
 near_wanted known word wanted.Before =
     or_else (near_among act_words word) (or_else (near_among setting_words word) (near_among before_words word))
 near_wanted known word wanted.Behind = or_else (near_among act_words word) (near_among behind_words word)
+near_wanted known word wanted.Act = near_among act_words word
 near_wanted known word wanted.Kind = or_else (near_among kind_words word) (near_among more_kind_words word)
 near_wanted known word wanted.Descriptor = near_among descriptor_words word
+near_wanted known word wanted.Freed = near_among freed_words word
 near_wanted known word wanted.Awaited = near_name known word
 near_wanted known word _ = None
 

@@ -40,8 +40,11 @@ abbrev pub space_at : (at : ℕ) → DriverWanted → List (List ℕ) → Result
 space_at at want words = number_at 0 64 at want words
 
 -- pages have numbers below 2^36
+abbrev pub page_by : (at : ℕ) → DriverWanted → List (List ℕ) → Result ℕ DriverWrong
+page_by at want words = number_at 0 68719476736 at want words
+
 abbrev pub page_at : (at : ℕ) → List (List ℕ) → Result ℕ DriverWrong
-page_at at words = number_at 0 68719476736 at wanted.Page words
+page_at at words = page_by at wanted.Page words
 
 abbrev pub order_at : (at : ℕ) → List (List ℕ) → Result ℕ DriverWrong
 order_at at words = number_at 0 10 at wanted.Order words

@@ -3,8 +3,8 @@
 ghost use Rattle.std.specs.Prelude.{◌≡◌, ◌++◌, ◌∷◌, [], OnOk, Some, codes, decimal, map, option_map};
 ghost use Rattle.std.specs.Prelude.{slice_get};
 ghost use Rattle.sva_driver_words.specs.Faults.{act_words, behind_words, before_words, descriptor_words, fault_text};
-ghost use Rattle.sva_driver_words.specs.Faults.{more_kind_words, near_wanted, no_more};
-ghost use Rattle.sva_driver_words.specs.Faults.{setting_words, wanted_text, where_text};
+ghost use Rattle.sva_driver_words.specs.Faults.{freed_words, more_kind_words, near_wanted, no_more};
+ghost use Rattle.sva_driver_words.specs.Faults.{setting_words, submit_text, wanted_text, where_text};
 ghost use Rattle.sva_race_words.specs.ScriptFaults.{or_else};
 ghost use Rattle.sva_words.specs.Near.{near_among};
 ghost use Rattle.sva_words.specs.Reserved.{kind_words};
@@ -16,6 +16,23 @@ use sva_race_words::{
 use sva_script::{Names, Wanted};
 use sva_words::near_kind;
 
+/// What was wanted where a line that submits descriptors is wrong.
+#[derive(Clone, Copy)]
+pub enum SubmitWanted {
+    /// No more than the queue has places for.
+    Few,
+    /// The next descriptor, or no further word.
+    PlusOrEnd,
+    /// The number of a page, or the next descriptor.
+    PageOrPlus,
+    /// What a wait may have, or the next descriptor.
+    FlagOrPlus,
+    /// What a wait with `drain` may have, or the next descriptor.
+    FenceOrPlus,
+    /// What a wait with `fence` may have, or the next descriptor.
+    DrainOrPlus,
+}
+
 /// What was wanted where a line is wrong.
 #[derive(Clone, Copy)]
 pub enum DriverWanted {
@@ -25,6 +42,8 @@ pub enum DriverWanted {
     Before,
     /// A line behind `race`.
     Behind,
+    /// An act: it stands behind a name.
+    Act,
     /// No further `race`.
     NoRace,
     /// An act or `race`: settings stand before the first act.
@@ -45,6 +64,8 @@ pub enum DriverWanted {
     Stopped,
     /// A frame that the config has.
     Frame,
+    /// What may be freed.
+    Freed,
     /// A PASID.
     Pasid,
     /// A space.
@@ -73,10 +94,10 @@ pub enum DriverWanted {
     Code,
     /// The kind of a message.
     Kind,
+    /// What a line wants that submits descriptors.
+    Submit(SubmitWanted),
     /// A descriptor.
     Descriptor,
-    /// What a wait may have, or the next descriptor.
-    DrainOrFence,
     /// What may be awaited.
     Awaited,
     /// An endpoint at which this thread has submitted a wait.
@@ -130,6 +151,20 @@ pub fn judge_end(words: &[&[u8]], count: usize) -> Result<(), DriverWrong>
     Ok(())
 }
 
+/// What a line wanted that submits descriptors, in words.
+fn submit_words(wanted: &SubmitWanted) -> &'static str
+    ensures { result.now ≡ submit_text wanted.now }
+{
+    match wanted {
+        SubmitWanted::Few => "no more than 64 descriptors",
+        SubmitWanted::PlusOrEnd => "+ or no further word",
+        SubmitWanted::PageOrPlus => "the number of a page or +",
+        SubmitWanted::FlagOrPlus => "drain, fence or +",
+        SubmitWanted::FenceOrPlus => "fence or +",
+        SubmitWanted::DrainOrPlus => "drain or +",
+    }
+}
+
 /// What was wanted, in words.
 fn words_of(wanted: &DriverWanted) -> &'static str
     ensures { result.now ≡ wanted_text wanted.now }
@@ -138,6 +173,7 @@ fn words_of(wanted: &DriverWanted) -> &'static str
         DriverWanted::Race(_) => "",
         DriverWanted::Before => "an act, a setting, workers, device or race",
         DriverWanted::Behind => "an act, thread, workers or device",
+        DriverWanted::Act => "an act",
         DriverWanted::NoRace => "no second race",
         DriverWanted::Earlier => "an act or race: settings stand before the first act",
         DriverWanted::NoAnswer => "no answer: a driver is judged, not compared",
@@ -148,6 +184,7 @@ fn words_of(wanted: &DriverWanted) -> &'static str
         DriverWanted::Caches => "off or on",
         DriverWanted::Stopped => "marker, status or known",
         DriverWanted::Frame => "a frame of the config",
+        DriverWanted::Freed => "a frame of the config, space or pasid",
         DriverWanted::Pasid => "a PASID, 1 to 32",
         DriverWanted::Space => "a space, 0 to 63",
         DriverWanted::SpaceOrNone => "a space, 0 to 63, or none",
@@ -162,13 +199,13 @@ fn words_of(wanted: &DriverWanted) -> &'static str
         DriverWanted::MoreOrLast => "more or last",
         DriverWanted::Code => "success, invalid or failure",
         DriverWanted::Kind => "the kind of a message",
+        DriverWanted::Submit(wanted) => submit_words(wanted),
         DriverWanted::Descriptor => "range, pasid, iotlb, entry or wait",
-        DriverWanted::DrainOrFence => "drain, fence or +",
         DriverWanted::Awaited => "wait, stopped, queue, groups, reset or the name of a line above",
         DriverWanted::WaitAbove =>
             "an endpoint at which a line above in this thread submits a wait",
         DriverWanted::Lock => "the name of a lock",
-        DriverWanted::Part => "a number, 0 to 65535, evicts, silent, lies or pages",
+        DriverWanted::Part => "a number, 0 to 65535, evicts, silent, lies, awaits or pages",
         DriverWanted::Counted => "asks, uses or faults",
         DriverWanted::Permitted => "an act that is permitted now",
     }
@@ -195,6 +232,9 @@ const MORE_KINDS: [&[u8]; 1] = [b"status"];
 
 /// The words that begin a descriptor.
 const DESCRIPTOR_WORDS: [&[u8]; 5] = [b"range", b"pasid", b"iotlb", b"entry", b"wait"];
+
+/// The words that begin what is freed, where it isn't a frame.
+const FREED_WORDS: [&[u8]; 2] = [b"space", b"pasid"];
 
 fn near_act(word: &[u8]) -> Option<&'static [u8]>
     ensures { option_map (λ near. near.now) result ≡ near_among act_words word.now }
@@ -230,6 +270,12 @@ fn near_descriptor(word: &[u8]) -> Option<&'static [u8]>
     ensures { option_map (λ near. near.now) result ≡ near_among descriptor_words word.now }
 {
     first_near(&DESCRIPTOR_WORDS, word)
+}
+
+fn near_freed(word: &[u8]) -> Option<&'static [u8]>
+    ensures { option_map (λ near. near.now) result ≡ near_among freed_words word.now }
+{
+    first_near(&FREED_WORDS, word)
 }
 
 /// The word that begins a line before `race`, and is near to a wrong one.
@@ -275,8 +321,10 @@ fn near<'n>(wanted: &DriverWanted, names: &'n Names, word: &[u8]) -> Option<&'n 
     match wanted {
         DriverWanted::Before => near_before(word),
         DriverWanted::Behind => near_behind(word),
+        DriverWanted::Act => near_act(word),
         DriverWanted::Kind => near_any_kind(word),
         DriverWanted::Descriptor => near_descriptor(word),
+        DriverWanted::Freed => near_freed(word),
         DriverWanted::Awaited => names.near(word),
         _ => None,
     }

@@ -83,11 +83,18 @@ pub fn space_at(words: &[&[u8]], at: usize, wanted: DriverWanted) -> Result<u64,
     number_at(words, at, 0, 64, wanted)
 }
 
-/// The number of a page, below 2^36.
+/// The number of a page, below 2^36; where something else may stand there too, that is wanted as well.
+pub fn page_by(words: &[&[u8]], at: usize, wanted: DriverWanted) -> Result<u64, DriverWrong>
+    ensures { result ≡ field.page_by at wanted (map (λ word. word.now) words.now) }
+{
+    number_at(words, at, 0, 68_719_476_736, wanted)
+}
+
+/// The number of a page.
 pub fn page_at(words: &[&[u8]], at: usize) -> Result<u64, DriverWrong>
     ensures { result ≡ field.page_at at (map (λ word. word.now) words.now) }
 {
-    number_at(words, at, 0, 68_719_476_736, DriverWanted::Page)
+    page_by(words, at, DriverWanted::Page)
 }
 
 /// The order of a range, 0 to 9.

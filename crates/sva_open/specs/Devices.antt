@@ -85,10 +85,11 @@ finish part place (Some (Taken itag scope)) =
     if_so (part.lies || not (list_any (is_use_of scope) (take place part.works)))
     (sent (record part { works = remove part.works place }) 0 part.time (message.Invalidated itag))
 
--- is there something unfinished under the PASID: a group, a request that is out, or a use?
-abbrev pub is_unfinished : (pasid : ℕ) → Option Group → Bool
-is_unfinished pasid None = false
-is_unfinished pasid (Some group) = not group.is_finished && (group.pasid == pasid)
+-- Has something under the PASID to end yet: a group, a request that is out, or a use? A group ends with its last
+-- request; that of an endpoint which awaits its responses, with its response (PCI Express Base 5.0, section 10.4.1.2).
+abbrev pub is_unended : (awaits : Bool) → (pasid : ℕ) → Option Group → Bool
+is_unended awaits pasid None = false
+is_unended awaits pasid (Some group) = (awaits || not group.is_finished) && (group.pasid == pasid)
 
 abbrev pub asks_under : (pasid : ℕ) → Option Request → Bool
 asks_under pasid None = false
@@ -100,7 +101,8 @@ is_use_under pasid (Taken itag scope) = false
 
 abbrev pub is_busy : Part → (pasid : ℕ) → Bool
 is_busy part pasid =
-    list_any (is_unfinished pasid) part.groups || (list_any (asks_under pasid) part.requests || list_any (is_use_under pasid) part.works)
+    list_any (is_unended part.awaits pasid) part.groups
+    || (list_any (asks_under pasid) part.requests || list_any (is_use_under pasid) part.works)
 
 -- by what the endpoint says that it has stopped
 abbrev pub said : Stopped → Part → (pasid : ℕ) → Row → Part

@@ -21,6 +21,7 @@ use Rattle.sva_open.specs.declared.descriptors.Descriptor.{Descriptor}
 use Rattle.sva_open.specs.declared.descriptors.Issued.{Issued}
 use Rattle.sva_open.specs.declared.descriptors.Arrived.{Arrived}
 use Rattle.sva_open.specs.declared.descriptors.Filed.{Filed}
+use Rattle.sva_open.specs.declared.settings.Conduct.{Conduct}
 use Rattle.sva_open.specs.declared.settings.Settings.{Settings}
 
 -- an endpoint with its unit and its link
@@ -39,6 +40,8 @@ pub record Part : Type 0 where
   pub is_enabled : Bool
   -- may it complete an invalidation while a use runs that this has to await?
   pub lies : Bool
+  -- does it await the responses to its page requests before it says that it has stopped?
+  pub awaits : Bool
   -- how many resets have come to it
   pub time : ℕ
   -- the messages in flight, the oldest first
@@ -167,9 +170,9 @@ untouched = record { given = 0; frozen = 0 }
 abbrev pub blank : Row
 blank = record { entry = None; owner = 0; space = None; answer = None; state = Off; user = 0 }
 
--- an endpoint, and whether it lies; its PASIDs are below a number
-abbrev pub part_opened : (pasids : ℕ) → (lies : Bool) → Part
-part_opened pasids lies =
+-- an endpoint of a conduct; its PASIDs are below a number
+abbrev pub part_opened : (pasids : ℕ) → Conduct → Part
+part_opened pasids conduct =
     record {
       rows = replicate pasids blank;
       requests = [];
@@ -177,7 +180,8 @@ part_opened pasids lies =
       works = [];
       groups = [];
       is_enabled = true;
-      lies = lies;
+      lies = conduct.lies;
+      awaits = conduct.awaits;
       time = 0;
       flight = [];
       is_open = true;
@@ -189,12 +193,12 @@ part_opened pasids lies =
       filed = [];
     }
 
-abbrev pub opened : Settings → (lies : List Bool) → (pasids frames : ℕ) → Open
-opened settings lies pasids frames =
+abbrev pub opened : Settings → List Conduct → (pasids frames : ℕ) → Open
+opened settings conducts pasids frames =
     record {
       settings = settings;
       mappings = [];
       frames = replicate frames untouched;
       freed = [];
-      parts = map (part_opened pasids) lies;
+      parts = map (part_opened pasids) conducts;
     }

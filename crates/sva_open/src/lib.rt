@@ -24,5 +24,5 @@ pub use opens::Open;
 pub use parts::Part;
 pub use rows::{Entry, KeptEntry, Row, State};
 pub use scopes::Scope;
-pub use settings::{Link, Settings, Stopped};
+pub use settings::{Conduct, Link, Settings, Stopped};
 pub use works::{Group, Request, Work};

@@ -22,6 +22,7 @@ pub struct Part {
     pub groups: Vec<Option<Group>>,
     pub is_enabled: bool,
     pub lies: bool,
+    pub awaits: bool,
     pub time: u64,
     pub flight: Vec<Sent>,
     pub is_open: bool,
@@ -46,6 +47,7 @@ impl Model for Part {
       groups = part.groups.items;
       is_enabled = part.is_enabled;
       lies = part.lies;
+      awaits = part.awaits;
       time = part.time;
       flight = part.flight.items;
       is_open = part.is_open;

@@ -20,6 +20,15 @@ pub enum Stopped {
     Known,
 }
 
+/// How an endpoint goes about invalidations and stops.
+#[derive(Clone, Copy, PartialEq, Eq)]
+pub struct Conduct {
+    /// Whether it may complete an invalidation while a use runs that this has to await.
+    pub lies: bool,
+    /// Whether it awaits the responses to its page requests before it says that it has stopped.
+    pub awaits: bool,
+}
+
 /// What a platform is like.
 #[derive(Clone, Copy, PartialEq, Eq)]
 pub struct Settings {

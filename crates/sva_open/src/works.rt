@@ -42,6 +42,19 @@ pub struct Group {
     pub is_finished: bool,
 }
 
+impl Group {
+    ghost use Rattle.std.specs.Prelude.{◌≡◌, Some};
+    ghost use Rattle.sva_open.specs.Devices.{is_unended};
+
+    /// Whether it is of a PASID, and has to end before the endpoint says that it has stopped: with its last request,
+    /// or with its response where the endpoint awaits that.
+    pub fn is_unended(&self, awaits: bool, pasid: usize) -> bool
+        ensures { result ≡ is_unended awaits pasid (Some self.now) }
+    {
+        (awaits || !self.is_finished) && self.pasid == pasid
+    }
+}
+
 /// What an endpoint is at: a use of a translation, or an invalidation that was taken and isn't completed.
 #[derive(Clone, Copy, PartialEq, Eq)]
 pub enum Work {

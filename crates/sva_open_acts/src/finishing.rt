@@ -55,7 +55,7 @@ pub(crate) fn quit(part: &mut Part, stopped: Stopped, pasid: usize) -> Result<bo
 fn is_busy(part: &Part, pasid: usize) -> bool
     ensures { result ≡ device.is_busy part.now pasid }
 {
-    has_unfinished(part.groups.as_slice(), pasid)
+    has_unended(part.groups.as_slice(), part.awaits, pasid)
         || has_asked(part.requests.as_slice(), pasid)
         || is_using(part.works.as_slice(), pasid)
 }
@@ -97,19 +97,19 @@ fn is_used(works: &[Work], scope: &Scope) -> bool
     works.iter().any(|one| one.is_use_of(scope))
 }
 
-fn is_unfinished(group: &Option<Group>, pasid: usize) -> bool
-    ensures { result ≡ device.is_unfinished pasid group.now }
+fn is_unended(group: &Option<Group>, awaits: bool, pasid: usize) -> bool
+    ensures { result ≡ device.is_unended awaits pasid group.now }
 {
     match group {
         None => false,
-        Some(group) => !group.is_finished && group.pasid == pasid,
+        Some(group) => group.is_unended(awaits, pasid),
     }
 }
 
-fn has_unfinished(groups: &[Option<Group>], pasid: usize) -> bool
-    ensures { result ≡ list_any (device.is_unfinished pasid) groups.now }
+fn has_unended(groups: &[Option<Group>], awaits: bool, pasid: usize) -> bool
+    ensures { result ≡ list_any (device.is_unended awaits pasid) groups.now }
 {
-    groups.iter().any(|group| is_unfinished(group, pasid))
+    groups.iter().any(|group| is_unended(group, awaits, pasid))
 }
 
 fn asks_under(request: &Option<Request>, pasid: usize) -> bool

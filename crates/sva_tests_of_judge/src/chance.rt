@@ -4,7 +4,7 @@ use crate::plans::{Plan, budget, nobody, of_all, of_page, some};
 use std::alloc::Global;
 use std::process::Abort;
 use sva_judge::Judging;
-use sva_open::{Act, Link, LocalAct, Settings, Stopped};
+use sva_open::{Act, Conduct, Link, LocalAct, Settings, Stopped};
 
 /// Numbers by chance, the same ones from the same seed.
 #[derive(Drop)]
@@ -185,7 +185,11 @@ fn order(dice: &mut Dice) -> &'static [Step] {
 /// A driver by chance.
 pub(crate) fn driver<R: Abort>(rt: &R, alloc: Global, dice: &mut Dice) -> Judging {
     let settings = settings(dice);
-    let mut plan = Plan::new(rt, alloc, settings, dice.once_in(6));
+    let conduct = Conduct {
+        lies: dice.once_in(6),
+        awaits: dice.once_in(3),
+    };
+    let mut plan = Plan::new(rt, alloc, settings, conduct);
     let mut wait = None;
     let mut late = None;
     for step in order(dice) {

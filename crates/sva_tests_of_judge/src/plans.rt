@@ -4,7 +4,7 @@ use crate::asserted::holds;
 use std::alloc::Global;
 use std::process::Abort;
 use sva_judge::{Budget, Device, Driver, Fault, Judging, Line, Page, Saying, Workers};
-use sva_open::{Act, Descriptor, LocalAct, Open, Scope, Settings};
+use sva_open::{Act, Conduct, Descriptor, LocalAct, Open, Scope, Settings};
 use sva_open_acts::act;
 
 /// A driver of one thread that isn't whole yet: its world and its lines.
@@ -75,8 +75,8 @@ fn does_at<R: Abort>(rt: &R, now: &mut Open, step: LocalAct) {
 
 /// A world with one endpoint and four frames, in which pages 16 and 17 of space 0 lead to frames 0 and 1 and may be
 /// written, and PASID 1 of space 0 was started.
-fn started<R: Abort>(rt: &R, alloc: Global, settings: Settings, lies: bool) -> Open {
-    let mut now = match Open::new(alloc, settings, &[lies], 3, 4) {
+fn started<R: Abort>(rt: &R, alloc: Global, settings: Settings, conduct: Conduct) -> Open {
+    let mut now = match Open::new(alloc, settings, &[conduct], 3, 4) {
         Ok(now) => now,
         Err(_refused) => panic!(rt; "out of memory"),
     };
@@ -153,9 +153,14 @@ fn only<R: Abort>(rt: &R, alloc: Global, device: Device) -> Vec<Device> {
 
 impl Plan {
     /// A driver of no line.
-    pub(crate) fn new<R: Abort>(rt: &R, alloc: Global, settings: Settings, lies: bool) -> Plan {
+    pub(crate) fn new<R: Abort>(
+        rt: &R,
+        alloc: Global,
+        settings: Settings,
+        conduct: Conduct,
+    ) -> Plan {
         Plan {
-            start: started(rt, alloc, settings, lies),
+            start: started(rt, alloc, settings, conduct),
             lines: Vec::new(alloc),
         }
     }

@@ -8,7 +8,7 @@ use crate::works::Works;
 use std::alloc::{AllocError, Global};
 use std::process::Abort;
 use sva_core::World;
-use sva_open::{Link, Open, Settings, Stopped};
+use sva_open::{Conduct, Link, Open, Settings, Stopped};
 use sva_open_safe::is_safe;
 use sva_snapshot::snapshot;
 use sva_step::Config;
@@ -20,6 +20,12 @@ const OWN: Settings = Settings {
     drain_empties: true,
     has_caches: false,
     stopped: Stopped::Marker,
+};
+
+/// The project's own endpoint keeps to the rules, and ends a group with its last request.
+const KEEPS: Conduct = Conduct {
+    lies: false,
+    awaits: false,
 };
 
 const CONFIG: Config = Config {
@@ -55,7 +61,7 @@ fn run<R: Abort>(
     let mut dice = Dice::new(seed);
     let mut world = opened(rt, alloc);
     let mut mirror = Mirror {
-        open: Open::new(alloc, OWN, &[false, false], 33, 6)?,
+        open: Open::new(alloc, OWN, &[KEEPS, KEEPS], 33, 6)?,
         works: Works::new(alloc),
         early,
     };

@@ -1,3 +1,4 @@
+use Rattle.std.proofs.Common.{◌≡◌, ◌∙◌, ap, arith, length, sym, vec_len}
 use Rattle.sva_race_words.proofs.Lists.{said}
 use Rattle.sva_driver_acts.specs.Descriptors.{descriptor_at, itself}
 use Rattle.sva_driver_acts.proofs.Pieces.{added}
@@ -5,5 +6,9 @@ use Rattle.sva_driver_acts.proofs.descriptors.add_descriptor.Goals as goal
 
 pub returns-in-Ok-push_descriptor : goal.returns-in-Ok-push_descriptor
 returns-in-Ok-push_descriptor c =
-    added itself (descriptor_at c.args.name c.args.at (said c.args.words.now))
-    c.args.list.now.items c.push_descriptor.new.list.items c.in-Ok.one c.in-Ok.ensures c.in-Ok-push_descriptor.ensures
+    let same : vec_len c.args.list.now ≡ length c.args.list.now.items = omega (arith, c.args.list.now.ok.0) in
+    let words = said c.args.words.now in
+    added itself (descriptor_at c.args.name (length c.args.list.now.items) c.args.at words)
+    c.args.list.now.items c.push_descriptor.new.list.items c.in-Ok.one
+    (ap (λ count. descriptor_at c.args.name count c.args.at words) (sym (c.len.ensures ∙ same)) ∙ c.in-Ok.ensures)
+    c.in-Ok-push_descriptor.ensures

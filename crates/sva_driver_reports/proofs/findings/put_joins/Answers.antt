@@ -1,5 +1,5 @@
 use Rattle.std.proofs.Common.{◌++◌, codes}
-use Rattle.sva_driver_reports.specs.Events.{and_number}
+use Rattle.sva_driver_words.specs.Pieces.{and_number}
 use Rattle.sva_driver_reports.specs.Findings.{of_endpoint}
 use Rattle.sva_driver_reports.proofs.Rests.{joined}
 use Rattle.sva_driver_reports.proofs.findings.put_joins.Goals as goal

@@ -1,5 +1,5 @@
 use Rattle.std.proofs.Common.{◌∙◌, ◌++◌, ap, codes, sym}
-use Rattle.sva_driver_reports.specs.Events.{and_number, with_endpoint}
+use Rattle.sva_driver_words.specs.Pieces.{and_number, with_endpoint}
 use Rattle.sva_driver_reports.specs.Reports.{finished_text, group_text}
 use Rattle.sva_driver_reports.proofs.Rests.{joined}
 use Rattle.sva_driver_reports.proofs.notes.put_group.Goals as goal

@@ -8,5 +8,7 @@ pub returns : goal.returns
 returns c =
     on_ok_by c.put_within.result
     (λ put. joined _ _ _ _ _ c.in_ok-extend_from_slice.ensures.items
-    (put ∙ ap (λ lies. c.extend_from_slice.new.self.items ++ within_text c.args.endpoint c.args.device.now lies) c.lies_in.ensures))
+    (put
+    ∙ ap (λ conduct. c.extend_from_slice.new.self.items
+    ++ within_text c.args.lines.now c.args.endpoint c.args.device.now conduct) c.conduct_in.ensures))
     c.put_within.ensures

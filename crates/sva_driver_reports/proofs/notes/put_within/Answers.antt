@@ -1,5 +1,6 @@
 use Rattle.std.proofs.Common.{◌++◌, codes}
-use Rattle.sva_driver_reports.specs.Events.{counted_text, with_endpoint}
+use Rattle.sva_driver_words.specs.Pieces.{counted_text, with_endpoint}
+use Rattle.sva_driver_reports.specs.Reports.{unmade_text}
 use Rattle.sva_driver_reports.specs.Witness.{said_if}
 use Rattle.sva_driver_reports.proofs.Rests.{joined}
 use Rattle.sva_driver_reports.proofs.notes.put_within.Goals as goal
@@ -25,6 +26,13 @@ returns c =
     let said-8 = said-7 ++ said_if c.args.device.now.evicts (codes ", evicts") in
     let so_far-9 = joined out _ _ said-8 (said_if c.args.device.now.is_silent (codes ", silent")) so_far-8 c.in_ok-put_if-2.ensures in
     let said-9 = said-8 ++ said_if c.args.device.now.is_silent (codes ", silent") in
-    let so_far-10 = joined out _ _ said-9 (said_if c.args.lies (codes ", lies")) so_far-9 c.in_ok-put_if-3.ensures in
-    let said-10 = said-9 ++ said_if c.args.lies (codes ", lies") in
-    joined out _ _ said-10 (codes "\n") so_far-10 c.in_ok-extend_from_slice-4.ensures.items
+    let lies = said_if c.args.conduct.lies (codes ", lies") in
+    let so_far-10 = joined out _ _ said-9 lies so_far-9 c.in_ok-put_if-3.ensures in
+    let said-10 = said-9 ++ lies in
+    let awaits = said_if c.args.conduct.awaits (codes ", awaits") in
+    let so_far-11 = joined out _ _ said-10 awaits so_far-10 c.in_ok-put_if-4.ensures in
+    let said-11 = said-10 ++ awaits in
+    let unmade = unmade_text c.args.lines.now c.args.endpoint c.args.device.now in
+    let so_far-12 = joined out _ _ said-11 unmade so_far-11 c.in_ok-put_unmade.ensures in
+    let said-12 = said-11 ++ unmade in
+    joined out _ _ said-12 (codes "\n") so_far-12 c.in_ok-extend_from_slice-4.ensures.items

@@ -1,62 +1,58 @@
-//! The pieces of a line.
+//! The pieces of a line that is written.
 
 ghost use Rattle.std.specs.Prelude.{◌≡◌, ◌++◌, OnOk, codes, decimal};
-ghost use Rattle.sva_driver_reports.specs.Events as events;
+ghost use Rattle.sva_driver_words.specs.Pieces as pieces;
 
 use std::alloc::AllocError;
 use sva_open_names::Kind;
-use sva_script_reading::put_number;
+use sva_race_words::put_number;
 
 /// Appends a blank and a number.
-pub(crate) fn put_one(out: &mut Vec<u8>, number: u64) -> Result<(), AllocError>
-    ensures { OnOk result (out.new.items ≡ out.old.items ++ events.and_number number) }
+pub fn put_one(out: &mut Vec<u8>, number: u64) -> Result<(), AllocError>
+    ensures { OnOk result (out.new.items ≡ out.old.items ++ pieces.and_number number) }
 {
     out.extend_from_slice(b" ")?;
     put_number(out, number)
 }
 
 /// Appends a word with an endpoint.
-pub(crate) fn put_endpoint(
-    out: &mut Vec<u8>,
-    word: &[u8],
-    endpoint: usize,
-) -> Result<(), AllocError>
-    ensures { OnOk result (out.new.items ≡ out.old.items ++ events.with_endpoint word.now endpoint) }
+pub fn put_endpoint(out: &mut Vec<u8>, word: &[u8], endpoint: usize) -> Result<(), AllocError>
+    ensures { OnOk result (out.new.items ≡ out.old.items ++ pieces.with_endpoint word.now endpoint) }
 {
     out.extend_from_slice(word)?;
     put_one(out, endpoint as u64)
 }
 
 /// Appends a word with an endpoint and a PASID.
-pub(crate) fn put_pasid(
+pub fn put_pasid(
     out: &mut Vec<u8>,
     word: &[u8],
     endpoint: usize,
     pasid: usize,
 ) -> Result<(), AllocError>
-    ensures { OnOk result (out.new.items ≡ out.old.items ++ events.with_pasid word.now endpoint pasid) }
+    ensures { OnOk result (out.new.items ≡ out.old.items ++ pieces.with_pasid word.now endpoint pasid) }
 {
     put_endpoint(out, word, endpoint)?;
     put_one(out, pasid as u64)
 }
 
 /// Appends a word with an endpoint, a PASID and a page.
-pub(crate) fn put_page(
+pub fn put_page(
     out: &mut Vec<u8>,
     word: &[u8],
     endpoint: usize,
     pasid: usize,
     page: u64,
 ) -> Result<(), AllocError>
-    ensures { OnOk result (out.new.items ≡ out.old.items ++ events.with_page word.now endpoint pasid page) }
+    ensures { OnOk result (out.new.items ≡ out.old.items ++ pieces.with_page word.now endpoint pasid page) }
 {
     put_pasid(out, word, endpoint, pasid)?;
     put_one(out, page)
 }
 
 /// Appends how many are older, where some are.
-pub(crate) fn put_older(out: &mut Vec<u8>, older: usize) -> Result<(), AllocError>
-    ensures { OnOk result (out.new.items ≡ out.old.items ++ events.and_older older) }
+pub fn put_older(out: &mut Vec<u8>, older: usize) -> Result<(), AllocError>
+    ensures { OnOk result (out.new.items ≡ out.old.items ++ pieces.and_older older) }
 {
     if older == 0 {
         return Ok(());
@@ -65,29 +61,29 @@ pub(crate) fn put_older(out: &mut Vec<u8>, older: usize) -> Result<(), AllocErro
 }
 
 /// The word of what is asked for, behind a blank.
-pub(crate) fn access_text(write: bool) -> &'static str
-    ensures { result.now ≡ events.access_text write }
+pub fn access_text(write: bool) -> &'static str
+    ensures { result.now ≡ pieces.access_text write }
 {
     if write { " w" } else { " r" }
 }
 
 /// The word of whether more follow, behind a blank.
-pub(crate) fn last_text(last: bool) -> &'static str
-    ensures { result.now ≡ events.last_text last }
+pub fn last_text(last: bool) -> &'static str
+    ensures { result.now ≡ pieces.last_text last }
 {
     if last { " last" } else { " more" }
 }
 
 /// The word of a code, behind a blank.
-pub(crate) fn code_text(fails: bool) -> &'static str
-    ensures { result.now ≡ events.code_text fails }
+pub fn code_text(fails: bool) -> &'static str
+    ensures { result.now ≡ pieces.code_text fails }
 {
     if fails { " failure" } else { " success" }
 }
 
 /// The word of a kind.
-pub(crate) fn kind_text(kind: Kind) -> &'static str
-    ensures { result.now ≡ events.kind_text kind }
+pub fn kind_text(kind: Kind) -> &'static str
+    ensures { result.now ≡ pieces.kind_text kind }
 {
     match kind {
         Kind::Start => "start",
@@ -107,7 +103,7 @@ pub(crate) fn kind_text(kind: Kind) -> &'static str
 
 /// Appends a count, with the word for one or for more.
 pub fn put_counted(out: &mut Vec<u8>, count: u64, one: &str, more: &str) -> Result<(), AllocError>
-    ensures { OnOk result (out.new.items ≡ out.old.items ++ events.counted_text count one.now more.now) }
+    ensures { OnOk result (out.new.items ≡ out.old.items ++ pieces.counted_text count one.now more.now) }
 {
     put_number(out, count)?;
     out.extend_from_slice(b" ")?;

@@ -1,8 +1,0 @@
-use Rattle.std.proofs.Common.{◌≡◌, ◌++◌, drop}
-use Rattle.sva_driver_reports.specs.Witness.{lies_from}
-use Rattle.sva_driver_reports.proofs.fronts.put_lies.Given as goal
-
--- what was said so far, and what is left to say
-abbrev pub invariant-loop-endpoint : goal.invariant-loop-endpoint
-invariant-loop-endpoint l =
-    l.out.items ++ lies_from l.endpoint (drop l.endpoint l.parts) ≡ l.initial.out.items ++ lies_from 0 l.parts

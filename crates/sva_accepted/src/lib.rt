@@ -17,7 +17,7 @@ pub use finishing::{can_finish, taken_at};
 pub use laws::accepted_are_answered;
 pub use lookups::{
     binding_of, bound_at, flight_of, has_room, held_by, is_full, is_mapped, is_read_only_at,
-    is_some_busy, pages_in, pages_of_job, part_at, submits,
+    is_some_busy, mapping_at, pages_in, pages_of_job, part_at, submits,
 };
 pub use unmapping::can_unmap;
 pub use vectors::{is_set, names_none, vector_of};

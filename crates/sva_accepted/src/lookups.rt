@@ -3,7 +3,7 @@
 ghost use Rattle.std.specs.Prelude.{◌≡◌, ◌==◌, ◌&&◌, None, is_none, is_some, map, option_copied, option_map, slice_get};
 ghost use Rattle.std.specs.Prelude.{slice_index_or, unwrap_or};
 ghost use Rattle.std.specs.List.{find, list_any};
-ghost use Rattle.sva_address_spaces.specs.Seen.{pages_seen};
+ghost use Rattle.sva_address_spaces.specs.Seen.{page_seen, pages_seen};
 ghost use Rattle.sva_labels.specs.Causes.{lacks};
 ghost use Rattle.sva_labels.specs.Finding.{binding_of, bound_at, flight_of, has_open_group, has_room, held_by};
 ghost use Rattle.sva_labels.specs.Finding.{is_bound, is_mapped, is_space};
@@ -260,6 +260,25 @@ pub fn pages_of_job<'a>(snapshot: &'a Snapshot, job: &Job) -> &'a [Mapping]
         None => pages_in(snapshot, 0),
         Some(binding) => pages_in(snapshot, binding.space),
     }
+}
+
+/// What stands at a page among these.
+fn mapping_among(pages: &[Mapping], page: u64) -> Option<Mapping>
+    ensures { option_map page_seen result ≡ page_at (pages_seen pages.now) page }
+{
+    for mapping in pages {
+        if mapping.page == page {
+            return Some(*mapping);
+        }
+    }
+    None
+}
+
+/// What stands at a page of the space of a number.
+pub fn mapping_at(snapshot: &Snapshot, space: u64, page: u64) -> Option<Mapping>
+    ensures { option_map page_seen result ≡ page_at (pages_in snapshot.now space) page }
+{
+    mapping_among(pages_in(snapshot, space), page)
 }
 
 /// Is the page mapped among these?

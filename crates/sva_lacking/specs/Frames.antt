@@ -1,26 +1,30 @@
--- What is said where too few frames are free, or a space has too many pages: which frames are free, which are withheld and for what they
--- wait, which pages an answer would map, and pages that may be taken out.
+-- What is said where too few frames are free, or a space has too many pages, or a page is mapped: which frames are free, which are withheld
+-- and for what they wait, which pages an answer would map, and pages that may be taken out.
 use Rattle.std.specs.Prelude.{ℕ, Bool, if◌then◌else◌, Option, Some, None, List, [], ◌∷◌, ◌++◌, codes, flat_map, length}
 use Rattle.std.specs.List.{find, list_any}
 use Rattle.sva_step.specs.declared.steps.Step.{Step}
 use Rattle.sva_step.specs.declared.steps.Step.TheVariants as step
 use Rattle.sva_model.specs.Wire.{JobWire, PageWire, PlaceWire, SpaceWire, Wire}
-use Rattle.sva_labels.specs.Finding.{held_by, pages_in}
+use Rattle.sva_labels.specs.Finding.{held_by, page_at, pages_in}
 use Rattle.sva_labels.specs.Replying.{newly_mapped, space_of_job}
-use Rattle.sva_lines.specs.Pieces.{field, line_end, rows}
+use Rattle.sva_lines.specs.Pieces.{field, line_end, rows, word_if}
 use Rattle.sva_lines.specs.Words.{is_free, is_withheld}
 use Rattle.sva_accepted.specs.Accepted.{is_accepted}
 use Rattle.sva_standing.specs.declared.levels.Level.TheVariants.{First}
 use Rattle.sva_standing.specs.Lines.{bracket_of_two, indent, start}
 use Rattle.sva_standing.specs.Units.{place_lines}
-use Rattle.sva_lacking.specs.Hands.{invalid_text}
+use Rattle.sva_under_way.specs.Jobs.{invalid_text}
 
 -- ---- Pages of spaces
 
--- ` [unmap 0 16]`: that of the first page
+-- ` [unmap 0 16]`
+abbrev pub taken_out_text : Wire → (space page : ℕ) → List ℕ
+taken_out_text wire space page = bracket_of_two (is_accepted wire (step.Unmap space page 1)) (codes " [unmap ") space page
+
+-- that of the first page
 abbrev pub unmap_text : Wire → (space : ℕ) → List PageWire → List ℕ
 unmap_text wire space [] = []
-unmap_text wire space (entry ∷ rest) = bracket_of_two (is_accepted wire (step.Unmap space entry.page 1)) (codes " [unmap ") space entry.page
+unmap_text wire space (entry ∷ rest) = taken_out_text wire space entry.page
 
 -- `pages of space 0: 3 [unmap 0 16]`
 abbrev pub pages_line : Wire → (space : ℕ) → List PageWire → List ℕ
@@ -85,7 +89,7 @@ abbrev pub of_job : (said : JobWire → List ℕ) → Option JobWire → List �
 of_job said None = []
 of_job said (Some job) = said job
 
--- ---- The two refusals
+-- ---- The three refusals
 
 -- `frames have numbers below 4`
 abbrev pub numbers_line : List PlaceWire → List ℕ
@@ -110,3 +114,18 @@ abbrev pub space_full : Wire → Step → List ℕ
 space_full wire (step.Map space page write) = most_pages_line ++ pages_line wire space (pages_in wire space)
 space_full wire (step.Reply worker verdict) = most_pages_line ++ of_job (full_of_job wire worker) (held_by wire worker)
 space_full wire other = most_pages_line
+
+-- `page 16 of space 0 is mapped: frame 2 w [unmap 0 16]`
+abbrev pub mapped_line : Wire → (space : ℕ) → PageWire → List ℕ
+mapped_line wire space entry =
+    start First (codes "page ") entry.page ++ field (codes " of space ") space ++ field (codes " is mapped: frame ") entry.frame
+    ++ word_if entry.write (codes " w") ++ taken_out_text wire space entry.page ++ line_end
+
+abbrev pub mapped_if : Wire → (space : ℕ) → Option PageWire → List ℕ
+mapped_if wire space None = []
+mapped_if wire space (Some entry) = mapped_line wire space entry
+
+-- Mapped: the page, with its frame
+abbrev pub mapped : Wire → Step → List ℕ
+mapped wire (step.Map space page write) = mapped_if wire space (page_at (pages_in wire space) page)
+mapped wire other = []

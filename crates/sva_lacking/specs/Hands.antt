@@ -1,8 +1,7 @@
 -- What is said of workers' hands: one that is full, and one that is empty.
-use Rattle.std.specs.Prelude.{ℕ, if◌then◌else◌, Option, Some, None, List, [], ◌++◌, codes}
+use Rattle.std.specs.Prelude.{ℕ, Option, Some, None, List, [], ◌++◌, codes}
 use Rattle.sva_step.specs.declared.steps.Step.{Step}
 use Rattle.sva_step.specs.declared.steps.Step.TheVariants as step
-use Rattle.sva_step.specs.declared.steps.Verdict.TheVariants as verdict
 use Rattle.sva_model.specs.Wire.{JobWire, Wire}
 use Rattle.sva_labels.specs.Finding.{held_by}
 use Rattle.sva_lines.specs.Pieces.{field, line_end}
@@ -10,11 +9,7 @@ use Rattle.sva_accepted.specs.Accepted.{is_accepted}
 use Rattle.sva_standing.specs.declared.levels.Level.{Level}
 use Rattle.sva_standing.specs.declared.levels.Level.TheVariants.{First}
 use Rattle.sva_standing.specs.Lines.{bracket, indent, start}
-
--- ` [answer 0 invalid]`
-abbrev pub invalid_text : Wire → (worker : ℕ) → List ℕ
-invalid_text wire worker =
-    if is_accepted wire (step.Reply worker verdict.Invalid) then field (codes " [answer ") worker ++ codes " invalid]" else []
+use Rattle.sva_under_way.specs.Jobs.{invalid_text}
 
 -- `worker 0 has group 1 of binding 0`
 abbrev pub hand_text : Level → (worker : ℕ) → JobWire → List ℕ

@@ -5,6 +5,7 @@ use Rattle.sva_model.specs.Wire.{BindingWire, Wire}
 use Rattle.sva_lines.specs.Pieces.{field, line_end}
 use Rattle.sva_lines.specs.Words.{stage_text}
 use Rattle.sva_accepted.specs.Accepted.{is_accepted}
+use Rattle.sva_standing.specs.declared.levels.Level.{Level}
 use Rattle.sva_standing.specs.declared.levels.Level.TheVariants.{First, Second}
 use Rattle.sva_standing.specs.Lines.{bracket, indent, start}
 
@@ -17,9 +18,9 @@ abbrev pub advance_text : Wire → (binding : ℕ) → List ℕ
 advance_text wire binding = bracket (is_accepted wire (step.Advance binding)) (codes " [advance ") binding
 
 -- `space 3 bears pasid 4 by binding 5 at endpoint 0: live [unbind 5]`
-abbrev pub bearer_line : Wire → BindingWire → List ℕ
-bearer_line wire binding =
-    start Second (codes "space ") binding.space ++ field (codes " bears pasid ") binding.pasid ++ field (codes " by binding ") binding.binding
+abbrev pub bearer_line : Level → Wire → BindingWire → List ℕ
+bearer_line level wire binding =
+    start level (codes "space ") binding.space ++ field (codes " bears pasid ") binding.pasid ++ field (codes " by binding ") binding.binding
     ++ field (codes " at endpoint ") binding.endpoint ++ codes ":" ++ stage_text binding.stage ++ unbind_text wire binding.binding
     ++ advance_text wire binding.binding ++ line_end
 
@@ -28,4 +29,4 @@ all_borne_line = indent First ++ codes "other spaces bear all 32 pasids" ++ line
 
 -- NoPasid: each binding, which bears the PASID of its space
 abbrev pub no_pasid : Wire → List ℕ
-no_pasid wire = all_borne_line ++ flat_map (bearer_line wire) wire.bindings
+no_pasid wire = all_borne_line ++ flat_map (bearer_line Second wire) wire.bindings

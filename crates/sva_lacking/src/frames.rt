@@ -1,4 +1,4 @@
-//! Frames of which too few are free, and spaces that have too many pages.
+//! Frames of which too few are free, spaces that have too many pages, and pages that are mapped.
 
 ghost use Rattle.std.specs.Prelude.{◌≡◌, ◌++◌, None, OnOk, Some, flat_map, map, option_copied, option_map};
 ghost use Rattle.std.specs.List.{find, list_any};
@@ -8,23 +8,36 @@ ghost use Rattle.sva_labels.specs.Finding.{held_by, pages_in};
 ghost use Rattle.sva_labels.specs.Replying.{space_of_job};
 ghost use Rattle.sva_lacking.specs.Frames.{each_space, frames_lines, free_if, free_line, full_of_job};
 ghost use Rattle.sva_lacking.specs.Frames.{most_pages_line, no_frame, number_where, numbers_line, of_job, pages_if, pages_line};
-ghost use Rattle.sva_lacking.specs.Frames.{space_full, space_if, to_map_line, unmap_text, withheld_by, withheld_if};
-ghost use Rattle.sva_lacking.specs.Frames.{withheld_line, withheld_lines};
+ghost use Rattle.sva_lacking.specs.Frames.{mapped, mapped_line, space_full, space_if, taken_out_text, to_map_line};
+ghost use Rattle.sva_lacking.specs.Frames.{unmap_text, withheld_by, withheld_if, withheld_line, withheld_lines};
 ghost use Rattle.sva_lines.specs.Pieces.{rows};
 ghost use Rattle.sva_lines.specs.Words.{is_free, is_withheld};
 ghost use Rattle.sva_snapshot.specs.Shown.{job_shown, space_shown};
 ghost use Rattle.sva_standing.specs.Units.{held_seen};
 
-use crate::hands::put_invalid;
 use crate::pages::put_new_pages;
 use std::alloc::AllocError;
-use sva_accepted::{binding_of, can_unmap, held_by, pages_in};
-use sva_lines::{end_line, put_field, put_word};
+use sva_accepted::{binding_of, can_unmap, held_by, mapping_at, pages_in};
+use sva_lines::{end_line, put_field, put_if, put_word};
 use sva_snapshot::{Held, Job, Mapping, Snapshot, Space};
 use sva_standing::{Level, put_bracket_of_two, put_held, put_indent, put_start};
 use sva_step::Step;
+use sva_under_way::put_invalid;
 
-/// Appends in brackets that the first page of these is taken out, where it would be accepted.
+/// Appends in brackets that a page is taken out, where it would be accepted.
+fn put_taken_out(
+    out: &mut Vec<u8>,
+    snapshot: &Snapshot,
+    space: u64,
+    page: u64,
+) -> Result<(), AllocError>
+    ensures { OnOk result (out.new.items ≡ out.old.items ++ taken_out_text snapshot.now space page) }
+{
+    let holds = can_unmap(snapshot, space, page);
+    put_bracket_of_two(out, holds, " [unmap ", space, page)
+}
+
+/// Appends the same of the first page of these.
 fn put_unmap(
     out: &mut Vec<u8>,
     snapshot: &Snapshot,
@@ -35,10 +48,7 @@ fn put_unmap(
 {
     match pages.first() {
         None => Ok(()),
-        Some(mapping) => {
-            let holds = can_unmap(snapshot, space, mapping.page);
-            put_bracket_of_two(out, holds, " [unmap ", space, mapping.page)
-        }
+        Some(mapping) => put_taken_out(out, snapshot, space, mapping.page),
     }
 }
 
@@ -363,6 +373,39 @@ pub fn put_space_full(out: &mut Vec<u8>, snapshot: &Snapshot, step: &Step) -> Re
     match step {
         Step::Map { space, .. } => put_pages_at(out, snapshot, *space),
         Step::Reply { worker, .. } => put_full_of(out, snapshot, *worker),
+        _ => Ok(()),
+    }
+}
+
+/// Appends the line of a page that is mapped.
+fn put_mapped_line(
+    out: &mut Vec<u8>,
+    snapshot: &Snapshot,
+    space: u64,
+    page: u64,
+    frame: u32,
+    write: bool,
+) -> Result<(), AllocError>
+    ensures { OnOk result (out.new.items ≡ out.old.items
+        ++ mapped_line snapshot.now space (record { page = page; frame = frame; write = write })) }
+{
+    put_start(out, Level::First, "page ", page)?;
+    put_field(out, " of space ", space)?;
+    put_field(out, " is mapped: frame ", u64::from(frame))?;
+    put_if(out, write, " w")?;
+    put_taken_out(out, snapshot, space, page)?;
+    end_line(out)
+}
+
+/// Appends the frame to which the page of a step leads.
+pub fn put_mapped(out: &mut Vec<u8>, snapshot: &Snapshot, step: &Step) -> Result<(), AllocError>
+    ensures { OnOk result (out.new.items ≡ out.old.items ++ mapped snapshot.now step.now) }
+{
+    match step {
+        Step::Map { space, page, .. } => match mapping_at(snapshot, *space, *page) {
+            None => Ok(()),
+            Some(it) => put_mapped_line(out, snapshot, *space, it.page, it.frame, it.write),
+        },
         _ => Ok(()),
     }
 }

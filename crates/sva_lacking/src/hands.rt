@@ -1,26 +1,16 @@
 //! Workers' hands: one that is full, and one that is empty.
 
 ghost use Rattle.std.specs.Prelude.{◌≡◌, ◌++◌, OnOk};
-ghost use Rattle.sva_lacking.specs.Hands.{empty_line, hand_line, hand_text, hands_full, invalid_text, no_job, no_job_line};
+ghost use Rattle.sva_lacking.specs.Hands.{empty_line, hand_line, hand_text, hands_full, no_job, no_job_line};
 ghost use Rattle.sva_snapshot.specs.Shown.{job_shown};
 
 use std::alloc::AllocError;
-use sva_accepted::{can_answer_invalid, can_take, held_by};
+use sva_accepted::{can_take, held_by};
 use sva_lines::{end_line, put_field, put_word};
 use sva_snapshot::{Job, Snapshot};
 use sva_standing::{Level, put_bracket, put_indent, put_start};
 use sva_step::Step;
-
-/// Appends the verdict Invalid of a worker in brackets, where it would be accepted.
-pub fn put_invalid(out: &mut Vec<u8>, snapshot: &Snapshot, worker: u64) -> Result<(), AllocError>
-    ensures { OnOk result (out.new.items ≡ out.old.items ++ invalid_text snapshot.now worker) }
-{
-    if !can_answer_invalid(snapshot, worker) {
-        return Ok(());
-    }
-    put_field(out, " [answer ", worker)?;
-    put_word(out, " invalid]")
-}
+use sva_under_way::put_invalid;
 
 /// Appends which job a worker has.
 fn put_hand_text(out: &mut Vec<u8>, level: Level, worker: u64, job: &Job) -> Result<(), AllocError>

@@ -3,6 +3,7 @@
 ghost use Rattle.std.specs.Prelude.{◌≡◌, ◌++◌, OnOk, flat_map, map};
 ghost use Rattle.sva_lacking.specs.Pasids.{advance_text, all_borne_line, bearer_line, no_pasid, unbind_text};
 ghost use Rattle.sva_snapshot.specs.Shown.{binding_shown};
+ghost use Rattle.sva_standing.specs.declared.levels.Level.TheVariants.{Second};
 
 use std::alloc::AllocError;
 use sva_accepted::{can_advance, can_unbind};
@@ -25,10 +26,16 @@ pub fn put_advance(out: &mut Vec<u8>, snapshot: &Snapshot, binding: u64) -> Resu
 }
 
 /// Appends which PASID a space bears by a binding.
-fn put_bearer(out: &mut Vec<u8>, snapshot: &Snapshot, binding: &Binding) -> Result<(), AllocError>
-    ensures { OnOk result (out.new.items ≡ out.old.items ++ bearer_line snapshot.now (binding_shown binding.now)) }
+pub fn put_bearer(
+    out: &mut Vec<u8>,
+    level: Level,
+    snapshot: &Snapshot,
+    binding: &Binding,
+) -> Result<(), AllocError>
+    ensures { OnOk result (out.new.items ≡ out.old.items
+        ++ bearer_line level snapshot.now (binding_shown binding.now)) }
 {
-    put_start(out, Level::Second, "space ", binding.space)?;
+    put_start(out, level, "space ", binding.space)?;
     put_field(out, " bears pasid ", u64::from(binding.pasid))?;
     put_field(out, " by binding ", binding.binding)?;
     put_field(out, " at endpoint ", binding.endpoint)?;
@@ -46,10 +53,10 @@ fn put_bearers(
     bindings: &[Binding],
 ) -> Result<(), AllocError>
     ensures { OnOk result (out.new.items ≡ out.old.items
-        ++ flat_map (bearer_line snapshot.now) (map binding_shown bindings.now)) }
+        ++ flat_map (bearer_line Second snapshot.now) (map binding_shown bindings.now)) }
 {
     for binding in bindings {
-        put_bearer(out, snapshot, binding)?;
+        put_bearer(out, Level::Second, snapshot, binding)?;
     }
     Ok(())
 }
@@ -57,7 +64,7 @@ fn put_bearers(
 /// Appends the same of each binding.
 fn put_each_bearer(out: &mut Vec<u8>, snapshot: &Snapshot) -> Result<(), AllocError>
     ensures { OnOk result (out.new.items ≡ out.old.items
-        ++ flat_map (bearer_line snapshot.now) snapshot.now.bindings) }
+        ++ flat_map (bearer_line Second snapshot.now) snapshot.now.bindings) }
 {
     put_bearers(out, snapshot, snapshot.bindings.as_slice())
 }

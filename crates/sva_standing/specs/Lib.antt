@@ -1,4 +1,3 @@
 pub mod Lines
 pub mod Link
 pub mod Units
-pub mod Tables

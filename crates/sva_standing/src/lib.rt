@@ -1,20 +1,15 @@
-//! Where things stand that hold a step back: messages in flight, ITags that are busy, waits that aren't done,
-//! unfinished groups, request tags that are out, uses that run. A line for each, with a step in brackets that would be
-//! accepted.
+//! Where things stand that hold a step back: messages in flight, ITags that are busy, waits that aren't done, resets,
+//! withheld frames. A line for each, with a step in brackets that would be accepted.
 #![tactic(auto)]
 
-mod credits;
 mod itags;
 mod levels;
 mod link;
 mod places;
-mod tables;
 mod units;
 
-pub use credits::{put_credit, put_disabled};
 pub use itags::{put_end, put_use, put_waits_for};
 pub use levels::{Level, below, put_bracket, put_bracket_of_two, put_indent, put_start};
 pub use link::{Topic, put_about, put_older};
 pub use places::{put_held, put_place, put_target};
-pub use tables::{put_busy_pasid, put_not_started, put_out, put_unfinished_if};
 pub use units::{put_blocked, put_in_reset, put_reset_if, put_room, put_wait_if};

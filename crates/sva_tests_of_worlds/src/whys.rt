@@ -6,9 +6,10 @@ use sva_core::World;
 use sva_step::{Config, Refusal, Step};
 use sva_why::put_why_in;
 
-/// These refusals, and their lines. The other 22 say what holds the step back, where it is so: runs/scripts has 16 of
-/// them, and examples/why has QueueFull, NoTag, NoUseSlot, TooManySpaces, NoCredit and NoFrame.
-static PLAIN: [(Refusal, &str); 21] = [
+/// These refusals, and their lines. The other 26 say what holds the step back, where it is so: runs/scripts has 16 of
+/// them, and examples/why has QueueFull, NoTag, NoUseSlot, TooManySpaces, NoCredit, NoFrame, NotStopping, Mapped,
+/// AlreadyBound and NotLive.
+static PLAIN: [(Refusal, &str); 17] = [
     (
         Refusal::BadConfig,
         "    endpoints are 1 to 8, frames 1 to 4096, workers 1 to 4\n",
@@ -19,16 +20,10 @@ static PLAIN: [(Refusal, &str); 21] = [
     ),
     (Refusal::NoSuchSpace, "    no live space has this number\n"),
     (Refusal::PageRange, "    pages are below 2^36\n"),
-    (Refusal::Mapped, "    the page is mapped\n"),
-    (
-        Refusal::AlreadyBound,
-        "    the space is bound to the endpoint\n",
-    ),
     (
         Refusal::NoSuchBinding,
         "    no unreleased binding has this number\n",
     ),
-    (Refusal::NotLive, "    the binding isn't live\n"),
     (
         Refusal::ReadOnly,
         "    the translation that is held allows no write\n",
@@ -44,10 +39,6 @@ static PLAIN: [(Refusal, &str); 21] = [
     (
         Refusal::BadCount,
         "    completions are counted 1 to 8, and pages taken out 1 to 48 at a time\n",
-    ),
-    (
-        Refusal::NotStopping,
-        "    the pasid isn't told to stop at the endpoint\n",
     ),
     (
         Refusal::NoSuchMessage,

@@ -18,9 +18,9 @@ use Rattle.sva_standing.specs.declared.link.Topic.TheVariants.{Itag, Start, Tag}
 use Rattle.sva_standing.specs.declared.levels.Level.TheVariants.{First, Second}
 use Rattle.sva_standing.specs.Lines.{indent}
 use Rattle.sva_standing.specs.Link.{about_lines, message_line, older_if}
-use Rattle.sva_standing.specs.Tables.{bearer_if, ending_line, not_started_by, not_started_lines}
-use Rattle.sva_standing.specs.Tables.{busy_pasid_lines, credit_if, disabled_if, out_line, out_lines, tag_if, tag_lines, unfinished_group_lines, unfinished_if}
-use Rattle.sva_standing.specs.Tables.{unfinished_line, unfinished_lines, use_if, use_lines}
+use Rattle.sva_under_way.specs.Tables.{bearer_if, ending_line, not_started_by, not_started_lines}
+use Rattle.sva_under_way.specs.Tables.{busy_pasid_lines, credit_if, disabled_if, out_line, out_lines, tag_if, tag_lines, unfinished_group_lines, unfinished_if}
+use Rattle.sva_under_way.specs.Tables.{unfinished_line, unfinished_lines, use_if, use_lines}
 use Rattle.sva_standing.specs.Units.{end_text, full_line, no_room_lines, of_part, pump_lines, reset_if, room_lines, use_text, wait_if, wait_line, wait_lines}
 use Rattle.sva_standing.specs.Units.{waits_for_lines, waits_if, waits_line}
 use Rattle.sva_why.specs.Bindings.{binding_line, bound_if, descriptors_of, full_lines, marker_line, not_yet_by, of_binding}
@@ -45,7 +45,7 @@ pub group_stands : (wire : Wire) (endpoint pasid index : ℕ) (part : EndpointWi
 group_stands wire endpoint pasid index part group there is holds =
     let line = unfinished_line First wire endpoint pasid index in
     let disabled = disabled_if Second wire endpoint part.device in
-    let credit = credit_if Second wire endpoint part.device in
+    let credit = credit_if Second wire endpoint part in
     let lines = unfinished_lines First wire endpoint part pasid in
     let tags = tag_lines First wire endpoint part pasid in
     let uses = use_lines First wire endpoint part pasid in

@@ -12,8 +12,8 @@ use Rattle.sva_accepted.specs.Accepted.{is_accepted}
 use Rattle.sva_standing.specs.Lines.{below, bracket_of_two, start}
 use Rattle.sva_standing.specs.Link.{about_lines}
 use Rattle.sva_standing.specs.Units.{of_part, reset_if, room_lines, wait_if}
-use Rattle.sva_standing.specs.Tables.{busy_pasid_lines}
-use Rattle.sva_lacking.specs.Pasids.{advance_text, unbind_text}
+use Rattle.sva_under_way.specs.Tables.{busy_pasid_lines}
+use Rattle.sva_lacking.specs.Pasids.{advance_text, bearer_line, unbind_text}
 use Rattle.sva_why.specs.Groups.{open_lines}
 
 -- `binding 0 at endpoint 0 is stopping`
@@ -85,12 +85,20 @@ abbrev pub stays_lines : Level → Wire → BindingWire → EndpointWire → Lis
 stays_lines level wire binding part =
     reset_if level wire binding.endpoint part ++ going_if level wire binding part
 
--- a binding of the space, and why it doesn't go on (sva_labels/specs/Finding: `is_bound`)
+abbrev pub stays_of : Wire → BindingWire → List ℕ
+stays_of wire binding = of_part (stays_lines Second wire binding) (slice_get wire.parts binding.endpoint)
+
+-- a binding, and why it doesn't go on
+abbrev pub kept_lines : Wire → BindingWire → List ℕ
+kept_lines wire binding = binding_line First wire binding ++ stays_of wire binding
+
+-- the same with its space and PASID
+abbrev pub borne_lines : Wire → BindingWire → List ℕ
+borne_lines wire binding = bearer_line First wire binding ++ stays_of wire binding
+
+-- each binding of the space (sva_labels/specs/Finding: `is_bound`)
 abbrev pub bound_if : Wire → (space : ℕ) → BindingWire → List ℕ
-bound_if wire space binding =
-    if binding.space == space
-    then binding_line First wire binding ++ of_part (stays_lines Second wire binding) (slice_get wire.parts binding.endpoint)
-    else []
+bound_if wire space binding = if binding.space == space then kept_lines wire binding else []
 
 abbrev pub bound_lines : Wire → (space : ℕ) → List ℕ
 bound_lines wire space = flat_map (bound_if wire space) wire.bindings

@@ -6,21 +6,22 @@ use Rattle.sva_step.specs.declared.refusals.Refusal.TheVariants as refusal
 use Rattle.sva_step.specs.declared.steps.Step.{Step}
 use Rattle.sva_step.specs.declared.steps.Step.TheVariants as step
 use Rattle.sva_model.specs.Wire.{BindingWire, EndpointWire, FlightWire, PageWire, Wire}
-use Rattle.sva_labels.specs.Finding.{binding_of, flight_of, held_by, is_mapped, pages_in, submits}
+use Rattle.sva_labels.specs.Finding.{binding_of, bound_at, flight_of, held_by, is_mapped, pages_in, submits}
 use Rattle.sva_lines.specs.Pieces.{field, line_end, rows}
-use Rattle.sva_standing.specs.declared.levels.Level.TheVariants.{First}
+use Rattle.sva_standing.specs.declared.levels.Level.TheVariants.{First, Second}
+use Rattle.sva_standing.specs.declared.link.Topic.TheVariants.{Stop}
 use Rattle.sva_standing.specs.Lines.{indent}
-use Rattle.sva_standing.specs.Link.{older_lines}
+use Rattle.sva_standing.specs.Link.{about_lines, older_lines}
 use Rattle.sva_standing.specs.Units.{in_reset_lines, of_part, room_lines}
-use Rattle.sva_standing.specs.Tables.{busy_pasid_lines, credit_if, disabled_if, not_started_lines}
+use Rattle.sva_under_way.specs.Tables.{busy_pasid_lines, credit_if, disabled_if, not_started_lines}
 use Rattle.sva_lacking.specs.Tags.{no_tag, not_held}
 use Rattle.sva_lacking.specs.Slots.{no_slot}
 use Rattle.sva_lacking.specs.Hands.{hands_full, no_job}
 use Rattle.sva_lacking.specs.Spaces.{too_many}
-use Rattle.sva_lacking.specs.Frames.{no_frame, space_full}
+use Rattle.sva_lacking.specs.Frames.{mapped, no_frame, space_full}
 use Rattle.sva_lacking.specs.Pasids.{no_pasid}
 use Rattle.sva_why.specs.Groups.{read_only_lines}
-use Rattle.sva_why.specs.Bindings.{bound_lines, full_lines, not_yet_by, of_binding}
+use Rattle.sva_why.specs.Bindings.{borne_lines, bound_lines, full_lines, kept_lines, not_yet_by, of_binding}
 use Rattle.sva_why.specs.Vectors.{in_use_lines, not_pending_lines}
 use Rattle.sva_why.specs.Plain.{plain_line}
 
@@ -138,7 +139,28 @@ disabled wire (Some endpoint) = of_part (λ part. disabled_if First wire endpoin
 
 abbrev pub no_credit : Wire → Option ℕ → List ℕ
 no_credit wire None = []
-no_credit wire (Some endpoint) = of_part (λ part. credit_if First wire endpoint part.device) (slice_get wire.parts endpoint)
+no_credit wire (Some endpoint) = of_part (credit_if First wire endpoint) (slice_get wire.parts endpoint)
+
+-- NotStopping: the stop of the PASID that is in flight
+abbrev pub not_stopping_at : Wire → (endpoint pasid : ℕ) → List ℕ
+not_stopping_at wire endpoint pasid = plain_line refusal.NotStopping ++ about_lines Second wire endpoint (Stop pasid)
+
+abbrev pub not_stopping : Wire → Step → List ℕ
+not_stopping wire (step.Quit endpoint pasid) = not_stopping_at wire endpoint pasid
+not_stopping wire other = []
+
+-- AlreadyBound, NotLive: the binding that is there
+abbrev pub of_found : (said : BindingWire → List ℕ) → Option BindingWire → List ℕ
+of_found said None = []
+of_found said (Some binding) = said binding
+
+abbrev pub already_bound : Wire → Step → List ℕ
+already_bound wire (step.Bind endpoint space) = of_found (borne_lines wire) (bound_at wire endpoint space)
+already_bound wire other = []
+
+abbrev pub not_live : Wire → Step → List ℕ
+not_live wire (step.Unbind number) = of_found (kept_lines wire) (binding_of wire number)
+not_live wire other = []
 
 -- ---- All
 
@@ -166,4 +188,8 @@ refused_lines wire asked refusal.TooManySpaces = too_many wire
 refused_lines wire asked refusal.NoFrame = no_frame wire asked
 refused_lines wire asked refusal.SpaceFull = space_full wire asked
 refused_lines wire asked refusal.NoPasid = no_pasid wire
+refused_lines wire asked refusal.NotStopping = not_stopping wire asked
+refused_lines wire asked refusal.AlreadyBound = already_bound wire asked
+refused_lines wire asked refusal.NotLive = not_live wire asked
+refused_lines wire asked refusal.Mapped = mapped wire asked
 refused_lines wire asked other = plain_line other

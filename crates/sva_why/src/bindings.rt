@@ -6,18 +6,19 @@ ghost use Rattle.sva_snapshot.specs.Shown.{binding_shown, endpoint_shown, stage_
 ghost use Rattle.sva_why.specs.Bindings.{binding_line, bound_if, bound_lines, descriptors_of};
 ghost use Rattle.sva_why.specs.Bindings.{full_lines, is_unbound_next, marker_lines, not_yet_by, stays_lines};
 ghost use Rattle.sva_why.specs.Bindings.{binding_text, going_if, going_lines, marker_line, marker_of_lines};
-ghost use Rattle.sva_why.specs.Bindings.{on_link_lines, quit_text};
+ghost use Rattle.sva_why.specs.Bindings.{borne_lines, kept_lines, on_link_lines, quit_text, stays_of};
 
 use crate::groups::put_open;
 use std::alloc::AllocError;
 use sva_accepted::{can_quit, part_at};
-use sva_lacking::{put_advance, put_unbind};
+use sva_lacking::{put_advance, put_bearer, put_unbind};
 use sva_lines::{end_line, put_field, put_stage, put_word};
 use sva_snapshot::{Binding, Endpoint, Snapshot, Stage};
 use sva_standing::{
-    Level, Topic, below, put_about, put_bracket_of_two, put_busy_pasid, put_reset_if, put_room,
-    put_start, put_wait_if,
+    Level, Topic, below, put_about, put_bracket_of_two, put_reset_if, put_room, put_start,
+    put_wait_if,
 };
+use sva_under_way::put_busy_pasid;
 
 /// Appends the stage of a binding.
 fn put_binding_text(out: &mut Vec<u8>, level: Level, binding: &Binding) -> Result<(), AllocError>
@@ -260,6 +261,40 @@ fn put_stays(
     put_going_if(out, level, snapshot, binding, part)
 }
 
+/// Appends why a binding doesn't go on, below its line.
+fn put_stays_of(out: &mut Vec<u8>, snapshot: &Snapshot, binding: &Binding) -> Result<(), AllocError>
+    ensures { OnOk result (out.new.items ≡ out.old.items ++ stays_of snapshot.now (binding_shown binding.now)) }
+{
+    match part_at(snapshot, binding.endpoint) {
+        None => Ok(()),
+        Some(part) => put_stays(out, Level::Second, snapshot, binding, part),
+    }
+}
+
+/// Appends the lines of a binding: its stage, and why it doesn't go on.
+pub(crate) fn put_kept(
+    out: &mut Vec<u8>,
+    snapshot: &Snapshot,
+    binding: &Binding,
+) -> Result<(), AllocError>
+    ensures { OnOk result (out.new.items ≡ out.old.items ++ kept_lines snapshot.now (binding_shown binding.now)) }
+{
+    put_binding(out, Level::First, snapshot, binding)?;
+    put_stays_of(out, snapshot, binding)
+}
+
+/// Appends the same with its space and PASID.
+pub(crate) fn put_borne(
+    out: &mut Vec<u8>,
+    snapshot: &Snapshot,
+    binding: &Binding,
+) -> Result<(), AllocError>
+    ensures { OnOk result (out.new.items ≡ out.old.items ++ borne_lines snapshot.now (binding_shown binding.now)) }
+{
+    put_bearer(out, Level::First, snapshot, binding)?;
+    put_stays_of(out, snapshot, binding)
+}
+
 /// Appends the lines of a binding, if it is of the space.
 fn put_bound_if(
     out: &mut Vec<u8>,
@@ -270,13 +305,10 @@ fn put_bound_if(
     ensures { OnOk result (out.new.items ≡ out.old.items
         ++ bound_if snapshot.now space (binding_shown binding.now)) }
 {
-    if binding.space != space {
-        return Ok(());
-    }
-    put_binding(out, Level::First, snapshot, binding)?;
-    match part_at(snapshot, binding.endpoint) {
-        None => Ok(()),
-        Some(part) => put_stays(out, Level::Second, snapshot, binding, part),
+    if binding.space == space {
+        put_kept(out, snapshot, binding)
+    } else {
+        Ok(())
     }
 }
 

@@ -5,29 +5,29 @@ ghost use Rattle.sva_address_spaces.specs.Seen.{pages_seen};
 ghost use Rattle.sva_lines.specs.Pieces.{rows};
 ghost use Rattle.sva_snapshot.specs.Shown.{endpoint_shown};
 ghost use Rattle.sva_step.specs.declared.steps.Step.TheVariants as steps;
-ghost use Rattle.sva_why.specs.Causes.{bad_verdict, busy, disabled, endpoint_of, full_if, in_use, no_credit};
-ghost use Rattle.sva_why.specs.Causes.{not_mapped};
-ghost use Rattle.sva_why.specs.Causes.{not_pending, not_started, not_started_at, not_yet, overtakes};
+ghost use Rattle.sva_why.specs.Causes.{already_bound, bad_verdict, busy, disabled, endpoint_of, full_if, in_use};
+ghost use Rattle.sva_why.specs.Causes.{no_credit, not_live, not_mapped, not_pending, not_started, not_started_at};
+ghost use Rattle.sva_why.specs.Causes.{not_stopping, not_stopping_at, not_yet, overtakes};
 ghost use Rattle.sva_why.specs.Causes.{queue_full, refused_lines, resetting, still_bound, unmap_full_lines};
 ghost use Rattle.sva_why.specs.Causes.{unmapped_if, unmapped_lines};
 
-use crate::bindings::{put_bound, put_full, put_not_yet};
+use crate::bindings::{put_borne, put_bound, put_full, put_kept, put_not_yet};
 use crate::groups::put_read_only;
 use crate::plain::put_plain;
 use crate::vectors::{put_in_use, put_not_pending};
 use std::alloc::AllocError;
-use sva_accepted::{binding_of, flight_of, held_by, is_mapped, pages_in, part_at, submits};
+use sva_accepted::{
+    binding_of, bound_at, flight_of, held_by, is_mapped, pages_in, part_at, submits,
+};
 use sva_lacking::{
-    put_hands_full, put_no_frame, put_no_job, put_no_pasid, put_no_slot, put_no_tag, put_not_held,
-    put_space_full, put_too_many,
+    put_hands_full, put_mapped, put_no_frame, put_no_job, put_no_pasid, put_no_slot, put_no_tag,
+    put_not_held, put_space_full, put_too_many,
 };
 use sva_lines::{end_line, put_field, put_word};
 use sva_snapshot::{Endpoint, Mapping, Snapshot};
-use sva_standing::{
-    Level, put_busy_pasid, put_credit, put_disabled, put_in_reset, put_indent, put_not_started,
-    put_older, put_room,
-};
+use sva_standing::{Level, Topic, put_about, put_in_reset, put_indent, put_older, put_room};
 use sva_step::{MOST_PAGES, PAGES, Refusal, Step};
+use sva_under_way::{put_busy_pasid, put_credit, put_disabled, put_not_started};
 
 /// Appends the line of a page, if it isn't mapped.
 fn put_unmapped_if(out: &mut Vec<u8>, pages: &[Mapping], page: u64) -> Result<(), AllocError>
@@ -367,7 +367,56 @@ fn put_no_credit(
     };
     match part_at(snapshot, endpoint) {
         None => Ok(()),
-        Some(part) => put_credit(out, Level::First, snapshot, endpoint, &part.device),
+        Some(part) => put_credit(out, Level::First, snapshot, endpoint, part),
+    }
+}
+
+/// Appends that a PASID isn't told to stop, and its stop that is in flight.
+fn put_not_stopping_at(
+    out: &mut Vec<u8>,
+    snapshot: &Snapshot,
+    endpoint: u64,
+    pasid: u64,
+) -> Result<(), AllocError>
+    ensures { OnOk result (out.new.items ≡ out.old.items ++ not_stopping_at snapshot.now endpoint pasid) }
+{
+    put_plain(out, Refusal::NotStopping)?;
+    put_about(out, Level::Second, snapshot, endpoint, Topic::Stop(pasid))
+}
+
+/// Appends the same of the PASID of a step.
+fn put_not_stopping(out: &mut Vec<u8>, snapshot: &Snapshot, step: &Step) -> Result<(), AllocError>
+    ensures { OnOk result (out.new.items ≡ out.old.items ++ not_stopping snapshot.now step.now) }
+{
+    match step {
+        Step::Quit { endpoint, pasid } => put_not_stopping_at(out, snapshot, *endpoint, *pasid),
+        _ => Ok(()),
+    }
+}
+
+/// Appends the binding of a space at an endpoint that keeps it from being bound there.
+fn put_already_bound(out: &mut Vec<u8>, snapshot: &Snapshot, step: &Step) -> Result<(), AllocError>
+    ensures { OnOk result (out.new.items ≡ out.old.items ++ already_bound snapshot.now step.now) }
+{
+    match step {
+        Step::Bind { endpoint, space } => match bound_at(snapshot, *endpoint, *space) {
+            None => Ok(()),
+            Some(found) => put_borne(out, snapshot, &found),
+        },
+        _ => Ok(()),
+    }
+}
+
+/// Appends the binding that isn't live.
+fn put_not_live(out: &mut Vec<u8>, snapshot: &Snapshot, step: &Step) -> Result<(), AllocError>
+    ensures { OnOk result (out.new.items ≡ out.old.items ++ not_live snapshot.now step.now) }
+{
+    match step {
+        Step::Unbind { binding } => match binding_of(snapshot, *binding) {
+            None => Ok(()),
+            Some(found) => put_kept(out, snapshot, &found),
+        },
+        _ => Ok(()),
     }
 }
 
@@ -403,6 +452,10 @@ pub(crate) fn put_refused(
         Refusal::NoFrame => put_no_frame(out, snapshot, step),
         Refusal::SpaceFull => put_space_full(out, snapshot, step),
         Refusal::NoPasid => put_no_pasid(out, snapshot),
+        Refusal::NotStopping => put_not_stopping(out, snapshot, step),
+        Refusal::AlreadyBound => put_already_bound(out, snapshot, step),
+        Refusal::NotLive => put_not_live(out, snapshot, step),
+        Refusal::Mapped => put_mapped(out, snapshot, step),
         other => put_plain(out, other),
     }
 }

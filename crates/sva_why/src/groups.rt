@@ -1,176 +1,18 @@
 //! Groups of page requests that the host has open, and jobs in hands.
 
-ghost use Rattle.std.specs.Prelude.{◌≡◌, ◌++◌, None, OnOk, Some, flat_map, map, option_map, slice_index_or};
+ghost use Rattle.std.specs.Prelude.{◌≡◌, ◌++◌, None, OnOk, Some, flat_map, map, slice_index_or};
 ghost use Rattle.sva_address_spaces.specs.Seen.{pages_seen};
-ghost use Rattle.sva_labels.specs.Moves.{is_of_job};
-ghost use Rattle.sva_lines.specs.Pieces.{rows};
-ghost use Rattle.sva_msg.specs.Seen.{page_request_seen};
 ghost use Rattle.sva_parts_by_labels.specs.Device.{group_seen};
 ghost use Rattle.sva_prq.specs.Job.{ask_seen};
 ghost use Rattle.sva_snapshot.specs.Shown.{endpoint_shown, host_group_shown, job_shown};
-ghost use Rattle.sva_why.specs.Groups.{hand_if, job_if, open_if, open_lines, read_only_if};
-ghost use Rattle.sva_why.specs.Groups.{read_only_lines, request_if, take_if, unfinished_at, where_lines};
+ghost use Rattle.sva_why.specs.Groups.{open_if, open_lines, read_only_if, read_only_lines, unfinished_at, where_lines};
 
 use std::alloc::AllocError;
-use sva_accepted::{can_serve, can_take, is_read_only_at, pages_of_job};
-use sva_lacking::put_invalid;
+use sva_accepted::{is_read_only_at, pages_of_job};
 use sva_lines::{end_line, put_field, put_word};
-use sva_snapshot::{Ask, Endpoint, GroupPlace, HostGroup, Job, Mapping, PageRequest, Snapshot};
-use sva_standing::{Level, Topic, below, put_about, put_bracket, put_indent, put_unfinished_if};
-
-/// Is it the job of the group?
-fn is_of_job(job: &Job, group: &HostGroup) -> bool
-    ensures { result ≡ is_of_job (job_shown job.now) (host_group_shown group.now) }
-{
-    group.binding == job.binding && group.index == job.index
-}
-
-/// Appends the line of a worker, if it has the job of the group in hand.
-fn put_hand_if(
-    out: &mut Vec<u8>,
-    level: Level,
-    snapshot: &Snapshot,
-    group: &HostGroup,
-    worker: u64,
-    hand: &Option<Job>,
-) -> Result<(), AllocError>
-    ensures { OnOk result (out.new.items ≡ out.old.items
-        ++ hand_if level snapshot.now (host_group_shown group.now) worker (option_map job_shown hand.now)) }
-{
-    let Some(job) = hand else {
-        return Ok(());
-    };
-    if !is_of_job(job, group) {
-        return Ok(());
-    }
-    put_indent(out, level)?;
-    put_field(out, "worker ", worker)?;
-    put_word(out, " has it in hand")?;
-    put_invalid(out, snapshot, worker)?;
-    end_line(out)
-}
-
-/// Appends the line of the worker that has the job of the group in hand.
-fn put_hands(
-    out: &mut Vec<u8>,
-    level: Level,
-    snapshot: &Snapshot,
-    group: &HostGroup,
-    hands: &[Option<Job>],
-) -> Result<(), AllocError>
-    ensures { OnOk result (out.new.items ≡ out.old.items
-        ++ rows (hand_if level snapshot.now (host_group_shown group.now)) 0 (map (option_map job_shown) hands.now)) }
-{
-    for (worker, hand) in hands.iter().enumerate() {
-        put_hand_if(out, level, snapshot, group, worker as u64, hand)?;
-    }
-    Ok(())
-}
-
-/// Appends that a worker takes a job, in brackets, where that would be accepted.
-fn put_take_if(
-    out: &mut Vec<u8>,
-    snapshot: &Snapshot,
-    worker: u64,
-    hand: &Option<Job>,
-) -> Result<(), AllocError>
-    ensures { OnOk result (out.new.items ≡ out.old.items
-        ++ take_if snapshot.now worker (option_map job_shown hand.now)) }
-{
-    let holds = hand.is_none() && can_take(snapshot, worker);
-    put_bracket(out, holds, " [take ", worker)
-}
-
-/// Appends for each worker that it takes a job, in brackets, where that would be accepted.
-fn put_takes(
-    out: &mut Vec<u8>,
-    snapshot: &Snapshot,
-    hands: &[Option<Job>],
-) -> Result<(), AllocError>
-    ensures { OnOk result (out.new.items ≡ out.old.items
-        ++ rows (take_if snapshot.now) 0 (map (option_map job_shown) hands.now)) }
-{
-    for (worker, hand) in hands.iter().enumerate() {
-        put_take_if(out, snapshot, worker as u64, hand)?;
-    }
-    Ok(())
-}
-
-/// Appends the line of a job that is queued, if it is that of the group.
-fn put_job_if(
-    out: &mut Vec<u8>,
-    level: Level,
-    snapshot: &Snapshot,
-    group: &HostGroup,
-    job: &Job,
-) -> Result<(), AllocError>
-    ensures { OnOk result (out.new.items ≡ out.old.items
-        ++ job_if level snapshot.now (host_group_shown group.now) (job_shown job.now)) }
-{
-    if !is_of_job(job, group) {
-        return Ok(());
-    }
-    put_indent(out, level)?;
-    put_word(out, "no worker has taken it")?;
-    put_takes(out, snapshot, snapshot.hands.as_slice())?;
-    end_line(out)
-}
-
-/// Appends the line of the queued job of the group.
-fn put_jobs(
-    out: &mut Vec<u8>,
-    level: Level,
-    snapshot: &Snapshot,
-    group: &HostGroup,
-    jobs: &[Job],
-) -> Result<(), AllocError>
-    ensures { OnOk result (out.new.items ≡ out.old.items
-        ++ flat_map (job_if level snapshot.now (host_group_shown group.now)) (map job_shown jobs.now)) }
-{
-    for job in jobs {
-        put_job_if(out, level, snapshot, group, job)?;
-    }
-    Ok(())
-}
-
-/// Appends the line of a page request that waits, if it is of the group's index.
-fn put_request_if(
-    out: &mut Vec<u8>,
-    level: Level,
-    snapshot: &Snapshot,
-    endpoint: u64,
-    index: u64,
-    request: &PageRequest,
-) -> Result<(), AllocError>
-    ensures { OnOk result (out.new.items ≡ out.old.items
-        ++ request_if level snapshot.now endpoint index (page_request_seen request.now)) }
-{
-    if u64::from(request.index) != index {
-        return Ok(());
-    }
-    put_indent(out, level)?;
-    put_field(out, "a page request of it waits at unit ", endpoint)?;
-    put_bracket(out, can_serve(snapshot, endpoint), " [serve ", endpoint)?;
-    end_line(out)
-}
-
-/// Appends the lines of the page requests of the group's index that wait.
-fn put_requests(
-    out: &mut Vec<u8>,
-    level: Level,
-    snapshot: &Snapshot,
-    endpoint: u64,
-    index: u64,
-    requests: &[PageRequest],
-) -> Result<(), AllocError>
-    ensures { OnOk result (out.new.items ≡ out.old.items
-        ++ flat_map (request_if level snapshot.now endpoint index) (map page_request_seen requests.now)) }
-{
-    for request in requests {
-        put_request_if(out, level, snapshot, endpoint, index, request)?;
-    }
-    Ok(())
-}
+use sva_snapshot::{Ask, Endpoint, GroupPlace, HostGroup, Job, Mapping, Snapshot};
+use sva_standing::{Level, below, put_indent};
+use sva_under_way::{put_invalid, put_job_of, put_unfiled, put_unfinished_if};
 
 /// Appends the lines of the endpoint's group that is at the index, if it is unfinished.
 fn put_unfinished_place(
@@ -227,11 +69,8 @@ fn put_where(
         ++ where_lines level snapshot.now endpoint (endpoint_shown part.now) (host_group_shown group.now)) }
 {
     let index = u64::from(group.index);
-    let requests = part.page_queue.as_slice();
-    put_hands(out, level, snapshot, group, snapshot.hands.as_slice())?;
-    put_jobs(out, level, snapshot, group, snapshot.jobs.as_slice())?;
-    put_requests(out, level, snapshot, endpoint, index, requests)?;
-    put_about(out, level, snapshot, endpoint, Topic::Asks(index))?;
+    put_job_of(out, level, snapshot, group)?;
+    put_unfiled(out, level, snapshot, endpoint, part, index)?;
     let groups = part.device.groups.as_slice();
     put_unfinished_at(out, level, snapshot, endpoint, part, index, groups)
 }

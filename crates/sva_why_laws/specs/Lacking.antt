@@ -5,35 +5,46 @@ use Rattle.sva_step.specs.declared.refusals.Refusal.TheVariants as refusal
 use Rattle.sva_step.specs.declared.steps.Step.{Step}
 use Rattle.sva_step.specs.declared.steps.Step.TheVariants as step
 use Rattle.sva_step.specs.declared.steps.Verdict.{Verdict}
-use Rattle.sva_model.specs.Wire.{BindingWire, EndpointWire, GroupWire, JobWire, PageWire, RequestWire, SpaceWire, TargetWire, TranslationWire, Wire}
+use Rattle.sva_model.specs.Wire.{BindingWire, EndpointWire, FlightWire, GroupWire, HostGroupWire, JobWire, PageRequestWire, PageWire, RequestWire}
+use Rattle.sva_model.specs.Wire.{SpaceWire, TargetWire, TranslationWire, Wire}
 use Rattle.sva_model.specs.Wire.PlaceWire.{WithheldWire}
 use Rattle.sva_model.specs.Wire.UseWire.{RunningWire, DeadWire}
-use Rattle.sva_labels.specs.Finding.{held_by, outstanding, pages_in}
+use Rattle.sva_labels.specs.Finding.{binding_of, bound_at, held_by, outstanding, page_at, pages_in}
+use Rattle.sva_labels.specs.Moves.{is_of_job}
 use Rattle.sva_labels.specs.Replying.{space_of_job}
 use Rattle.sva_lines.specs.Pieces.{field, line_end}
 use Rattle.sva_accepted.specs.Accepted.{is_accepted}
-use Rattle.sva_lacking.specs.Frames.{frames_lines, pages_line, to_map_line, withheld_line}
+use Rattle.sva_lacking.specs.Frames.{frames_lines, mapped_line, pages_line, to_map_line, withheld_line}
 use Rattle.sva_lacking.specs.Hands.{hand_line}
 use Rattle.sva_lacking.specs.Pasids.{bearer_line}
 use Rattle.sva_lacking.specs.Slots.{slot_line}
 use Rattle.sva_lacking.specs.Spaces.{unbound_line}
 use Rattle.sva_lacking.specs.Tags.{not_held_line}
-use Rattle.sva_standing.specs.declared.levels.Level.TheVariants.{First, Second}
+use Rattle.sva_standing.specs.declared.levels.Level.TheVariants.{First, Second, Third}
+use Rattle.sva_standing.specs.declared.link.Topic.TheVariants.{Asks, Responds, Stop}
 use Rattle.sva_standing.specs.Lines.{indent}
-use Rattle.sva_standing.specs.Tables.{is_due, out_line, reset_text}
+use Rattle.sva_standing.specs.Link.{is_about, message_line}
+use Rattle.sva_under_way.specs.Jobs.{in_hand_line, request_line, untaken_line}
+use Rattle.sva_under_way.specs.Tables.{due_line, is_due, out_line, reset_text}
+use Rattle.sva_why.specs.Bindings.{binding_line}
 use Rattle.sva_why.specs.Causes.{endpoint_of}
 use Rattle.sva_why.specs.Standing.{Has}
 use Rattle.sva_why.specs.Why.{why_of}
-
--- `group 0 awaits its response`
-abbrev pub due_line : (index : ℕ) → List ℕ
-due_line index = indent Second ++ field (codes "group ") index ++ codes " awaits its response" ++ line_end
 
 -- `page requests are disabled at endpoint 0: only a reset helps [reset 0]`
 abbrev pub disabled_line : Wire → (endpoint : ℕ) → List ℕ
 disabled_line wire endpoint =
     indent First ++ field (codes "page requests are disabled at endpoint ") endpoint ++ codes ": only a reset helps"
     ++ reset_text wire endpoint ++ line_end
+
+-- the step is of an endpoint at which 32 page requests are outstanding, and there the group of the index awaits its response
+pub record IsDue (wire : Wire) (asked : Step) (endpoint index : ℕ) (part : EndpointWire) : Type 0 where
+  pub group : Option GroupWire
+  pub of_it : endpoint_of wire asked ≡ Some endpoint
+  pub there : slice_get wire.parts endpoint ≡ Some part
+  pub spent : nat_le Limits.page_requests (outstanding part.device.groups) ≡ true
+  pub bears : slice_get part.device.groups index ≡ Some group
+  pub due : is_due group ≡ true
 
 pub record LackingStand : Type 0 where
   -- NoTag: each request that is out
@@ -75,7 +86,7 @@ pub record LackingStand : Type 0 where
       (to_map_line wire worker job ++ pages_line wire (space_of_job wire job) (pages_in wire (space_of_job wire job)))
   -- NoPasid: each binding, by which its space bears one
   pub bearer_stands : (wire : Wire) (asked : Step) (place : ℕ) (binding : BindingWire) → slice_get wire.bindings place ≡ Some binding
-      → Has (why_of wire asked (Err refusal.NoPasid)) (bearer_line wire binding)
+      → Has (why_of wire asked (Err refusal.NoPasid)) (bearer_line Second wire binding)
   -- NotHeld: that, and each request for the page; of an eviction it is said as of a use
   pub lack_stands : (wire : Wire) (endpoint pasid page : ℕ) (write : Bool) (part : EndpointWire)
       → slice_get wire.parts endpoint ≡ Some part
@@ -87,12 +98,41 @@ pub record LackingStand : Type 0 where
   pub evict_alike : (wire : Wire) (endpoint pasid page : ℕ) (write : Bool)
       → why_of wire (step.Evict endpoint pasid page) (Err refusal.NotHeld)
       ≡ why_of wire (step.BeginUse endpoint pasid page write) (Err refusal.NotHeld)
-  -- NoCredit: each group whose response is due. PriDisabled
-  pub due_stands : (wire : Wire) (asked : Step) (endpoint index : ℕ) (part : EndpointWire) (group : Option GroupWire)
-      → endpoint_of wire asked ≡ Some endpoint → slice_get wire.parts endpoint ≡ Some part
-      → nat_le Limits.page_requests (outstanding part.device.groups) ≡ true
-      → slice_get part.device.groups index ≡ Some group → is_due group ≡ true
-      → Has (why_of wire asked (Err refusal.NoCredit)) (due_line index)
+  -- NoCredit: each group whose response is due; and below it the worker that has its job in hand, the job, each page request of it that waits
+  -- at the unit, and each message of it
+  pub due_stands : (wire : Wire) (asked : Step) (endpoint index : ℕ) (part : EndpointWire) → IsDue wire asked endpoint index part
+      → Has (why_of wire asked (Err refusal.NoCredit)) (due_line Second index)
+  pub worker_stands : (wire : Wire) (asked : Step) (endpoint index place worker : ℕ) (part : EndpointWire) (group : HostGroupWire) (job : JobWire)
+      → IsDue wire asked endpoint index part → slice_get part.host_groups place ≡ Some group → (group.index == index) ≡ true
+      → slice_get wire.hands worker ≡ Some (Some job) → is_of_job job group ≡ true
+      → Has (why_of wire asked (Err refusal.NoCredit)) (in_hand_line Third wire worker)
+  pub untaken_stands : (wire : Wire) (asked : Step) (endpoint index place at : ℕ) (part : EndpointWire) (group : HostGroupWire) (job : JobWire)
+      → IsDue wire asked endpoint index part → slice_get part.host_groups place ≡ Some group → (group.index == index) ≡ true
+      → slice_get wire.jobs at ≡ Some job → is_of_job job group ≡ true
+      → Has (why_of wire asked (Err refusal.NoCredit)) (untaken_line Third wire)
+  pub request_stands : (wire : Wire) (asked : Step) (endpoint index place : ℕ) (part : EndpointWire) (request : PageRequestWire)
+      → IsDue wire asked endpoint index part → slice_get part.page_queue place ≡ Some request → (request.index == index) ≡ true
+      → Has (why_of wire asked (Err refusal.NoCredit)) (request_line Third wire endpoint)
+  pub asks_stand : (wire : Wire) (asked : Step) (endpoint index place : ℕ) (part : EndpointWire) (flight : FlightWire)
+      → IsDue wire asked endpoint index part → slice_get wire.in_flight place ≡ Some flight
+      → (flight.endpoint == endpoint && is_about (Asks index) flight.message) ≡ true
+      → Has (why_of wire asked (Err refusal.NoCredit)) (message_line Third (codes " is in flight:") wire flight)
+  pub response_stands : (wire : Wire) (asked : Step) (endpoint index place : ℕ) (part : EndpointWire) (flight : FlightWire)
+      → IsDue wire asked endpoint index part → slice_get wire.in_flight place ≡ Some flight
+      → (flight.endpoint == endpoint && is_about (Responds index) flight.message) ≡ true
+      → Has (why_of wire asked (Err refusal.NoCredit)) (message_line Third (codes " is in flight:") wire flight)
+  -- PriDisabled
   pub disabled_stands : (wire : Wire) (asked : Step) (endpoint : ℕ) (part : EndpointWire)
       → endpoint_of wire asked ≡ Some endpoint → slice_get wire.parts endpoint ≡ Some part → part.device.is_disabled ≡ true
       → Has (why_of wire asked (Err refusal.PriDisabled)) (disabled_line wire endpoint)
+  -- NotStopping: the stop in flight
+  pub stop_stands : (wire : Wire) (endpoint pasid place : ℕ) (flight : FlightWire)
+      → slice_get wire.in_flight place ≡ Some flight → (flight.endpoint == endpoint && is_about (Stop pasid) flight.message) ≡ true
+      → Has (why_of wire (step.Quit endpoint pasid) (Err refusal.NotStopping)) (message_line Second (codes " is in flight:") wire flight)
+  -- AlreadyBound, NotLive, Mapped: what is there
+  pub bound_stands : (wire : Wire) (endpoint space : ℕ) (binding : BindingWire) → bound_at wire endpoint space ≡ Some binding
+      → Has (why_of wire (step.Bind endpoint space) (Err refusal.AlreadyBound)) (bearer_line First wire binding)
+  pub unbound_stands : (wire : Wire) (number : ℕ) (binding : BindingWire) → binding_of wire number ≡ Some binding
+      → Has (why_of wire (step.Unbind number) (Err refusal.NotLive)) (binding_line First wire binding)
+  pub page_stands : (wire : Wire) (space page : ℕ) (write : Bool) (entry : PageWire) → page_at (pages_in wire space) page ≡ Some entry
+      → Has (why_of wire (step.Map space page write) (Err refusal.Mapped)) (mapped_line wire space entry)

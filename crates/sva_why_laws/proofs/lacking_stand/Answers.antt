@@ -20,5 +20,14 @@ returns c = record {
   asked_stands = Lacking.asked_stands;
   evict_alike = Lacking.evict_alike;
   due_stands = Lacking.due_stands;
+  worker_stands = Lacking.worker_stands;
+  untaken_stands = Lacking.untaken_stands;
+  request_stands = Lacking.request_stands;
+  asks_stand = Lacking.asks_stand;
+  response_stands = Lacking.response_stands;
   disabled_stands = Lacking.disabled_stands;
+  stop_stands = Lacking.stop_stands;
+  bound_stands = Lacking.bound_stands;
+  unbound_stands = Lacking.unbound_stands;
+  page_stands = Lacking.page_stands;
 }

@@ -1,9 +1,10 @@
 use Rattle.std.proofs.Common.{◌≡◌, ◌++◌, flat_map, map, take}
 use Rattle.sva_lacking.specs.Pasids.{bearer_line}
 use Rattle.sva_snapshot.specs.Shown.{binding_shown}
+use Rattle.sva_standing.specs.declared.levels.Level.TheVariants.{Second}
 use Rattle.sva_lacking.proofs.pasids.put_bearers.Given as goal
 
 -- what was said so far
 abbrev pub invariant-loop-binding : goal.invariant-loop-binding
 invariant-loop-binding l =
-    l.out.items ≡ l.initial.out.items ++ flat_map (bearer_line l.snapshot) (map binding_shown (take l.binding-index l.bindings))
+    l.out.items ≡ l.initial.out.items ++ flat_map (bearer_line Second l.snapshot) (map binding_shown (take l.binding-index l.bindings))

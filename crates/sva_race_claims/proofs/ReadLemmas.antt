@@ -1,8 +1,8 @@
 -- What is read of words, piece after piece.
-use Rattle.std.proofs.Common.{◌≡◌, ◌∙◌, ◌+◌, ap, arith, sym, ℕ, List, [], ◌∷◌, ◌++◌, length, map}
-use Rattle.std.specs.Prelude.{Option, Result, Ok, Err}
+use Rattle.std.proofs.Common.{◌≡◌, ◌∙◌, ◌+◌, ap, arith, refl, sym, ℕ, Bool, List, [], ◌∷◌, ◌++◌, length, map}
+use Rattle.std.specs.Prelude.{◌||◌, Option, Result, Ok}
 use Rattle.std.specs.Option.{unwrap_or}
-use Rattle.std.specs.List.{position}
+use Rattle.std.specs.List.{list_any, position}
 use Rattle.std.proofs.lemmas.List.{map_push}
 use Rattle.sva_grammar.specs.Grammar.{◌>>=◌}
 use Rattle.sva_script.proofs.PartLemmas.{position_map}
@@ -10,8 +10,8 @@ use Rattle.sva_race_parts.specs.declared.races.Line.{Line}
 use Rattle.sva_race_words.specs.declared.faults.RaceStop.{RaceStop}
 use Rattle.sva_race_words.specs.declared.faults.RaceStop.TheVariants as stop
 use Rattle.sva_race_words.specs.declared.faults.RaceWrong.{RaceWrong}
-use Rattle.sva_race_claims.specs.Conditions.{each_from, has_name, place_of}
-use Rattle.sva_race_claims.specs.Seen.{line_seen}
+use Rattle.sva_race_claims.specs.Conditions.{each_from, place_of}
+use Rattle.sva_race_claims.specs.Seen.{has_name, line_seen}
 use Rattle.sva_race_claims.specs.Taking.{Fails, appended}
 
 -- ---- Pieces, one after another
@@ -67,3 +67,10 @@ added seen read old new one is pushed =
 pub place_by : (lines : List Line) (name : List ℕ) (found : Option ℕ) → found ≡ position (λ line. has_name name (line_seen line)) lines
     → place_of (map line_seen lines) name ≡ unwrap_or found 0
 place_by lines name found is = ap (λ place. unwrap_or place 0) (position_map line_seen (has_name name) lines ∙ sym is)
+
+-- ---- Whether a line is such a one
+
+pub any_seen : {A B : Type 0} (f : A → B) (p : B → Bool) (xs : List A)
+    → list_any (λ x. p (f x)) xs ≡ list_any p (map f xs)
+any_seen f p [] = refl
+any_seen f p (x ∷ xs) = ap (λ b. p (f x) || b) (any_seen f p xs)

@@ -1,4 +1,5 @@
 pub mod Seen
 pub mod Taking
 pub mod Steps
+pub mod Possible
 pub mod Conditions

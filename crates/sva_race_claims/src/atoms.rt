@@ -4,13 +4,14 @@ ghost use Rattle.std.specs.Prelude.{◌≡◌, ◌+◌, ◌<◌, ◌≤◌, ◌^
 ghost use Rattle.sva_grammar.specs.Grammar.{number};
 ghost use Rattle.sva_script.specs.Expect.{expected_of};
 ghost use Rattle.sva_script_reading.specs.Begins.{joined_words};
-ghost use Rattle.sva_race_claims.specs.Conditions.{atom_of, done_of, endpoint_if, has_name, is_not, is_of, judged};
-ghost use Rattle.sva_race_claims.specs.Conditions.{literal_of, look_at, nots, place_of, times_by, times_of, usable_of};
-ghost use Rattle.sva_race_claims.specs.Conditions.{would_of};
-ghost use Rattle.sva_race_claims.specs.Seen.{atom_seen, line_seen, literal_seen};
+ghost use Rattle.sva_race_claims.specs.Conditions.{answer_judged, atom_of, done_of, endpoint_if, is_not, is_of};
+ghost use Rattle.sva_race_claims.specs.Conditions.{judged, literal_of, look_at, nots, place_of, times_by, times_of};
+ghost use Rattle.sva_race_claims.specs.Conditions.{usable_of, would_of};
+ghost use Rattle.sva_race_claims.specs.Seen.{atom_seen, has_name, line_seen, literal_seen};
 ghost use Rattle.sva_race_claims.specs.Seen.AtomSaid.{WouldSaid};
 ghost use Rattle.sva_race_claims.specs.Taking.{Gives, Judges};
 
+use crate::possible::{has_name, judge_frame, judge_refusal};
 use crate::steps::{endpoint_in, is_step, judge_step};
 use std::alloc::{AllocError, Global};
 use sva_grammar::number_in;
@@ -21,17 +22,8 @@ use sva_race_words::{
 };
 use sva_script::{Names, Stop, expect, parts_of};
 use sva_script_reading::Desk;
+use sva_step::Config;
 use sva_words::is;
-
-/// Whether a line has the name.
-fn has_name(line: &Line, name: &[u8]) -> bool
-    ensures { result ≡ has_name name.now (line_seen line.now) }
-{
-    match &line.name {
-        Some(own) => is(name, own.as_slice()),
-        None => false,
-    }
-}
 
 /// The place of the first line that has the name.
 fn line_of(lines: &[Line], name: &[u8]) -> Option<usize>
@@ -97,13 +89,15 @@ fn endpoint_if(endpoints: u64, words: &[&[u8]], at: usize) -> Result<Option<u64>
 /// An atom `usable F` or `usable F E`, whose words begin at `at`.
 fn read_usable(
     alloc: Global,
-    endpoints: u64,
+    config: Config,
     names: &Names,
+    lines: &[Line],
     words: &[&[u8]],
     at: usize,
 ) -> Result<Atom, RaceStop>
     requires { at + length words.now + 3 < 2 ^ 64 }
-    ensures { Gives atom_seen (usable_of endpoints names.now at (map (λ word. word.now) words.now)) result }
+    ensures { Gives atom_seen (usable_of config names.now (map line_seen lines.now) at
+        (map (λ word. word.now) words.now)) result }
 {
     let look = match look_at(alloc, word_at(words, 1)) {
         Ok(look) => look,
@@ -111,7 +105,8 @@ fn read_usable(
     };
     let mut desk = Desk::new(alloc);
     judge_step(names, look.as_slice(), at, &mut desk)?;
-    let endpoint = endpoint_if(endpoints, words, at).map_err(RaceStop::Wrong)?;
+    judge_frame(config.frames, lines, at + 1, word_at(words, 1)).map_err(RaceStop::Wrong)?;
+    let endpoint = endpoint_if(config.endpoints, words, at).map_err(RaceStop::Wrong)?;
     judge_end(words, at, 3).map_err(RaceStop::Wrong)?;
     match joined(alloc, look.as_slice()) {
         Ok(look) => Ok(Atom::Usable { endpoint, look }),
@@ -119,8 +114,8 @@ fn read_usable(
     }
 }
 
-/// Whether the words of an expected answer, which begin at `at`, are right.
-fn judge_answer(alloc: Global, names: &Names, words: &[&[u8]], at: usize) -> Result<(), RaceStop>
+/// Whether the words of an expected answer, which begin at `at`, are right by themselves.
+fn judge_words(alloc: Global, names: &Names, words: &[&[u8]], at: usize) -> Result<(), RaceStop>
     requires { at + length words.now < 2 ^ 64 }
     ensures { Judges (judged (expected_of at names.now (map (λ word. word.now) words.now))) result }
 {
@@ -130,6 +125,16 @@ fn judge_answer(alloc: Global, names: &Names, words: &[&[u8]], at: usize) -> Res
         Err(Stop::Wrong(found)) => Err(stop_at(found.at, RaceWanted::Script(found.wanted))),
         Err(Stop::Memory) => Err(RaceStop::Memory),
     }
+}
+
+/// Whether an answer, whose words begin at `at`, is one that there is.
+fn judge_answer(alloc: Global, names: &Names, words: &[&[u8]], at: usize) -> Result<(), RaceStop>
+    requires { at + length words.now < 2 ^ 64 }
+    ensures { Judges (answer_judged at names.now (map (λ word. word.now) words.now)) result }
+{
+    judge_words(alloc, names, words, at)?;
+    judge_refusal(words, at).map_err(RaceStop::Wrong)?;
+    Ok(())
 }
 
 /// An atom `NAME is ANSWER`, whose words begin at `at`.
@@ -213,14 +218,14 @@ fn read_would(alloc: Global, names: &Names, words: &[&[u8]], at: usize) -> Resul
 /// An atom, whose words begin at `at`.
 fn read_atom(
     alloc: Global,
-    endpoints: u64,
+    config: Config,
     names: &Names,
     lines: &[Line],
     words: &[&[u8]],
     at: usize,
 ) -> Result<Atom, RaceStop>
     requires { at + length words.now + 3 < 2 ^ 64 }
-    ensures { Gives atom_seen (atom_of endpoints names.now (map line_seen lines.now) at
+    ensures { Gives atom_seen (atom_of config names.now (map line_seen lines.now) at
         (map (λ word. word.now) words.now)) result }
 {
     let first = word_at(words, 0);
@@ -228,7 +233,7 @@ fn read_atom(
         return read_done(names, lines, words, at);
     }
     if is(first, b"usable") {
-        return read_usable(alloc, endpoints, names, words, at);
+        return read_usable(alloc, config, names, lines, words, at);
     }
     if is(first, b"times") {
         return read_times(alloc, names, words, at);
@@ -260,19 +265,19 @@ fn nots(words: &[&[u8]]) -> usize
 /// An atom behind `not`, or alone; the words begin at `at`.
 pub(crate) fn read_literal(
     alloc: Global,
-    endpoints: u64,
+    config: Config,
     names: &Names,
     lines: &[Line],
     words: &[&[u8]],
     at: usize,
 ) -> Result<Literal, RaceStop>
     requires { at + length words.now + 4 < 2 ^ 64 }
-    ensures { Gives literal_seen (literal_of endpoints names.now (map line_seen lines.now) at
+    ensures { Gives literal_seen (literal_of config names.now (map line_seen lines.now) at
         (map (λ word. word.now) words.now)) result }
 {
     let before = nots(words);
     let rest = words_from(words, before);
-    let atom = read_atom(alloc, endpoints, names, lines, rest, at + before)?;
+    let atom = read_atom(alloc, config, names, lines, rest, at + before)?;
     Ok(Literal {
         is_not: is_not(words),
         atom,

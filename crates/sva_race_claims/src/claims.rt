@@ -11,6 +11,7 @@ use std::alloc::{AllocError, Global};
 use sva_race::{Claiming, Line, Literal};
 use sva_race_words::{RaceStop, piece_len, word_at, words_at, words_from};
 use sva_script::Names;
+use sva_step::Config;
 use sva_words::is;
 
 fn push_literal(list: &mut Vec<Literal>, one: Literal) -> Result<(), AllocError>
@@ -30,7 +31,7 @@ fn push_literals(list: &mut Vec<Vec<Literal>>, one: Vec<Literal>) -> Result<(), 
 /// Adds a literal.
 fn add_literal(
     alloc: Global,
-    endpoints: u64,
+    config: Config,
     names: &Names,
     lines: &[Line],
     words: &[&[u8]],
@@ -38,10 +39,10 @@ fn add_literal(
     literals: &mut Vec<Literal>,
 ) -> Result<(), RaceStop>
     requires { at + length words.now + 4 < 2 ^ 64 }
-    ensures { Adds literal_seen (literal_of endpoints names.now (map line_seen lines.now) at
+    ensures { Adds literal_seen (literal_of config names.now (map line_seen lines.now) at
         (map (λ word. word.now) words.now)) literals.old.items literals.new.items result }
 {
-    match read_literal(alloc, endpoints, names, lines, words, at) {
+    match read_literal(alloc, config, names, lines, words, at) {
         Ok(literal) => match push_literal(literals, literal) {
             Ok(()) => Ok(()),
             Err(_) => Err(RaceStop::Memory),
@@ -53,14 +54,14 @@ fn add_literal(
 /// Literals with `and` between two; the words begin at `at`.
 fn read_literals(
     alloc: Global,
-    endpoints: u64,
+    config: Config,
     names: &Names,
     lines: &[Line],
     words: &[&[u8]],
     at: usize,
 ) -> Result<Vec<Literal>, RaceStop>
     requires { at + length words.now + 4 < 2 ^ 64 }
-    ensures { Gives literals_seen (literals_of endpoints names.now (map line_seen lines.now) at
+    ensures { Gives literals_seen (literals_of config names.now (map line_seen lines.now) at
         (map (λ word. word.now) words.now)) result }
 {
     let mut literals = Vec::new(alloc);
@@ -69,7 +70,7 @@ fn read_literals(
         let piece = words_at(words, start, count);
         match add_literal(
             alloc,
-            endpoints,
+            config,
             names,
             lines,
             piece,
@@ -84,7 +85,7 @@ fn read_literals(
     let piece = words_from(words, start);
     match add_literal(
         alloc,
-        endpoints,
+        config,
         names,
         lines,
         piece,
@@ -99,7 +100,7 @@ fn read_literals(
 /// Adds literals with `and` between two.
 fn add_literals(
     alloc: Global,
-    endpoints: u64,
+    config: Config,
     names: &Names,
     lines: &[Line],
     words: &[&[u8]],
@@ -107,10 +108,10 @@ fn add_literals(
     condition: &mut Vec<Vec<Literal>>,
 ) -> Result<(), RaceStop>
     requires { at + length words.now + 4 < 2 ^ 64 }
-    ensures { Adds literals_seen (literals_of endpoints names.now (map line_seen lines.now) at
+    ensures { Adds literals_seen (literals_of config names.now (map line_seen lines.now) at
         (map (λ word. word.now) words.now)) condition.old.items condition.new.items result }
 {
-    match read_literals(alloc, endpoints, names, lines, words, at) {
+    match read_literals(alloc, config, names, lines, words, at) {
         Ok(literals) => match push_literals(condition, literals) {
             Ok(()) => Ok(()),
             Err(_) => Err(RaceStop::Memory),
@@ -122,14 +123,14 @@ fn add_literals(
 /// A condition: such lists with `or` between two; the words begin at `at`.
 pub fn read_condition(
     alloc: Global,
-    endpoints: u64,
+    config: Config,
     names: &Names,
     lines: &[Line],
     words: &[&[u8]],
     at: usize,
 ) -> Result<Vec<Vec<Literal>>, RaceStop>
     requires { at + length words.now + 4 < 2 ^ 64 }
-    ensures { Gives condition_seen (condition_of endpoints names.now (map line_seen lines.now) at
+    ensures { Gives condition_seen (condition_of config names.now (map line_seen lines.now) at
         (map (λ word. word.now) words.now)) result }
 {
     let mut condition = Vec::new(alloc);
@@ -138,7 +139,7 @@ pub fn read_condition(
         let piece = words_at(words, start, count);
         match add_literals(
             alloc,
-            endpoints,
+            config,
             names,
             lines,
             piece,
@@ -153,7 +154,7 @@ pub fn read_condition(
     let piece = words_from(words, start);
     match add_literals(
         alloc,
-        endpoints,
+        config,
         names,
         lines,
         piece,

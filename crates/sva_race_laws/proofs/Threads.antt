@@ -23,8 +23,8 @@ use Rattle.sva_race_claims.specs.Steps.{endpoint_in, named, step_judged}
 use Rattle.sva_race_lines.specs.Claims.{claim_by, with_claim}
 use Rattle.sva_race_lines.specs.Devices.{device_of}
 use Rattle.sva_race_lines.specs.Readings.{Reading, nothing}
-use Rattle.sva_race_lines.specs.Texts.{before_race, behind, behind_race, behind_words, from_race, is_of_thread, is_race}
-use Rattle.sva_race_lines.specs.Texts.{line_before, lines_before}
+use Rattle.sva_race_lines.specs.Texts.{before_race, behind, behind_race, behind_words, from_race, is_misspelt}
+use Rattle.sva_race_lines.specs.Texts.{is_of_thread, is_race, line_before, lines_before}
 use Rattle.sva_race_lines.specs.Texts.{nameless, names_from, other_line, race_judged, race_line, read_of, script_of}
 use Rattle.sva_race_lines.specs.Threads.{device_at, device_line, heading_line, is_try, line_of, thread_line, thread_of}
 use Rattle.sva_race_lines.specs.Threads.{tries, unanswered, verdicts_of}
@@ -69,12 +69,12 @@ with_clean reading number name tried step thread clean own = (clean.0, clean_bot
 
 -- ---- A line behind `race`
 
-claim_clean : (endpoints : ℕ) (known : Known) (reading : Reading) (words : List (List ℕ)) (at : ℕ)
+claim_clean : (config : Config) (known : Known) (reading : Reading) (words : List (List ℕ)) (at : ℕ)
     (claiming : Option Claiming) → AreClean reading
-    → CleanIf (claim_by endpoints known reading words at claiming)
-claim_clean endpoints known reading words at None clean = wrong at _
-claim_clean endpoints known reading words at (Some claiming) clean =
-    after (condition_of endpoints known reading.lines (at + 1) (drop (at + 1) words)) _
+    → CleanIf (claim_by config known reading words at claiming)
+claim_clean config known reading words at None clean = wrong at _
+claim_clean config known reading words at (Some claiming) clean =
+    after (condition_of config known reading.lines (at + 1) (drop (at + 1) words)) _
     (λ condition. right (with_claim reading words claiming condition) clean)
 
 line_clean : (known : Known) (reading : Reading) (line : ℕ) (parts : Parts) → Clean parts.step → AreClean reading
@@ -110,24 +110,25 @@ device_clean : (endpoints : ℕ) (reading : Reading) (words : List (List ℕ)) �
 device_clean endpoints reading words clean =
     after (endpoint_in endpoints 1 (word_at 1 words)) (device_at reading words) (λ endpoint. at_clean reading words endpoint clean)
 
-other_clean : (endpoints : ℕ) (reading : Reading) (words : List (List ℕ)) → Clean words → AreClean reading
-    → CleanIf (other_line endpoints reading words)
-other_clean endpoints reading words all clean =
+other_clean : (config : Config) (reading : Reading) (words : List (List ℕ)) → Clean words → AreClean reading
+    → CleanIf (other_line config reading words)
+other_clean config reading words all clean =
     either (bytes_eq (word_at 0 words) (codes "thread")) _ _ (heading_clean reading words all clean)
     (either (bytes_eq (word_at 0 words) (codes "workers")) _ _ (workers_clean reading words clean)
-    (either (bytes_eq (word_at 0 words) (codes "device")) _ _ (device_clean endpoints reading words clean)
+    (either (bytes_eq (word_at 0 words) (codes "device")) _ _ (device_clean config.endpoints reading words clean)
     (wrong 0 _)))
 
-race_clean : (endpoints : ℕ) (known : Known) (reading : Reading) (line : ℕ) (words : List (List ℕ)) (parts : Parts)
+race_clean : (config : Config) (known : Known) (reading : Reading) (line : ℕ) (words : List (List ℕ)) (parts : Parts)
     → Clean words → Clean parts.step
-    → AreClean reading → CleanIf (race_line endpoints known reading line words parts)
-race_clean endpoints known reading line words parts all step clean =
+    → AreClean reading → CleanIf (race_line config known reading line words parts)
+race_clean config known reading line words parts all step clean =
     either (begins_claim (word_at 0 parts.step)) _ _
     (after (nameless parts.name) _ (λ done.
-    claim_clean endpoints known reading words (claims_at words) (claiming_of (word_at (claims_at words) words)) clean))
+    claim_clean config known reading words (claims_at words) (claiming_of (word_at (claims_at words) words)) clean))
     (either (nat_lt 0 (length reading.claims)) _ _ (wrong (step_begins parts) _)
     (either (is_of_thread parts.step) _ _ (line_clean known reading line parts step clean)
-    (after (nameless parts.name) _ (λ done. other_clean endpoints reading words all clean))))
+    (either (is_misspelt parts) _ _ (wrong (step_begins parts) _)
+    (after (nameless parts.name) _ (λ done. other_clean config reading words all clean)))))
 
 read_clean : (reading : Reading) (known : Known) (line : ℕ) (words : List (List ℕ)) (read : Result Reading RaceWrong)
     → AreClean reading → CleanIf read
@@ -136,22 +137,22 @@ unfolding CleanIf
 read_clean reading known line words (Ok found) clean is = is
 read_clean reading known line words (Err fault) clean is = clean
 
-words_clean : (endpoints : ℕ) (known : Known) (reading : Reading) (line : ℕ) (words : List (List ℕ)) → Clean words
+words_clean : (config : Config) (known : Known) (reading : Reading) (line : ℕ) (words : List (List ℕ)) → Clean words
     → AreClean reading
-    → AreClean (behind_words endpoints known reading line words)
-words_clean endpoints known reading line [] all clean = clean
-words_clean endpoints known reading line (word ∷ words) all clean =
-    read_clean reading known line (word ∷ words) (race_line endpoints known reading line (word ∷ words) (parts_of (word ∷ words))) clean
-    (race_clean endpoints known reading line (word ∷ words) (parts_of (word ∷ words)) all (parts_clean (word ∷ words) all) clean)
+    → AreClean (behind_words config known reading line words)
+words_clean config known reading line [] all clean = clean
+words_clean config known reading line (word ∷ words) all clean =
+    read_clean reading known line (word ∷ words) (race_line config known reading line (word ∷ words) (parts_of (word ∷ words))) clean
+    (race_clean config known reading line (word ∷ words) (parts_of (word ∷ words)) all (parts_clean (word ∷ words) all) clean)
 
-lines_clean : (endpoints : ℕ) (known : Known) (reading : Reading) (lines : List Line) → CleanLines lines
+lines_clean : (config : Config) (known : Known) (reading : Reading) (lines : List Line) → CleanLines lines
     → AreClean reading
-    → AreClean (behind_race endpoints known reading lines)
+    → AreClean (behind_race config known reading lines)
 unfolding behind_race
-lines_clean endpoints known reading [] all clean = clean
-lines_clean endpoints known reading (line ∷ lines) all clean =
-    lines_clean endpoints known (behind_words endpoints known reading line.0 (script_words line.1)) lines all.1
-    (words_clean endpoints known reading line.0 (script_words line.1) (line_words line.1 all.0) clean)
+lines_clean config known reading [] all clean = clean
+lines_clean config known reading (line ∷ lines) all clean =
+    lines_clean config known (behind_words config known reading line.0 (script_words line.1)) lines all.1
+    (words_clean config known reading line.0 (script_words line.1) (line_words line.1 all.0) clean)
 
 -- ---- The lines before `race`
 
@@ -179,23 +180,23 @@ judged_clean reading known line [] clean = clean
 judged_clean reading known line (race ∷ []) clean = clean
 judged_clean reading known line (race ∷ word ∷ words) clean = clean
 
-from_clean : (endpoints : ℕ) (reading : Reading) (known : Known) (before : ℕ) (lines : List Line) → CleanLines lines
+from_clean : (config : Config) (reading : Reading) (known : Known) (before : ℕ) (lines : List Line) → CleanLines lines
     → AreClean reading
-    → AreClean (from_race endpoints known reading before lines)
+    → AreClean (from_race config known reading before lines)
 unfolding from_race
-from_clean endpoints reading known before [] all clean = clean
-from_clean endpoints reading known before (line ∷ lines) all clean =
-    by_race (is_race (script_words line.1)) (from_clean endpoints reading known line.0 lines all.1 clean)
+from_clean config reading known before [] all clean = clean
+from_clean config reading known before (line ∷ lines) all clean =
+    by_race (is_race (script_words line.1)) (from_clean config reading known line.0 lines all.1 clean)
   where
-    by_race : (race : Bool) → AreClean (from_race endpoints known reading line.0 lines)
-        → AreClean (if race then behind_race endpoints known (race_judged reading known line.0 (script_words line.1)) lines
-        else from_race endpoints known reading line.0 lines)
+    by_race : (race : Bool) → AreClean (from_race config known reading line.0 lines)
+        → AreClean (if race then behind_race config known (race_judged reading known line.0 (script_words line.1)) lines
+        else from_race config known reading line.0 lines)
     by_race true rest =
-        lines_clean endpoints known (race_judged reading known line.0 (script_words line.1)) lines all.1
+        lines_clean config known (race_judged reading known line.0 (script_words line.1)) lines all.1
         (judged_clean reading known line.0 (script_words line.1) clean)
     by_race false rest = rest
 
 pub reading_clean : (config : Config) (all lines : List Line) → CleanLines all → AreClean (read_of config all lines)
 reading_clean config all lines clean =
-    from_clean config.endpoints (script_of config lines) (names_from [] all) 0 all clean
+    from_clean config (script_of config lines) (names_from [] all) 0 all clean
     (all_before (record (nothing config) { said = [] ++ faults_text (faults_from [] false (before_race lines)) }) (before_race lines) (tt, tt))

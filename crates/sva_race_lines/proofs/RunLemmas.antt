@@ -2,6 +2,7 @@
 use Rattle.std.proofs.Common.{◌≡◌, ◌∙◌, ◌+◌, ap, refl, sym, ℕ, Bool, true, false, List, [], ◌∷◌, ◌++◌, append-nil, append_assoc, cond}
 use Rattle.std.proofs.Common.{Option, arith, length}
 use Rattle.std.specs.Prelude.{Ok, Err}
+use Rattle.sva_step.specs.declared.limits.Config.{Config}
 use Rattle.sva_script.specs.Lines.{Parts, parts_of, script_words}
 use Rattle.sva_script.specs.Names.{Known}
 use Rattle.sva_script_reading.specs.Begins.{Line, faults_at, faults_from, noted}
@@ -32,22 +33,22 @@ names_end known now is = ap (names_from known) is
 -- ---- A line behind `race`
 
 -- one that was taken
-pub took : (endpoints : ℕ) (known : Known) (old new : Reading) (line : ℕ) (words : List (List ℕ)) → (words ≡ [] → ⊥)
-    → race_line endpoints known old line words (parts_of words) ≡ Ok new → new ≡ behind_words endpoints known old line words
-took endpoints known old new line [] some is = absurd (some refl)
-took endpoints known old new line (word ∷ words) some is = sym (ap (behind old known line (word ∷ words)) is)
+pub took : (config : Config) (known : Known) (old new : Reading) (line : ℕ) (words : List (List ℕ)) → (words ≡ [] → ⊥)
+    → race_line config known old line words (parts_of words) ≡ Ok new → new ≡ behind_words config known old line words
+took config known old new line [] some is = absurd (some refl)
+took config known old new line (word ∷ words) some is = sym (ap (behind old known line (word ∷ words)) is)
 
 -- one that says nothing
-pub silent : (endpoints : ℕ) (known : Known) (old : Reading) (line : ℕ) (words : List (List ℕ)) → words ≡ []
-    → old ≡ behind_words endpoints known old line words
-silent endpoints known old line words none = sym (ap (behind_words endpoints known old line) none)
+pub silent : (config : Config) (known : Known) (old : Reading) (line : ℕ) (words : List (List ℕ)) → words ≡ []
+    → old ≡ behind_words config known old line words
+silent config known old line words none = sym (ap (behind_words config known old line) none)
 
 -- one that is wrong
-pub told : (endpoints : ℕ) (known : Known) (old mid new : Reading) (line : ℕ) (words : List (List ℕ)) (wrong : RaceWrong) → (words ≡ [] → ⊥)
-    → race_line endpoints known old line words (parts_of words) ≡ Err wrong → mid ≡ old → new ≡ with_fault mid known line words wrong
-    → new ≡ behind_words endpoints known old line words
-told endpoints known old mid new line [] wrong some is same tells = absurd (some refl)
-told endpoints known old mid new line (word ∷ words) wrong some is same tells =
+pub told : (config : Config) (known : Known) (old mid new : Reading) (line : ℕ) (words : List (List ℕ)) (wrong : RaceWrong) → (words ≡ [] → ⊥)
+    → race_line config known old line words (parts_of words) ≡ Err wrong → mid ≡ old → new ≡ with_fault mid known line words wrong
+    → new ≡ behind_words config known old line words
+told config known old mid new line [] wrong some is same tells = absurd (some refl)
+told config known old mid new line (word ∷ words) wrong some is same tells =
     tells ∙ ap (λ read. with_fault read known line (word ∷ words) wrong) same ∙ sym (ap (behind old known line (word ∷ words)) is)
 
 -- words behind `race` itself
@@ -66,55 +67,55 @@ race_more reading known line (race ∷ word ∷ words) other = refl
 
 -- ---- Behind `race`
 
-pub behind_next : (endpoints : ℕ) (known : Known) (old new : Reading) (now left : List Line) (line : Line) (words : List (List ℕ))
-    → now ≡ line ∷ left → words ≡ script_words line.1 → new ≡ behind_words endpoints known old line.0 words
-    → behind_race endpoints known old now ≡ behind_race endpoints known new left
+pub behind_next : (config : Config) (known : Known) (old new : Reading) (now left : List Line) (line : Line) (words : List (List ℕ))
+    → now ≡ line ∷ left → words ≡ script_words line.1 → new ≡ behind_words config known old line.0 words
+    → behind_race config known old now ≡ behind_race config known new left
 unfolding behind_race
-behind_next endpoints known old new now left line words is same taken =
-    ap (behind_race endpoints known old) is
-    ∙ ap (λ ws. behind_race endpoints known (behind_words endpoints known old line.0 ws) left) (sym same)
-    ∙ ap (λ read. behind_race endpoints known read left) (sym taken)
+behind_next config known old new now left line words is same taken =
+    ap (behind_race config known old) is
+    ∙ ap (λ ws. behind_race config known (behind_words config known old line.0 ws) left) (sym same)
+    ∙ ap (λ read. behind_race config known read left) (sym taken)
 
-pub behind_end : (endpoints : ℕ) (known : Known) (reading : Reading) (now : List Line) → now ≡ []
-    → behind_race endpoints known reading now ≡ reading
+pub behind_end : (config : Config) (known : Known) (reading : Reading) (now : List Line) → now ≡ []
+    → behind_race config known reading now ≡ reading
 unfolding behind_race
-behind_end endpoints known reading now is = ap (behind_race endpoints known reading) is
+behind_end config known reading now is = ap (behind_race config known reading) is
 
 -- ---- Up to `race`
 
-step_by : (endpoints : ℕ) (known : Known) (reading : Reading) (line : Line) (left : List Line) (words : List (List ℕ))
+step_by : (config : Config) (known : Known) (reading : Reading) (line : Line) (left : List Line) (words : List (List ℕ))
     → words ≡ script_words line.1 → (before : ℕ)
-    → from_race endpoints known reading before (line ∷ left)
-    ≡ cond (is_race words) (behind_race endpoints known (race_judged reading known line.0 words) left)
-    (from_race endpoints known reading line.0 left)
+    → from_race config known reading before (line ∷ left)
+    ≡ cond (is_race words) (behind_race config known (race_judged reading known line.0 words) left)
+    (from_race config known reading line.0 left)
 unfolding from_race
-step_by endpoints known reading line left words same before =
-    ap (λ ws. cond (is_race ws) (behind_race endpoints known (race_judged reading known line.0 ws) left)
-    (from_race endpoints known reading line.0 left)) (sym same)
+step_by config known reading line left words same before =
+    ap (λ ws. cond (is_race ws) (behind_race config known (race_judged reading known line.0 ws) left)
+    (from_race config known reading line.0 left)) (sym same)
 
-pub race_passed : (endpoints : ℕ) (known : Known) (reading : Reading) (before : ℕ) (now left : List Line) (line : Line) (words : List (List ℕ))
+pub race_passed : (config : Config) (known : Known) (reading : Reading) (before : ℕ) (now left : List Line) (line : Line) (words : List (List ℕ))
     → now ≡ line ∷ left → words ≡ script_words line.1 → is_race words ≡ false
-    → from_race endpoints known reading before now ≡ from_race endpoints known reading line.0 left
-race_passed endpoints known reading before now left line words is same other =
-    ap (from_race endpoints known reading before) is ∙ step_by endpoints known reading line left words same before
-    ∙ ap (λ b. cond b (behind_race endpoints known (race_judged reading known line.0 words) left)
-    (from_race endpoints known reading line.0 left)) other
+    → from_race config known reading before now ≡ from_race config known reading line.0 left
+race_passed config known reading before now left line words is same other =
+    ap (from_race config known reading before) is ∙ step_by config known reading line left words same before
+    ∙ ap (λ b. cond b (behind_race config known (race_judged reading known line.0 words) left)
+    (from_race config known reading line.0 left)) other
 
-pub race_met : (endpoints : ℕ) (known : Known) (reading mid : Reading) (before : ℕ) (now left : List Line) (line : Line) (words : List (List ℕ))
+pub race_met : (config : Config) (known : Known) (reading mid : Reading) (before : ℕ) (now left : List Line) (line : Line) (words : List (List ℕ))
     → now ≡ line ∷ left → words ≡ script_words line.1 → is_race words ≡ true → mid ≡ race_judged reading known line.0 words
-    → from_race endpoints known reading before now ≡ behind_race endpoints known mid left
-race_met endpoints known reading mid before now left line words is same it judged =
-    ap (from_race endpoints known reading before) is ∙ step_by endpoints known reading line left words same before
-    ∙ ap (λ b. cond b (behind_race endpoints known (race_judged reading known line.0 words) left)
-    (from_race endpoints known reading line.0 left)) it
-    ∙ ap (λ read. behind_race endpoints known read left) (sym judged)
+    → from_race config known reading before now ≡ behind_race config known mid left
+race_met config known reading mid before now left line words is same it judged =
+    ap (from_race config known reading before) is ∙ step_by config known reading line left words same before
+    ∙ ap (λ b. cond b (behind_race config known (race_judged reading known line.0 words) left)
+    (from_race config known reading line.0 left)) it
+    ∙ ap (λ read. behind_race config known read left) (sym judged)
 
-pub race_missing : (endpoints : ℕ) (known : Known) (reading : Reading) (before number : ℕ) (now : List Line) → now ≡ [] → number ≡ before + 1
-    → from_race endpoints known reading before now
+pub race_missing : (config : Config) (known : Known) (reading : Reading) (before number : ℕ) (now : List Line) → now ≡ [] → number ≡ before + 1
+    → from_race config known reading before now
     ≡ with_fault reading known number [] (record { at = 0; wanted = wanted.Race })
 unfolding from_race
-race_missing endpoints known reading before number now is next =
-    ap (from_race endpoints known reading before) is
+race_missing config known reading before number now is next =
+    ap (from_race config known reading before) is
     ∙ ap (λ n. with_fault reading known n [] (record { at = 0; wanted = wanted.Race })) (sym next)
 
 -- ---- Before `race`

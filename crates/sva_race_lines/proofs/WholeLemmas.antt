@@ -61,14 +61,14 @@ with_fit config all lines read found new fit is reads =
 -- what was read, call by call
 pub race_is : (config : Config) (all lines : List Line) (number count : ℕ) (names : Known) (first mid last : Reading) → number ≡ 0
     → names ≡ names_from [] all → first ≡ nothing config → mid ≡ with_script first (before_race lines) → count ≡ length mid.lines
-    → last ≡ from_race config.endpoints names mid number all
+    → last ≡ from_race config names mid number all
     → record { config = config; before = count; reading = last } ≡ race_read config all lines
 race_is config all lines number count names first mid last zero named start before counted is =
     let script : mid ≡ script_of config lines = before ∙ ap (λ reading. with_script reading (before_race lines)) start in
     λ i. record {
       config = config;
       before = (counted ∙ ap (λ (reading : Reading). length reading.lines) script) i;
-      reading = (is ∙ (λ j. from_race config.endpoints (named j) (script j) (zero j) all)) i;
+      reading = (is ∙ (λ j. from_race config (named j) (script j) (zero j) all)) i;
     }
 
 -- ---- The whole

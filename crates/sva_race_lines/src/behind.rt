@@ -2,8 +2,8 @@
 
 ghost use Rattle.std.specs.Prelude.{◌≡◌, ◌+◌, IfOk, map};
 ghost use Rattle.sva_race_lines.specs.Taking.{Takes};
-ghost use Rattle.sva_race_lines.specs.Texts.{behind_race, behind_words, from_race, is_of_thread, nameless};
-ghost use Rattle.sva_race_lines.specs.Texts.{other_line, race_judged, race_line};
+ghost use Rattle.sva_race_lines.specs.Texts.{begins_other, behind_race, behind_words, from_race, is_misspelt};
+ghost use Rattle.sva_race_lines.specs.Texts.{is_of_thread, nameless, other_line, race_judged, race_line};
 ghost use Rattle.sva_script.specs.Lines.{parts_of};
 ghost use Rattle.sva_script_reading.specs.Begins.{lines_from};
 
@@ -16,6 +16,7 @@ use sva_race_claims::{begins_claim, is_step};
 use sva_race_words::{RaceStop, RaceWanted, RaceWrong, count_of, stop_at, word_at, wrong_at};
 use sva_script::{Names, Wanted, name_in, parts_of, split};
 use sva_script_reading::{Desk, Lines};
+use sva_step::Config;
 use sva_words::is;
 
 /// Whether a line has no name.
@@ -35,14 +36,29 @@ fn is_of_thread(step: &[&[u8]]) -> bool
     is_try(step) || is_step(word_at(step, 0))
 }
 
+/// Whether a word begins a line that is neither a claim nor of a thread.
+fn begins_other(word: &[u8]) -> bool
+    ensures { result ≡ begins_other word.now }
+{
+    is(word, b"thread") || is(word, b"workers") || is(word, b"device")
+}
+
+/// Whether a word that begins no line stands behind a name.
+fn is_misspelt(words: &[&[u8]]) -> bool
+    ensures { result ≡ is_misspelt (parts_of (map (λ word. word.now) words.now)) }
+{
+    let parts = parts_of(words);
+    parts.name.is_some() && !begins_other(word_at(parts.step, 0))
+}
+
 /// Takes a line that is neither a claim nor of a thread.
 fn take_other(
     alloc: Global,
-    endpoints: u64,
+    config: Config,
     reading: &mut Reading,
     words: &[&[u8]],
 ) -> Result<(), RaceStop>
-    ensures { Takes (other_line endpoints reading.old (map (λ word. word.now) words.now))
+    ensures { Takes (other_line config reading.old (map (λ word. word.now) words.now))
         reading.old reading.new result }
 {
     let first = word_at(words, 0);
@@ -53,7 +69,7 @@ fn take_other(
         return take_workers(reading, words);
     }
     if is(first, b"device") {
-        return take_device(alloc, endpoints, reading, words);
+        return take_device(alloc, config.endpoints, reading, words);
     }
     Err(stop_at(0, RaceWanted::Line))
 }
@@ -61,20 +77,20 @@ fn take_other(
 /// Takes a line behind `race`.
 fn take_line(
     alloc: Global,
-    endpoints: u64,
+    config: Config,
     names: &Names,
     reading: &mut Reading,
     line: u64,
     words: &[&[u8]],
     desk: &mut Desk<'_>,
 ) -> Result<(), RaceStop>
-    ensures { Takes (race_line endpoints names.now reading.old line (map (λ word. word.now) words.now)
+    ensures { Takes (race_line config names.now reading.old line (map (λ word. word.now) words.now)
         (parts_of (map (λ word. word.now) words.now))) reading.old reading.new result }
 {
     let parts = parts_of(words);
     if begins_claim(word_at(parts.step, 0)) {
         judge_nameless(words).map_err(RaceStop::Wrong)?;
-        return take_claim(alloc, endpoints, names, reading, words);
+        return take_claim(alloc, config, names, reading, words);
     }
     if reading.has_claims() {
         return Err(stop_at(parts.step_at, RaceWanted::Claim));
@@ -82,14 +98,17 @@ fn take_line(
     if is_of_thread(parts.step) {
         return take_thread_line(alloc, names, reading, line, words, desk);
     }
+    if is_misspelt(words) {
+        return Err(stop_at(parts.step_at, RaceWanted::Script(Wanted::Step)));
+    }
     judge_nameless(words).map_err(RaceStop::Wrong)?;
-    take_other(alloc, endpoints, reading, words)
+    take_other(alloc, config, reading, words)
 }
 
 /// Reads the words of a line behind `race`, if it says something.
 fn read_words(
     alloc: Global,
-    endpoints: u64,
+    config: Config,
     names: &Names,
     reading: &mut Reading,
     line: u64,
@@ -97,12 +116,12 @@ fn read_words(
     desk: &mut Desk<'_>,
 ) -> Result<(), AllocError>
     ensures { IfOk result (λ _. reading.new
-        ≡ behind_words endpoints names.now reading.old line (map (λ word. word.now) words.now)) }
+        ≡ behind_words config names.now reading.old line (map (λ word. word.now) words.now)) }
 {
     if words.is_empty() {
         return Ok(());
     }
-    match take_line(alloc, endpoints, names, reading, line, words, desk) {
+    match take_line(alloc, config, names, reading, line, words, desk) {
         Ok(()) => Ok(()),
         Err(RaceStop::Wrong(wrong)) => reading.tell(&wrong, line, words, names),
         Err(RaceStop::Memory) => Err(AllocError),
@@ -112,13 +131,13 @@ fn read_words(
 /// Reads the lines behind `race`.
 fn read_behind(
     alloc: Global,
-    endpoints: u64,
+    config: Config,
     names: &Names,
     from: Lines<'_>,
     reading: &mut Reading,
 ) -> Result<(), AllocError>
     ensures { IfOk result (λ _. reading.new
-        ≡ behind_race endpoints names.now reading.old (lines_from (from.entry.number + 1) from.entry.rest.now)) }
+        ≡ behind_race config names.now reading.old (lines_from (from.entry.number + 1) from.entry.rest.now)) }
 {
     let mut lines = from;
     let mut words = Vec::new(alloc);
@@ -127,7 +146,7 @@ fn read_behind(
         split(line, &mut words)?;
         read_words(
             alloc,
-            endpoints,
+            config,
             names,
             reading,
             number,
@@ -158,12 +177,12 @@ fn judge_race(
 /// Reads the lines from `race` on; those before it are passed over. Where there is none, that is told.
 pub(crate) fn read_from_race(
     alloc: Global,
-    endpoints: u64,
+    config: Config,
     names: &Names,
     from: Lines<'_>,
     reading: &mut Reading,
 ) -> Result<(), AllocError>
-    ensures { IfOk result (λ _. reading.new ≡ from_race endpoints names.now reading.old from.entry.number
+    ensures { IfOk result (λ _. reading.new ≡ from_race config names.now reading.old from.entry.number
         (lines_from (from.entry.number + 1) from.entry.rest.now)) }
 {
     let mut lines = from;
@@ -172,7 +191,7 @@ pub(crate) fn read_from_race(
         split(line, &mut words)?;
         if is_race(words.as_slice()) {
             judge_race(names, reading, number, words.as_slice())?;
-            return read_behind(alloc, endpoints, names, lines, reading);
+            return read_behind(alloc, config, names, lines, reading);
         }
     }
     let none = wrong_at(0, RaceWanted::Race);

@@ -11,6 +11,7 @@ use sva_race::{Claim, Claiming};
 use sva_race_claims::{claiming_of, is_of_ends};
 use sva_race_words::{RaceStop, RaceWanted, stop_at, word_at, words_from};
 use sva_script::Names;
+use sva_step::Config;
 
 /// At which word it stands what is claimed.
 fn claims_at(words: &[&[u8]]) -> usize
@@ -23,17 +24,17 @@ fn claims_at(words: &[&[u8]]) -> usize
 /// Takes a claim.
 pub(crate) fn take_claim(
     alloc: Global,
-    endpoints: u64,
+    config: Config,
     names: &Names,
     reading: &mut Reading,
     words: &[&[u8]],
 ) -> Result<(), RaceStop>
-    ensures { Takes (claim_line endpoints names.now reading.old (map (λ word. word.now) words.now))
+    ensures { Takes (claim_line config names.now reading.old (map (λ word. word.now) words.now))
         reading.old reading.new result }
 {
     let at = claims_at(words);
     match claiming_of(word_at(words, at)) {
-        Some(claiming) => take_claiming(alloc, endpoints, names, reading, words, at, claiming),
+        Some(claiming) => take_claiming(alloc, config, names, reading, words, at, claiming),
         None => Err(stop_at(at, RaceWanted::Claiming)),
     }
 }
@@ -41,7 +42,7 @@ pub(crate) fn take_claim(
 /// Takes a claim of which it is known what is claimed, by the word at `at`.
 fn take_claiming(
     alloc: Global,
-    endpoints: u64,
+    config: Config,
     names: &Names,
     reading: &mut Reading,
     words: &[&[u8]],
@@ -49,11 +50,11 @@ fn take_claiming(
     claiming: Claiming,
 ) -> Result<(), RaceStop>
     requires { at ≤ 1 }
-    ensures { Takes (claimed endpoints names.now reading.old (map (λ word. word.now) words.now) at claiming)
+    ensures { Takes (claimed config names.now reading.old (map (λ word. word.now) words.now) at claiming)
         reading.old reading.new result }
 {
     let rest = words_from(words, at + 1);
-    match reading.condition(alloc, endpoints, names, rest, at + 1) {
+    match reading.condition(alloc, config, names, rest, at + 1) {
         Ok(condition) => {
             let claim = Claim {
                 claiming,

@@ -264,16 +264,16 @@ impl Reading {
     pub(crate) fn condition(
         &self,
         alloc: Global,
-        endpoints: u64,
+        config: Config,
         names: &Names,
         words: &[&[u8]],
         at: usize,
     ) -> Result<Vec<Vec<Literal>>, RaceStop>
         requires { at + length words.now + 4 < 2 ^ 64 }
-        ensures { Gives condition_seen (condition_of endpoints names.now self.now.lines at
+        ensures { Gives condition_seen (condition_of config names.now self.now.lines at
             (map (λ word. word.now) words.now)) result }
     {
-        read_condition(alloc, endpoints, names, self.lines.as_slice(), words, at)
+        read_condition(alloc, config, names, self.lines.as_slice(), words, at)
     }
 
     /// Adds a claim.

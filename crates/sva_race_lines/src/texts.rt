@@ -105,7 +105,7 @@ fn read_lines(
     let mut reading = Reading::nothing(alloc, &config)?;
     read_before(alloc, lines, &mut reading)?;
     let before = reading.count();
-    read_from_race(alloc, config.endpoints, &names, all, &mut reading)?;
+    read_from_race(alloc, config, &names, all, &mut reading)?;
     text_of(alloc, config, before, reading, out)
 }
 

@@ -12,6 +12,7 @@ ghost use Rattle.sva_words.specs.Reserved.{step_names};
 use std::alloc::AllocError;
 use sva_script::{Names, Wanted, at_word};
 use sva_script_reading::{put_near, put_number, put_word, put_wrong, wanted_words};
+use sva_step::Refusal;
 use sva_words::{is_near, near_step};
 
 /// What was wanted where a line is wrong.
@@ -50,6 +51,12 @@ pub enum RaceWanted {
     Is,
     /// The name of a line.
     LineName,
+    /// A frame that the config has, or the name of a step that is answered frames.
+    Frame,
+    /// The number of a refusal.
+    RefusalNumber,
+    /// The name of this refusal, whose number stands before.
+    RefusalName(Refusal),
 }
 
 /// What is wrong with a line: at which of its words, counted from 0, and what was wanted there. Where the line has no
@@ -107,6 +114,9 @@ fn words_of(wanted: &RaceWanted) -> &'static str
         RaceWanted::Arrow => "=> and an answer",
         RaceWanted::Is => "is",
         RaceWanted::LineName => "the name of a line",
+        RaceWanted::Frame => "a frame of the config or the name of a step that is answered one",
+        RaceWanted::RefusalNumber => "the number of a refusal",
+        RaceWanted::RefusalName(_) => "the refusal of this number",
     }
 }
 
@@ -188,7 +198,7 @@ fn near_in_claim<'n>(names: &'n Names, word: &[u8]) -> Option<&'n [u8]>
     }
 }
 
-/// The word that is near to a wrong one, of those that were wanted.
+/// The word that is near to a wrong one, of those that were wanted; or the one that was.
 fn near<'n>(wanted: &RaceWanted, names: &'n Names, word: &[u8]) -> Option<&'n [u8]>
     ensures { option_map (λ near. near.now) result ≡ near_wanted names.now word.now wanted.now }
 {
@@ -198,6 +208,7 @@ fn near<'n>(wanted: &RaceWanted, names: &'n Names, word: &[u8]) -> Option<&'n [u
         RaceWanted::Claiming => near_claim(word),
         RaceWanted::Atom => near_in_claim(names, word),
         RaceWanted::LineName => names.near(word),
+        RaceWanted::RefusalName(refusal) => Some(refusal.name().as_bytes()),
         _ => None,
     }
 }

@@ -7,5 +7,5 @@ use Rattle.sva_race_claims.proofs.claims.add_literal.Goals as goal
 
 pub returns-in-Ok-push_literal : goal.returns-in-Ok-push_literal
 returns-in-Ok-push_literal c =
-    added literal_seen (literal_of c.args.endpoints c.args.names.now (map line_seen c.args.lines.now) c.args.at (said c.args.words.now))
+    added literal_seen (literal_of c.args.config c.args.names.now (map line_seen c.args.lines.now) c.args.at (said c.args.words.now))
     c.args.literals.now.items c.push_literal.new.list.items c.in-Ok.literal c.in-Ok.ensures c.in-Ok-push_literal.ensures

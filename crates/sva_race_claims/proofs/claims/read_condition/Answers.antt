@@ -11,14 +11,14 @@ use Rattle.sva_race_claims.proofs.claims.read_condition.Goals as goal
 
 pub loop-count-init : goal.loop-count-init
 loop-count-init c = record {
-  read = each_begin (literals_of c.args.endpoints c.args.names.now (map line_seen c.args.lines.now)) literals_seen c.args.at
+  read = each_begin (literals_of c.args.config c.args.names.now (map line_seen c.args.lines.now)) literals_seen c.args.at
       (pieces (codes "or") (said c.args.words.now)) c.new-condition.result.items c.new-condition.ensures.items;
   within = omega arith;
 }
 
 pub returns-in-Err : goal.returns-in-Err
 returns-in-Err c =
-    let one = literals_of c.args.endpoints c.args.names.now (map line_seen c.args.lines.now) in
+    let one = literals_of c.args.config c.args.names.now (map line_seen c.args.lines.now) in
     let words = said c.args.words.now in
     let start = c.loop-count.start in
     subst (λ (read : Result (Condition) RaceWrong). Fails read c.in-Err.stop) c.loop-count.invariant.read
@@ -30,7 +30,7 @@ returns-in-Err c =
 
 pub loop-count-preserved : goal.loop-count-preserved
 loop-count-preserved c =
-    let one = literals_of c.args.endpoints c.args.names.now (map line_seen c.args.lines.now) in
+    let one = literals_of c.args.config c.args.names.now (map line_seen c.args.lines.now) in
     let words = said c.args.words.now in
     let start = c.loop-count.start in
     let next : c.args.at + (start + (c.in-Some.count + 1)) ≡ c.args.at + start + length (said c.words_at-piece.result.now) + 1 =
@@ -48,7 +48,7 @@ loop-count-preserved c =
 
 pub returns-in-Ok-add_literals : goal.returns-in-Ok-add_literals
 returns-in-Ok-add_literals c =
-    let one = literals_of c.args.endpoints c.args.names.now (map line_seen c.args.lines.now) in
+    let one = literals_of c.args.config c.args.names.now (map line_seen c.args.lines.now) in
     let start = c.loop-count.start in
     sym c.loop-count.invariant.read
     ∙ each_end one literals_seen (c.args.at + start) (said c.words_from-piece.result.now) (pieces (codes "or") (drop start (said c.args.words.now)))
@@ -57,7 +57,7 @@ returns-in-Ok-add_literals c =
 
 pub returns-in-Err-add_literals : goal.returns-in-Err-add_literals
 returns-in-Err-add_literals c =
-    let one = literals_of c.args.endpoints c.args.names.now (map line_seen c.args.lines.now) in
+    let one = literals_of c.args.config c.args.names.now (map line_seen c.args.lines.now) in
     let start = c.loop-count.start in
     subst (λ (read : Result (Condition) RaceWrong). Fails read c.in-Err-add_literals.stop) c.loop-count.invariant.read
     (each_fails one literals_seen (c.args.at + start) (said c.words_from-piece.result.now)

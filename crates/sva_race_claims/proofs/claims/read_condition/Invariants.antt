@@ -9,9 +9,9 @@ use Rattle.sva_race_claims.proofs.claims.read_condition.Given as goal
 -- the pieces that are left, behind the lists so far, give what all words give
 abbrev pub invariant-loop-count : goal.invariant-loop-count
 invariant-loop-count l = record {
-  read : each_from (literals_of l.endpoints l.names (map line_seen l.lines)) (l.at + l.start) (map literals_seen l.condition.items)
+  read : each_from (literals_of l.config l.names (map line_seen l.lines)) (l.at + l.start) (map literals_seen l.condition.items)
       (pieces (codes "or") (drop l.start (said l.words)))
-      ≡ condition_of l.endpoints l.names (map line_seen l.lines) l.at (said l.words);
+      ≡ condition_of l.config l.names (map line_seen l.lines) l.at (said l.words);
   within : l.start ≤ length l.words;
 }
 

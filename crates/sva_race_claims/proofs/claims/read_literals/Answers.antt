@@ -11,14 +11,14 @@ use Rattle.sva_race_claims.proofs.claims.read_literals.Goals as goal
 
 pub loop-count-init : goal.loop-count-init
 loop-count-init c = record {
-  read = each_begin (literal_of c.args.endpoints c.args.names.now (map line_seen c.args.lines.now)) literal_seen c.args.at
+  read = each_begin (literal_of c.args.config c.args.names.now (map line_seen c.args.lines.now)) literal_seen c.args.at
       (pieces (codes "and") (said c.args.words.now)) c.new-literals.result.items c.new-literals.ensures.items;
   within = omega arith;
 }
 
 pub returns-in-Err : goal.returns-in-Err
 returns-in-Err c =
-    let one = literal_of c.args.endpoints c.args.names.now (map line_seen c.args.lines.now) in
+    let one = literal_of c.args.config c.args.names.now (map line_seen c.args.lines.now) in
     let words = said c.args.words.now in
     let start = c.loop-count.start in
     subst (λ (read : Result (List LiteralSaid) RaceWrong). Fails read c.in-Err.stop) c.loop-count.invariant.read
@@ -30,7 +30,7 @@ returns-in-Err c =
 
 pub loop-count-preserved : goal.loop-count-preserved
 loop-count-preserved c =
-    let one = literal_of c.args.endpoints c.args.names.now (map line_seen c.args.lines.now) in
+    let one = literal_of c.args.config c.args.names.now (map line_seen c.args.lines.now) in
     let words = said c.args.words.now in
     let start = c.loop-count.start in
     let next : c.args.at + (start + (c.in-Some.count + 1)) ≡ c.args.at + start + length (said c.words_at-piece.result.now) + 1 =
@@ -48,7 +48,7 @@ loop-count-preserved c =
 
 pub returns-in-Ok-add_literal : goal.returns-in-Ok-add_literal
 returns-in-Ok-add_literal c =
-    let one = literal_of c.args.endpoints c.args.names.now (map line_seen c.args.lines.now) in
+    let one = literal_of c.args.config c.args.names.now (map line_seen c.args.lines.now) in
     let start = c.loop-count.start in
     sym c.loop-count.invariant.read
     ∙ each_end one literal_seen (c.args.at + start) (said c.words_from-piece.result.now) (pieces (codes "and") (drop start (said c.args.words.now)))
@@ -57,7 +57,7 @@ returns-in-Ok-add_literal c =
 
 pub returns-in-Err-add_literal : goal.returns-in-Err-add_literal
 returns-in-Err-add_literal c =
-    let one = literal_of c.args.endpoints c.args.names.now (map line_seen c.args.lines.now) in
+    let one = literal_of c.args.config c.args.names.now (map line_seen c.args.lines.now) in
     let start = c.loop-count.start in
     subst (λ (read : Result (List LiteralSaid) RaceWrong). Fails read c.in-Err-add_literal.stop) c.loop-count.invariant.read
     (each_fails one literal_seen (c.args.at + start) (said c.words_from-piece.result.now)

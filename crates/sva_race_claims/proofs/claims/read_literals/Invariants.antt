@@ -9,9 +9,9 @@ use Rattle.sva_race_claims.proofs.claims.read_literals.Given as goal
 -- the pieces that are left, behind the literals so far, give what all words give
 abbrev pub invariant-loop-count : goal.invariant-loop-count
 invariant-loop-count l = record {
-  read : each_from (literal_of l.endpoints l.names (map line_seen l.lines)) (l.at + l.start) (map literal_seen l.literals.items)
+  read : each_from (literal_of l.config l.names (map line_seen l.lines)) (l.at + l.start) (map literal_seen l.literals.items)
       (pieces (codes "and") (drop l.start (said l.words)))
-      ≡ literals_of l.endpoints l.names (map line_seen l.lines) l.at (said l.words);
+      ≡ literals_of l.config l.names (map line_seen l.lines) l.at (said l.words);
   within : l.start ≤ length l.words;
 }
 

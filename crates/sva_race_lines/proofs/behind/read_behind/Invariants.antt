@@ -6,8 +6,8 @@ use Rattle.sva_race_lines.proofs.behind.read_behind.Given as goal
 -- what is read of the lines that are left is what is read of all
 abbrev pub invariant-loop-number : goal.invariant-loop-number
 invariant-loop-number l =
-    behind_race l.endpoints l.names l.reading (lines_from (l.lines.number + 1) l.lines.rest.now)
-    ≡ behind_race l.endpoints l.names l.initial.reading (lines_from (l.from.number + 1) l.from.rest.now)
+    behind_race l.config l.names l.reading (lines_from (l.lines.number + 1) l.lines.rest.now)
+    ≡ behind_race l.config l.names l.initial.reading (lines_from (l.from.number + 1) l.from.rest.now)
 
 -- what is left gets shorter
 abbrev pub decreases-loop-number : goal.decreases-loop-number

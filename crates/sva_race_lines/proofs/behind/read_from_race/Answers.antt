@@ -14,7 +14,7 @@ pub returns-then-is_race : goal.returns-then-is_race
 returns-then-is_race c =
     let it : is_race (said c.as_slice.result.now) ≡ true = search rules in
     subst (λ (read : Reading). IfOk c.read_behind.result (λ _. c.read_behind.new.reading ≡ read))
-    (sym (race_met c.args.endpoints c.args.names.now c.loop-number.reading c.judge_race.new.reading c.loop-number.lines.number _
+    (sym (race_met c.args.config c.args.names.now c.loop-number.reading c.judge_race.new.reading c.loop-number.lines.number _
     (lines_from (c.next.new.self.number + 1) c.next.new.self.rest.now) (c.in-Some.number, c.in-Some.line.now) (said c.as_slice.result.now)
     c.in-Some.ensures.line (ap said c.as_slice.ensures.value ∙ c.in_ok-split.ensures) it (search rules))
     ∙ c.loop-number.invariant) c.read_behind.ensures
@@ -23,10 +23,10 @@ pub loop-number-preserved : goal.loop-number-preserved
 loop-number-preserved c =
     let other : is_race (said c.as_slice.result.now) ≡ false = search rules in
     let left = lines_from (c.next.new.self.number + 1) c.next.new.self.rest.now in
-    sym (race_passed c.args.endpoints c.args.names.now c.loop-number.reading c.loop-number.lines.number _ left
+    sym (race_passed c.args.config c.args.names.now c.loop-number.reading c.loop-number.lines.number _ left
     (c.in-Some.number, c.in-Some.line.now) (said c.as_slice.result.now)
     c.in-Some.ensures.line (ap said c.as_slice.ensures.value ∙ c.in_ok-split.ensures) other
-    ∙ ap (λ n. from_race c.args.endpoints c.args.names.now c.loop-number.reading n left) c.in-Some.ensures.number)
+    ∙ ap (λ n. from_race c.args.config c.args.names.now c.loop-number.reading n left) c.in-Some.ensures.number)
     ∙ c.loop-number.invariant
 
 pub returns : goal.returns
@@ -37,6 +37,6 @@ returns c =
     subst (λ (wrong : RaceWrong). IfOk c.tell.result (λ _. c.tell.new.self
     ≡ with_fault c.loop-number.reading c.args.names.now c.saturating_add.result [] wrong)) c.wrong_at-none.ensures c.tell.ensures in
     subst (λ (read : Reading). IfOk c.tell.result (λ _. c.tell.new.self ≡ read))
-    (sym (race_missing c.args.endpoints c.args.names.now c.loop-number.reading c.loop-number.lines.number c.saturating_add.result _
+    (sym (race_missing c.args.config c.args.names.now c.loop-number.reading c.loop-number.lines.number c.saturating_add.result _
     (no_lines (c.loop-number.lines.number + 1) c.loop-number.lines.rest.now c.in_default.ensures.none) next)
     ∙ c.loop-number.invariant) tells

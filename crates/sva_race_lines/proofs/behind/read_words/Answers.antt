@@ -6,9 +6,9 @@ use Rattle.sva_race_lines.proofs.behind.read_words.Goals as goal
 
 pub returns-then-is_empty : goal.returns-then-is_empty
 returns-then-is_empty c =
-    silent c.args.endpoints c.args.names.now c.args.reading.now c.args.line (said c.args.words.now) (no_words c.args.words.now (search rules))
+    silent c.args.config c.args.names.now c.args.reading.now c.args.line (said c.args.words.now) (no_words c.args.words.now (search rules))
 
 pub returns-in-Ok : goal.returns-in-Ok
 returns-in-Ok c =
-    took c.args.endpoints c.args.names.now c.args.reading.now c.take_line.new.reading c.args.line (said c.args.words.now)
+    took c.args.config c.args.names.now c.args.reading.now c.take_line.new.reading c.args.line (said c.args.words.now)
     (some_words c.args.words.now (search rules)) c.in-Ok.ensures

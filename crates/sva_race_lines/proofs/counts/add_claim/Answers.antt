@@ -1,5 +1,4 @@
 use Rattle.std.proofs.Common.{◌∙◌, ◌++◌, ap, map}
-use Rattle.std.specs.Prelude.{IfOk}
 use Rattle.std.proofs.lemmas.Result.{IfOk-weaker}
 use Rattle.sva_race_lines.specs.Devices.{count_seen}
 use Rattle.sva_race_lines.proofs.CountLemmas.{condition_counted}

@@ -6,8 +6,8 @@ ghost use Rattle.sva_command.specs.Command.{Asks, IsReadable, IsWritten, asked_b
 ghost use Rattle.sva_command.specs.Command.{most_by, most_rule, most_text, svahost, texts, turns_by, turns_rule, turns_text, within};
 
 use crate::help::{
-    ABOUT, CHART, CHECK, ENDS, EXPLORE, HELP, JUDGE, LIVE, MOST, PLAIN, REPLAY, RUN, SHOW, STORM,
-    SVG, TEST, TRACE, TURNS, VERSION, WAITS, WHY, WHYS,
+    ABOUT, CHART, CHECK, ENDS, EXPLORE, EXPLORE_USAGE, FILES, HELP, JUDGE, JUDGE_USAGE, LIVE, MOST,
+    PLAIN, REPLAY, RUN, SHOW, STORM, SVG, TEST, TRACE, TURNS, VERSION, WAITS, WHY, WHYS,
 };
 use clap::builder::ValueParser;
 use clap::{Arg, ArgAction, ArgMatches, Command, Error};
@@ -80,6 +80,11 @@ fn whole_help() -> &'static str {
     HELP
 }
 
+/// What help says of files. They are taken out of the words before, so no command takes them itself.
+fn files_help() -> &'static str {
+    FILES
+}
+
 /// The option `--turns`.
 fn turns_option<'a>(alloc: Global) -> Arg<'a>
     ensures rule { rule_of result ≡ turns_rule }
@@ -142,7 +147,9 @@ fn with_explore<'a>(svahost: Command<'a>, alloc: Global) -> Result<Command<'a>, 
 {
     let explore = Command::new(alloc, "explore")
         .about(EXPLORE)
-        .long_about(whole_help());
+        .long_about(whole_help())
+        .override_usage(EXPLORE_USAGE)
+        .after_help(files_help());
     let with_most = explore.arg(most_option(alloc))?;
     let with_why = with_most.arg(flag(alloc, "why", WAITS))?;
     let with_ends = with_why.arg(flag(alloc, "ends", ENDS))?;
@@ -168,7 +175,9 @@ fn with_judge<'a>(svahost: Command<'a>, alloc: Global) -> Result<Command<'a>, Al
 {
     let judge = Command::new(alloc, "judge")
         .about(JUDGE)
-        .long_about(whole_help());
+        .long_about(whole_help())
+        .override_usage(JUDGE_USAGE)
+        .after_help(files_help());
     let with_most = judge.arg(most_option(alloc))?;
     let with_run = with_most.arg(flag(alloc, "run", RUN))?;
     svahost.subcommand(with_run)

@@ -5,7 +5,8 @@
 pub const VERSION: &str = "0.2.0";
 
 /// What `-h` says of the program.
-pub const ABOUT: &str = "Runs scenarios of a host for shared virtual addressing";
+pub const ABOUT: &str =
+    "Judges a driver's order of acts, and runs scenarios of a host for shared virtual addressing";
 
 /// What `-h` says of `replay`.
 pub const REPLAY: &str = "Runs the scenario on standard input, and prints its report";
@@ -49,6 +50,17 @@ pub const WAITS: &str =
 /// What `-h` says of `--ends`.
 pub const ENDS: &str = "No more than 20 texts of ends are printed, and how many are left out";
 
+/// What the help of `explore` says of how it is called.
+pub const EXPLORE_USAGE: &str = "svahost explore [OPTIONS] [FILE]..";
+
+/// What the help of `judge` says of how it is called.
+pub const JUDGE_USAGE: &str = "svahost judge [OPTIONS] [FILE]..";
+
+/// What the help of both says of files.
+pub const FILES: &str = "Files:
+  [FILE]..      Read in the place of standard input; of several each has a line
+  --part <K/N>  Of the files every N-th is searched, from the K-th on";
+
 /// What `-h` says of `judge`.
 pub const JUDGE: &str =
     "Follows every order of the driver on standard input or in a FILE, and prints whether each is safe";
@@ -79,8 +91,27 @@ pub const NO_TEXT: &str =
 
 /// What `--help` says.
 pub const HELP: &str =
-    "Runs scenarios of a host for shared virtual addressing: PCI Express ATS, PRI and PASIDs,
-with the invalidations and page requests of Intel VT-d.
+    "Judges whether a driver's order of acts is safe, and runs scenarios of a host for shared virtual
+addressing: PCI Express ATS, PRI and PASIDs, with the invalidations and page requests of Intel VT-d.
+
+A driver is the order in which a host does what it does, a line for each act. Behind `race` it is open
+what device, link and unit do beside its lines:
+
+    config 1 4 1                   # one endpoint (a device), four frames, one worker
+    device 0 1 asks 1 uses         # it may ask for a translation once, and use one once
+    pte 0 16 0 w                   # page 16 of space 0 leads to frame 0
+    entry 0 1 0                    # at endpoint 0, PASID 1 is space 0
+    start 0 1                      # the device may use that PASID
+    deliver start 0
+    race
+    pte 0 16 none                  # the page goes,
+    submit 0 range 1 16 0 + wait   # its invalidation is queued, and a wait behind it,
+    free 0                         # and the frame is another owner's
+
+`svahost judge FILE` follows every order, and prints `safe in all N moments`, or a shortest list of
+events behind which an endpoint may still use a frame that has another owner, say. Here that has 5
+events; with `await wait 0` above `free 0` the order is safe. `--most N` is how many moments are looked
+at, at most; `--run` takes the lines one after another instead. The acts stand further down.
 
 A scenario is a text on standard input, of at most 65536 lines and 1048576 bytes. Its first line is
 the config: how many endpoints, frames and workers there are. Each further line is a step. Words are
@@ -98,7 +129,7 @@ first scenario, as in examples/first.sva:
     # r: it may only be read
     map 0 16 r
 
-The script ./svahost first builds the program where there is none of the present sources: in one to
+The script ./svahost first builds the program where there is none of the present sources: in two to
 three minutes, without its proof. `./svahost prove` proves it on this machine, with all that it stands
 on, which takes about an hour on four cores; `./svahost --version` says which of the two is run.
 
@@ -175,12 +206,6 @@ each text; `--ends` prints no more than 20. A claim that fails has a witness, a 
 `replay` takes; so has a `sometimes` that holds. With `--why` stands behind each witness what `why`
 says of its steps, and which lines wait where it ends, with what holds them back.
 
-A driver is the order in which another host does what it does, in lines of its own. `svahost judge`
-follows every order of its lines beside what the link, the units, the workers and the endpoints may
-do, and prints whether each is safe: else a shortest list of events behind which an endpoint may
-still use a frame that has another owner, say. `--most N` is as of `explore`; `--run` takes the lines
-one after another instead. docs/FORMAT.md describes the lines.
-
 `svahost explore FILE ..` and `svahost judge FILE ..` search several files side by side and print a
 line for each, of one file the report; `--part K/N` is every N-th of them, from the K-th on.
 
@@ -222,6 +247,29 @@ An endpoint's steps, under a PASID P:
                            VECTOR, eight lower-case hexadecimal digits as 0000000b, by 1 to 8
                            completions
     quit E P               the PASID isn't used any more
+
+The acts of a driver. S is any space, 0 to 63, P a PASID, 1 to 32, I a group's index:
+
+    pte S PAGE F w         the page leads to the frame; `r`: only to read; `none` for F w: it goes
+    entry E P S            the PASID table entry leads to the space; `none` for S: it goes
+    start E P              the device may use the PASID
+    stop E P               it is to stop; `await stopped E P`: it has said that it did
+    submit E D [+ D ..]    descriptors are queued: `range P PAGE K`, `pasid P`, `iotlb P [PAGE K]`,
+                           `entry P`, `wait [drain] [fence]`
+    await wait E           the last wait that this thread submitted is done; of one line `await NAME`
+    await queue E [P]      no page request stands in the queue
+    await groups E P       each group that was filed is answered
+    serve E                the oldest page request is filed
+    respond E P I success  a group is answered; or `invalid`, or `failure`
+    free F                 the frame has another owner; `free pasid P E`, `free space S`
+    freeze F               nobody may write the frame any more
+    reset E                the device is reset; `await reset E`
+    close E, open E        the unit is closed, and is open again
+    lock L, unlock L       a lock that threads share
+
+Settings stand above the first act: `link free` or `posted`, `waits fence` or `plain`, `drain empty` or
+`arrived`, `caches off` or `on`, `stopped marker`, `status` or `known`. Threads, workers and devices are
+as in a race.
 
 These steps send a message, and no others. Behind it stands what its delivery is answered:
 

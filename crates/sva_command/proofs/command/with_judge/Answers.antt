@@ -6,7 +6,7 @@ use Rattle.sva_command.proofs.command.with_judge.Goals as goal
 
 pub returns : goal.returns
 returns c =
-    let bare_is : app_of c.long_about-judge.result ≡ new_app (codes "judge") = search rules in
+    let bare_is : app_of c.after_help-judge.result ≡ new_app (codes "judge") = search rules in
     let most_is : app_of c.in_ok-with_most.with_most ≡ with_rule (new_app (codes "judge")) most_rule =
     c.in_ok-with_most.ensures.shape c.most_option.ensures.local ∙ ap₂ with_rule bare_is c.most_option.ensures.rule in
     let judge_is : app_of c.in_ok-with_run.with_run ≡ with_rule (with_rule (new_app (codes "judge")) most_rule) (flag_rule (codes "run")) =

@@ -1,3 +1,4 @@
+pub mod Needs
 pub mod Plans
 pub mod Texts
 pub mod Pasids

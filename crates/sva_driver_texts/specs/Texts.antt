@@ -3,8 +3,6 @@ use Rattle.std.specs.Prelude.{◌≡◌, ℕ, zero, suc, ◌+◌, if◌then◌el
 use Rattle.std.specs.Prelude.{Option, Some, None, Result, Ok, Err, codes}
 use Rattle.std.specs.Option.{unwrap_or}
 use Rattle.sva_step.specs.declared.limits.Config.{Config}
-use Rattle.sva_step.specs.declared.refusals.Refusal.TheVariants.{BadConfig}
-use Rattle.sva_step.specs.Refusals.{refusal_text}
 use Rattle.sva_grammar.specs.Grammar.{◌>>=◌, is_too_large}
 use Rattle.sva_reports.specs.Report.{ended, is_fit}
 use Rattle.sva_script.specs.Lines.{parts_of, script_words}
@@ -12,6 +10,7 @@ use Rattle.sva_script.specs.Names.{Known}
 use Rattle.sva_script_reading.specs.Begins.{Line, config_in, lines_from, noted}
 use Rattle.sva_script_reading.specs.Faults as scripts
 use Rattle.sva_script_reading.specs.Faults.{Fault}
+use Rattle.sva_race_words.specs.Limits.{limits_text}
 use Rattle.sva_race_words.specs.declared.faults.RaceWanted.TheVariants as race
 use Rattle.sva_open.specs.World.{Open, opened}
 use Rattle.sva_open.specs.declared.settings.Conduct.{Conduct}
@@ -28,6 +27,7 @@ use Rattle.sva_driver_acts.specs.Awaits.{LineSaid}
 use Rattle.sva_driver_acts.specs.Sayings.{SayingSaid, saying_seen}
 use Rattle.sva_driver_lines.specs.Devices.{DeviceSaid, no_workers}
 use Rattle.sva_driver_lines.specs.Readings.{Reading, read_of}
+use Rattle.sva_driver_texts.specs.Needs.{need_of}
 use Rattle.sva_driver_texts.specs.Pasids.{pasids_of}
 use Rattle.sva_driver_texts.specs.Plans.{device_seen, planned_from}
 use Rattle.sva_driver_texts.specs.declared.kept.Read.{Read}
@@ -135,7 +135,7 @@ right_or_said read = if_right read read.reading.said
 -- what is wrong with the config is told alone
 abbrev pub driver_with : Config → (all lines : List Line) → Result DriverRead (List ℕ)
 driver_with config all lines =
-    if is_fit config then right_or_said (driver_read config all lines) else Err (ended (refusal_text BadConfig))
+    if is_fit config then right_or_said (driver_read config all lines) else Err (limits_text config all)
 
 abbrev pub driver_behind : (all : List Line) → Result (Config × List Line) Fault → Result DriverRead (List ℕ)
 driver_behind all (Err fault) = Err (scripts.fault_text fault)
@@ -178,10 +178,10 @@ pub record IsText (read : Read) (text : Text) : Type 0 where
 abbrev pub race_missing : Read → List ℕ
 race_missing read = fault_text read.names read.next [] (record { at = 0; wanted = wanted.Race race.Race })
 
--- what is told of a line before `race` that isn't permitted where it stands
+-- what is told of a line that isn't permitted where it stands
 abbrev pub refused_text : Known → Option Kept → Option Said → List ℕ
 refused_text known (Some line) (Some said) =
-    fault_text known line.number (script_words said.text.items) (record { at = 0; wanted = wanted.Permitted })
+    fault_text known line.number (script_words said.text.items) (record { at = 0; wanted = wanted.Permitted (need_of line.saying) })
 refused_text known line said = []
 
 abbrev pub refused_at : Read → (place : ℕ) → List ℕ

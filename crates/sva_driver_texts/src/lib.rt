@@ -4,6 +4,7 @@
 mod budgets;
 mod first;
 mod kept;
+mod needs;
 mod opening;
 mod pasids;
 mod plans;

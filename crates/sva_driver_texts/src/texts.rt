@@ -7,14 +7,15 @@ ghost use Rattle.sva_script_reading.specs.Begins.{lines_from};
 
 use crate::first::take_lines;
 use crate::kept::{Read, Said, Text};
+use crate::needs::need_of;
 use crate::opening::opening_of;
 use std::alloc::{AllocError, Global};
 use sva_driver_lines::{Reading, read_lines};
 use sva_driver_words::{DriverWanted, lacking, put_fault};
 use sva_judge::{Driver, Line, Spot};
-use sva_race_words::RaceWanted;
+use sva_race_words::{RaceWanted, put_limits};
 use sva_script::{Names, name_in, split};
-use sva_script_reading::{Desk, Lines, is_too_large, note_name, put_bad_config, take_config};
+use sva_script_reading::{Desk, Lines, is_too_large, note_name, take_config};
 use sva_step::Config;
 
 /// Said of a text that is too large.
@@ -92,7 +93,7 @@ fn read_all(
         (lines_from (lines.entry.number + 1) lines.entry.rest.now)) found out.new.items) }
 {
     if !config.fits() {
-        put_bad_config(out)?;
+        put_limits(alloc, &config, all, out)?;
         return Ok(None);
     }
     let names = names_of(alloc, all)?;
@@ -122,7 +123,7 @@ pub fn read_text(alloc: Global, text: &[u8], out: &mut Vec<u8>) -> Result<Option
     }
 }
 
-/// Tells of a line that it isn't permitted where it stands.
+/// Tells of a line that it isn't permitted where it stands, and what it needs.
 fn tell_refused(
     alloc: Global,
     names: &Names,
@@ -135,7 +136,7 @@ fn tell_refused(
 {
     let mut words = Vec::new(alloc);
     split(said.text.as_slice(), &mut words)?;
-    let wrong = lacking(0, DriverWanted::Permitted);
+    let wrong = lacking(0, DriverWanted::Permitted(need_of(&line.saying)));
     put_fault(out, &wrong, line.number, words.as_slice(), names)
 }
 

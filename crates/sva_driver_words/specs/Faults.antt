@@ -13,6 +13,7 @@ use Rattle.sva_driver_words.specs.declared.faults.DriverWanted.TheVariants as wa
 use Rattle.sva_driver_words.specs.declared.faults.SubmitWanted.{SubmitWanted}
 use Rattle.sva_driver_words.specs.declared.faults.SubmitWanted.TheVariants as submit
 use Rattle.sva_driver_words.specs.declared.faults.DriverWrong.{DriverWrong}
+use Rattle.sva_driver_words.specs.Needs.{need_text}
 
 -- what a line is read as that is wrong at this word
 abbrev pub lacking : {A : Type 0} → (at : ℕ) → DriverWanted → Result A DriverWrong
@@ -75,7 +76,7 @@ wanted_text wanted.WaitAbove = codes "an endpoint at which a line above in this 
 wanted_text wanted.Lock = codes "the name of a lock"
 wanted_text wanted.Part = codes "a number, 0 to 65535, evicts, silent, lies, awaits or pages"
 wanted_text wanted.Counted = codes "asks, uses or faults"
-wanted_text wanted.Permitted = codes "an act that is permitted now"
+wanted_text (wanted.Permitted need) = codes "an act that is permitted now"
 
 -- ---- The hint
 
@@ -119,13 +120,18 @@ near_wanted known word wanted.Freed = near_among freed_words word
 near_wanted known word wanted.Awaited = near_name known word
 near_wanted known word _ = None
 
+-- of an act that isn't permitted it is told what it needs
+abbrev pub hint_text : Known → (word : List ℕ) → DriverWanted → List ℕ
+hint_text known word (wanted.Permitted need) = need_text need
+hint_text known word want = near_text (near_wanted known word want)
+
 -- ---- The line
 
 -- which word is wrong, if the line has it
 abbrev pub where_text : Known → DriverWanted → Option (List ℕ) → List ℕ
 where_text known want None = codes ": end of line: wanted " ++ wanted_text want
 where_text known want (Some word) =
-    codes ": '" ++ shown_word word ++ codes "': wanted " ++ wanted_text want ++ near_text (near_wanted known word want)
+    codes ": '" ++ shown_word word ++ codes "': wanted " ++ wanted_text want ++ hint_text known word want
 
 -- what a race's line wants is told as of a race
 abbrev pub text_by : Known → (line : ℕ) → List (List ℕ) → (at : ℕ) → DriverWanted → List ℕ

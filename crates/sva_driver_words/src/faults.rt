@@ -3,12 +3,13 @@
 ghost use Rattle.std.specs.Prelude.{◌≡◌, ◌++◌, ◌∷◌, [], OnOk, Some, codes, decimal, map, option_map};
 ghost use Rattle.std.specs.Prelude.{slice_get};
 ghost use Rattle.sva_driver_words.specs.Faults.{act_words, behind_words, before_words, descriptor_words, fault_text};
-ghost use Rattle.sva_driver_words.specs.Faults.{freed_words, more_kind_words, near_wanted, no_more};
+ghost use Rattle.sva_driver_words.specs.Faults.{freed_words, hint_text, more_kind_words, near_wanted, no_more};
 ghost use Rattle.sva_driver_words.specs.Faults.{setting_words, submit_text, wanted_text, where_text};
 ghost use Rattle.sva_race_words.specs.ScriptFaults.{or_else};
 ghost use Rattle.sva_words.specs.Near.{near_among};
 ghost use Rattle.sva_words.specs.Reserved.{kind_words};
 
+use crate::needs::{Need, need_words};
 use std::alloc::AllocError;
 use sva_race_words::{
     RaceWanted, count_of, first_near, put_near, put_number, put_word, word_in, wrong_at,
@@ -108,8 +109,8 @@ pub enum DriverWanted {
     Part,
     /// The events that a number counts.
     Counted,
-    /// An act that is permitted where it stands.
-    Permitted,
+    /// An act that is permitted where it stands, for which it needs this.
+    Permitted(Need),
 }
 
 /// What is wrong with a line: at which of its words, counted from 0, and what was wanted there. Where the line has no
@@ -207,7 +208,7 @@ fn words_of(wanted: &DriverWanted) -> &'static str
         DriverWanted::Lock => "the name of a lock",
         DriverWanted::Part => "a number, 0 to 65535, evicts, silent, lies, awaits or pages",
         DriverWanted::Counted => "asks, uses or faults",
-        DriverWanted::Permitted => "an act that is permitted now",
+        DriverWanted::Permitted(_) => "an act that is permitted now",
     }
 }
 
@@ -405,5 +406,20 @@ fn put_at_word(
     put_word(out, word)?;
     out.extend_from_slice(b"': wanted ")?;
     out.extend_from_slice(words_of(wanted).as_bytes())?;
-    put_near(out, near(wanted, names, word))
+    put_hint(out, wanted, word, names)
+}
+
+/// Appends what the act needs, where it isn't permitted; else the word that is near, if there is one.
+fn put_hint(
+    out: &mut Vec<u8>,
+    wanted: &DriverWanted,
+    word: &[u8],
+    names: &Names,
+) -> Result<(), AllocError>
+    ensures { OnOk result (out.new.items ≡ out.old.items ++ hint_text names.now word.now wanted.now) }
+{
+    match wanted {
+        DriverWanted::Permitted(need) => out.extend_from_slice(need_words(*need).as_bytes()),
+        _ => put_near(out, near(wanted, names, word)),
+    }
 }

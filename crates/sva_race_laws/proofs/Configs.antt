@@ -4,21 +4,20 @@ use Rattle.std.proofs.Common.{[], ◌∷◌, codes}
 use Rattle.std.specs.Prelude.{if◌then◌else◌, Result, Ok, Err}
 use Rattle.std.specs.Str.{bytes_eq}
 use Rattle.sva_step.specs.declared.limits.Config.{Config}
-use Rattle.sva_step.specs.declared.refusals.Refusal.TheVariants.{BadConfig}
-use Rattle.sva_step.specs.Refusals.{refusal_text}
 use Rattle.sva_model.specs.Claims.{Fits}
 use Rattle.sva_grammar.specs.declared.faults.Cause.{Cause}
 use Rattle.sva_grammar.specs.declared.faults.Cause.TheVariants.{NoConfig}
 use Rattle.sva_grammar.specs.Grammar.{config_counts, config_of, config_read, has_words, is_too_large, number, word}
 use Rattle.sva_grammar.specs.Grammar.{words_of}
 use Rattle.sva_grammar.specs.Laws.{HasConfigLine}
-use Rattle.sva_reports.specs.Report.{ended, is_fit}
+use Rattle.sva_reports.specs.Report.{is_fit}
 use Rattle.sva_script.specs.Lines.{script_words}
 use Rattle.sva_script_reading.specs.Begins.{Line, config_at, config_in, joined_words, lines_from}
 use Rattle.sva_script_reading.specs.Faults.{Fault}
 use Rattle.sva_script_laws.proofs.StepLines.{config_part}
 use Rattle.sva_script_laws.proofs.StepWords.{part}
 use Rattle.sva_script_laws.proofs.Written.{config_line_read}
+use Rattle.sva_race_words.specs.Limits.{limits_text}
 use Rattle.sva_race_lines.specs.Texts.{RaceRead, if_right, race_behind, race_of, race_read, read_of, right_or_said}
 use Rattle.sva_race_lines.specs.Texts.{too_large}
 
@@ -43,7 +42,7 @@ nothing_said first second (byte ∷ said) is = absurd (cc is)
 by_fit : (text : List ℕ) (read : RaceRead) (config : Config) (left : List Line) (fit : Bool)
     → config_in 0 (lines_from 1 text) ≡ Ok (config, left)
     → is_fit config ≡ fit
-    → (if fit then right_or_said (race_read config (lines_from 1 text) left) else Err (ended (refusal_text BadConfig))) ≡ Ok read → IsRead text read
+    → (if fit then right_or_said (race_read config (lines_from 1 text) left) else Err (limits_text config (lines_from 1 text))) ≡ Ok read → IsRead text read
 by_fit text read config left false found fit is = absurd (cc is)
 by_fit text read config left true found fit is =
     let same = nothing_said (race_read config (lines_from 1 text) left) read (race_read config (lines_from 1 text) left).reading.said is in

@@ -4,14 +4,13 @@ use Rattle.std.proofs.lemmas.Bool.Decides.{nat_tests}
 use Rattle.std.specs.Prelude.{IfOk, Option, Some, None, Result, Ok, Err}
 use Rattle.std.specs.declared.alloc.AllocError.{AllocError}
 use Rattle.sva_step.specs.declared.limits.Config.{Config}
-use Rattle.sva_step.specs.declared.refusals.Refusal.TheVariants.{BadConfig}
-use Rattle.sva_step.specs.Refusals.{refusal_text}
 use Rattle.sva_grammar.specs.Grammar.{is_too_large}
-use Rattle.sva_reports.specs.Report.{ended, is_fit}
+use Rattle.sva_reports.specs.Report.{is_fit}
 use Rattle.sva_script_reading.specs.Begins.{Line, config_in, lines_from}
 use Rattle.sva_script_reading.specs.Faults.{Fault}
 use Rattle.sva_script_reading.specs.Faults as scripts
 use Rattle.sva_script_reading.specs.Reading.{HasConfig}
+use Rattle.sva_race_words.specs.Limits.{limits_text}
 use Rattle.sva_race_lines.specs.declared.kept.Text.{Text}
 use Rattle.sva_race_lines.specs.Texts.{IsText, RaceRead, ReadsRace, if_right, race_behind, race_of, race_read, race_with, right_or_said}
 use Rattle.sva_race_lines.specs.Texts.{before_race, from_race, names_from, script_of, too_large, with_script}
@@ -47,15 +46,15 @@ said_right read text out right is none = subst (λ said. ReadsRace (if_right rea
 -- ---- A config with the lines behind it
 
 pub with_unfit : (config : Config) (all lines : List Line) (out new : List ℕ) → out ≡ [] → is_fit config ≡ false
-    → new ≡ out ++ ended (refusal_text BadConfig) → ReadsRace (race_with config all lines) None new
+    → new ≡ out ++ limits_text config all → ReadsRace (race_with config all lines) None new
 with_unfit config all lines out new none unfit is =
-    subst (λ b. ReadsRace (cond b (right_or_said (race_read config all lines)) (Err (ended (refusal_text BadConfig)))) None new) (sym unfit)
-    (is ∙ ap (λ l. l ++ ended (refusal_text BadConfig)) none)
+    subst (λ b. ReadsRace (cond b (right_or_said (race_read config all lines)) (Err (limits_text config all))) None new) (sym unfit)
+    (is ∙ ap (λ l. l ++ limits_text config all) none)
 
 pub with_fit : (config : Config) (all lines : List Line) (read : RaceRead) (found : Option Text) (new : List ℕ) → is_fit config ≡ true
     → read ≡ race_read config all lines → ReadsRace (right_or_said read) found new → ReadsRace (race_with config all lines) found new
 with_fit config all lines read found new fit is reads =
-    subst (λ b. ReadsRace (cond b (right_or_said (race_read config all lines)) (Err (ended (refusal_text BadConfig)))) found new) (sym fit)
+    subst (λ b. ReadsRace (cond b (right_or_said (race_read config all lines)) (Err (limits_text config all))) found new) (sym fit)
     (subst (λ read. ReadsRace (right_or_said read) found new) is reads)
 
 -- what was read, call by call

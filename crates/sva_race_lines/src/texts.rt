@@ -12,8 +12,9 @@ use crate::pages::{devices_of, named_pages, silent_of};
 use crate::readings::Reading;
 use std::alloc::{AllocError, Global};
 use sva_race::{Race, Verdicts};
+use sva_race_words::put_limits;
 use sva_script::Names;
-use sva_script_reading::{Desk, Lines, is_too_large, put_bad_config, take_config};
+use sva_script_reading::{Desk, Lines, is_too_large, take_config};
 use sva_step::Config;
 
 /// Said of a text that is too large.
@@ -98,7 +99,7 @@ fn read_lines(
         (lines_from (lines.entry.number + 1) lines.entry.rest.now)) found out.new.items) }
 {
     if !config.fits() {
-        put_bad_config(out)?;
+        put_limits(alloc, &config, all, out)?;
         return Ok(None);
     }
     let names = names_of(alloc, all)?;

@@ -57,6 +57,12 @@ pub enum RaceWanted {
     RefusalNumber,
     /// The name of this refusal, whose number stands before.
     RefusalName(Refusal),
+    /// How many endpoints a config may have.
+    EndpointCount,
+    /// How many frames.
+    FrameCount,
+    /// How many workers.
+    WorkerCount,
 }
 
 /// What is wrong with a line: at which of its words, counted from 0, and what was wanted there. Where the line has no
@@ -117,6 +123,9 @@ fn words_of(wanted: &RaceWanted) -> &'static str
         RaceWanted::Frame => "a frame of the config or the name of a step that is answered one",
         RaceWanted::RefusalNumber => "the number of a refusal",
         RaceWanted::RefusalName(_) => "the refusal of this number",
+        RaceWanted::EndpointCount => "1 to 8 endpoints",
+        RaceWanted::FrameCount => "1 to 4096 frames",
+        RaceWanted::WorkerCount => "1 to 4 workers",
     }
 }
 

@@ -9,8 +9,8 @@ pub returns-then-not-fits : goal.returns-then-not-fits
 returns-then-not-fits c =
     let unfit : c.fits.result ≡ false = search rules in
     with_unfit c.args.config (lines_from (c.args.all.number + 1) c.args.all.rest.now) (lines_from (c.args.lines.number + 1) c.args.lines.rest.now)
-    c.args.out.now.items c.put_bad_config.new.out.items c.requires.none
-    (unfit_from c.args.config (λ fits. cc (sym (c.fits.ensures.1 fits) ∙ unfit))) c.in_ok-put_bad_config.ensures
+    c.args.out.now.items c.put_limits.new.out.items c.requires.none
+    (unfit_from c.args.config (λ fits. cc (sym (c.fits.ensures.1 fits) ∙ unfit))) c.in_ok-put_limits.ensures
 
 pub returns : goal.returns
 returns c =

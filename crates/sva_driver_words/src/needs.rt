@@ -1,0 +1,97 @@
+//! What an act needs so that it is permitted.
+
+ghost use Rattle.std.specs.Prelude.{◌≡◌};
+ghost use Rattle.sva_driver_words.specs.Needs.{need_text};
+
+/// What an act needs so that it is permitted.
+#[derive(Clone, Copy)]
+pub enum Need {
+    /// Nothing: it is always permitted, where lines are taken in their order.
+    Nothing,
+    /// To submit: an open unit, and room in its queue.
+    Room,
+    /// To close a unit: that it is open.
+    OpenUnit,
+    /// To open a unit: that it is closed.
+    ClosedUnit,
+    /// To await a wait: that it is done.
+    Done,
+    /// To await a stop: an answer to it.
+    Stopped,
+    /// To await the page request queue: that it is empty.
+    EmptyQueue,
+    /// To await the page requests of a PASID: that none stands in the queue.
+    NoneQueued,
+    /// To await the groups of a PASID: that each one is answered.
+    Answered,
+    /// To await resets: that each one is done.
+    ResetsDone,
+    /// To file a page request: one in the queue.
+    Queued,
+    /// To take a lock: that it is free.
+    FreeLock,
+    /// To give a lock back: that it is taken.
+    TakenLock,
+    /// To deliver a message: one in flight that may go.
+    Deliverable,
+    /// To take a descriptor: one at the head of an open unit's queue that may go.
+    Head,
+    /// To drop an entry: that the unit keeps it.
+    KeptEntry,
+    /// To drop a translation: that the unit keeps it.
+    KeptTranslation,
+    /// To ask: the PASID on.
+    On,
+    /// To use: the PASID on, and a held translation.
+    Usable,
+    /// To evict: a held translation.
+    Held,
+    /// To end a use: one that runs.
+    Running,
+    /// To complete an invalidation: one that has come, with no older use of what it covers.
+    Covered,
+    /// To quit a PASID: a stop that has come, and nothing of the PASID that has to end.
+    Idle,
+    /// To begin a group: the PASID on, and page requests enabled.
+    Enabled,
+    /// To go on with a group: that it is unfinished, and page requests enabled.
+    Unfinished,
+}
+
+/// What it needs, in words, behind those that say that it isn't permitted.
+pub(crate) fn need_words(need: Need) -> &'static str
+    ensures { result.now ≡ need_text need }
+{
+    match need {
+        Need::Nothing => "",
+        Need::Room => ": submit needs an open unit with room for all descriptors",
+        Need::OpenUnit => ": close needs an open unit",
+        Need::ClosedUnit => ": open needs a closed unit",
+        Need::Done => ": await needs the wait done",
+        Need::Stopped => ": await needs an answer to the stop",
+        Need::EmptyQueue => ": await needs an empty page request queue",
+        Need::NoneQueued => ": await needs no page request of the PASID in the queue",
+        Need::Answered => ": await needs each filed group of the PASID answered",
+        Need::ResetsDone => ": await needs each reset done",
+        Need::Queued => ": serve needs a page request in the queue",
+        Need::FreeLock => ": lock needs a free lock",
+        Need::TakenLock => ": unlock needs a taken lock",
+        Need::Deliverable =>
+            ": deliver needs such a message in flight, behind none that it may not overtake",
+        Need::Head => ": pump needs an open unit, and a descriptor at the head that may go",
+        Need::KeptEntry => ": forget needs the entry kept by the unit",
+        Need::KeptTranslation => ": forget needs the translation kept by the unit",
+        Need::On => ": ask needs the PASID on at the endpoint",
+        Need::Usable =>
+            ": use needs the PASID on at the endpoint, and a held translation of the page",
+        Need::Held => ": evict needs a held translation of the page",
+        Need::Running => ": end needs a use that runs",
+        Need::Covered =>
+            ": finish needs an invalidation that has come, with no older use of what it covers",
+        Need::Idle =>
+            ": quit needs a stop that has come, and no group, request or use of the PASID to end",
+        Need::Enabled => ": fault needs the PASID on at the endpoint, and page requests enabled",
+        Need::Unfinished =>
+            ": fault needs that group of the PASID unfinished, and page requests enabled",
+    }
+}

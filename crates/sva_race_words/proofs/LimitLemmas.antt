@@ -1,0 +1,23 @@
+-- The first line that says something, line by line.
+use Rattle.std.proofs.Common.{◌≡◌, ◌∙◌, ap, refl, sym, ℕ, List, [], ◌∷◌}
+use Rattle.sva_script.specs.Lines.{script_words}
+use Rattle.sva_script_reading.specs.Begins.{Line}
+use Rattle.sva_race_words.specs.Limits.{first_of, first_words}
+
+pub first_silent : (all left : List Line) (line : Line) → all ≡ line ∷ left → script_words line.1 ≡ [] → first_words all ≡ first_words left
+unfolding first_words
+first_silent all left line is none = ap first_words is ∙ ap (first_of line (first_words left)) none
+
+says : (line : Line) (later : ℕ × List (List ℕ)) (words : List (List ℕ)) → (words ≡ [] → ⊥) → first_of line later words ≡ (line.0, words)
+says line later [] some = absurd (some refl)
+says line later (word ∷ words) some = refl
+
+pub first_said : (all left : List Line) (line : Line) (words : List (List ℕ)) → all ≡ line ∷ left → words ≡ script_words line.1
+    → (words ≡ [] → ⊥) → first_words all ≡ (line.0, words)
+unfolding first_words
+first_said all left line words is same some =
+    ap first_words is ∙ ap (first_of line (first_words left)) (sym same) ∙ says line (first_words left) words some
+
+pub first_none : (all : List Line) → all ≡ [] → first_words all ≡ (0, [])
+unfolding first_words
+first_none all is = ap first_words is

@@ -1,0 +1,13 @@
+use Rattle.std.proofs.Common.{◌≡◌, ◌+◌, length}
+use Rattle.sva_script_reading.specs.Begins.{lines_from}
+use Rattle.sva_race_words.specs.Limits.{first_words}
+use Rattle.sva_race_words.proofs.limits.put_limits.Given as goal
+
+-- the first line that says something is that of the lines that are left
+abbrev pub invariant-loop-number : goal.invariant-loop-number
+invariant-loop-number l =
+    first_words (lines_from (l.from.number + 1) l.from.rest.now) ≡ first_words (lines_from (l.lines.number + 1) l.lines.rest.now)
+
+-- what is left gets shorter
+abbrev pub decreases-loop-number : goal.decreases-loop-number
+decreases-loop-number l = length l.lines.rest.now

@@ -19,6 +19,7 @@ use Rattle.sva_driver_texts.specs.Budgets.{is_pageless, is_unasked, is_unstarted
 use Rattle.sva_driver_texts.specs.declared.kept.Said.{Said}
 use Rattle.sva_driver_texts.specs.declared.kept.Text.{Text}
 use Rattle.sva_driver_words.specs.Pieces.{and_number, counted_text, with_endpoint}
+use Rattle.sva_driver_words.specs.Platforms.{platform_text}
 use Rattle.sva_driver_reports.specs.Findings.{wrong_text}
 use Rattle.sva_driver_reports.specs.Witness.{EventSaid, events_from, events_text, front_text, last_spot, line_who, said_if}
 use Rattle.sva_driver_reports.specs.declared.reports.Ruling.{Ruling}
@@ -184,7 +185,9 @@ stuck_text text choices =
     ++ budgets_text (codes "# ") text ++ witness_text text choices
 
 abbrev pub safe_text : Text → (moments : ℕ) → List ℕ
-safe_text text moments = codes "safe in all " ++ moments_text moments ++ 10 ∷ budgets_text (codes "") text
+safe_text text moments =
+    codes "safe in all " ++ moments_text moments ++ 10 ∷ budgets_text (codes "") text
+    ++ platform_text text.driver.start.settings
 
 abbrev pub cut_text : (moments events : ℕ) → List ℕ
 cut_text moments events =

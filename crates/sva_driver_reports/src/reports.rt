@@ -10,7 +10,7 @@ use crate::notes::{put_budgets, put_others, put_state, put_waiting};
 use crate::witness::{Event, events_of, put_events};
 use std::alloc::{AllocError, Global};
 use sva_driver_texts::Text;
-use sva_driver_words::put_counted;
+use sva_driver_words::{put_counted, put_platform};
 use sva_judge::{Choice, Spot, Verdict, start};
 use sva_open_wrongs::first_wrong;
 
@@ -111,7 +111,8 @@ fn put_safe(out: &mut Vec<u8>, text: &Text, moments: usize) -> Result<(), AllocE
     out.extend_from_slice(b"safe in all ")?;
     put_counted(out, moments as u64, "moment", "moments")?;
     out.extend_from_slice(b"\n")?;
-    put_budgets(out, b"", text)
+    put_budgets(out, b"", text)?;
+    put_platform(out, &text.driver.start.settings)
 }
 
 fn put_cut(out: &mut Vec<u8>, moments: usize, events: usize) -> Result<(), AllocError>

@@ -5,6 +5,7 @@ mod faults;
 mod fields;
 mod needs;
 mod pieces;
+mod platforms;
 
 pub use faults::{
     DriverStop, DriverWanted, DriverWrong, SubmitWanted, judge_end, lacking, put_fault,
@@ -18,3 +19,4 @@ pub use pieces::{
     access_text, code_text, kind_text, last_text, put_counted, put_endpoint, put_older, put_one,
     put_page, put_pasid,
 };
+pub use platforms::put_platform;

@@ -1,8 +1,14 @@
 -- The first line that says something, line by line.
-use Rattle.std.proofs.Common.{◌≡◌, ◌∙◌, ap, refl, sym, ℕ, List, [], ◌∷◌}
+use Rattle.std.proofs.Common.{◌≡◌, ◌∙◌, ap, refl, sym, ℕ, List, [], ◌∷◌, ◌++◌}
+use Rattle.std.specs.Prelude.{OnOk, Result, Ok, Err}
+use Rattle.std.specs.declared.alloc.AllocError.{AllocError}
+use Rattle.sva_step.specs.declared.limits.Config.{Config}
 use Rattle.sva_script.specs.Lines.{script_words}
+use Rattle.sva_script.specs.Names.{Known}
 use Rattle.sva_script_reading.specs.Begins.{Line}
-use Rattle.sva_race_words.specs.Limits.{first_of, first_words}
+use Rattle.sva_race_words.specs.Faults.{fault_text}
+use Rattle.sva_race_words.specs.Limits.{count_wrong, first_of, first_words, limits_text}
+use Rattle.sva_race_words.specs.declared.faults.RaceWrong.{RaceWrong}
 
 pub first_silent : (all left : List Line) (line : Line) → all ≡ line ∷ left → script_words line.1 ≡ [] → first_words all ≡ first_words left
 unfolding first_words
@@ -21,3 +27,11 @@ first_said all left line words is same some =
 pub first_none : (all : List Line) → all ≡ [] → first_words all ≡ (0, [])
 unfolding first_words
 first_none all is = ap first_words is
+
+-- what is told at that line
+pub limits_told : {A : Type 0} (result : Result A AllocError) (config : Config) (all : List Line) (names : Known) (wrong : RaceWrong) (line : ℕ)
+    (words : List (List ℕ)) (old mid new : List ℕ) → first_words all ≡ (line, words) → names ≡ [] → wrong ≡ count_wrong config → mid ≡ old
+    → OnOk result (new ≡ mid ++ fault_text names line words wrong) → OnOk result (new ≡ old ++ limits_text config all)
+limits_told (Ok done) config all names wrong line words old mid new first named is same told =
+    told ∙ (λ i. same i ++ fault_text (named i) (sym first i).0 (sym first i).1 (is i))
+limits_told (Err lack) config all names wrong line words old mid new first named is same told = tt

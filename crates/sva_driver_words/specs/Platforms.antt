@@ -10,8 +10,8 @@ abbrev pub link_words : Link → List ℕ
 link_words Free = codes "with link free"
 link_words Posted = codes "with link posted"
 
-abbrev pub one_of : (so : Bool) → (yes no : List ℕ) → List ℕ
-one_of so yes no = if so then yes else no
+abbrev pub one_of : (so : Bool) → (text other : List ℕ) → List ℕ
+one_of so text other = if so then text else other
 
 abbrev pub stopped_words : Stopped → List ℕ
 stopped_words Marker = codes ", stopped marker\n"

@@ -16,10 +16,10 @@ fn link_words(link: Link) -> &'static str
 }
 
 /// One of two texts.
-fn one_of(so: bool, yes: &'static str, no: &'static str) -> &'static str
-    ensures { result.now ≡ platforms.one_of so yes.now no.now }
+fn one_of(so: bool, text: &'static str, other: &'static str) -> &'static str
+    ensures { result.now ≡ platforms.one_of so text.now other.now }
 {
-    if so { yes } else { no }
+    if so { text } else { other }
 }
 
 fn stopped_words(stopped: Stopped) -> &'static str
@@ -44,5 +44,6 @@ pub fn put_platform(out: &mut Vec<u8>, settings: &Settings) -> Result<(), AllocE
     out.extend_from_slice(drain.as_bytes())?;
     let caches = one_of(settings.has_caches, ", caches on", ", caches off");
     out.extend_from_slice(caches.as_bytes())?;
-    out.extend_from_slice(stopped_words(settings.stopped).as_bytes())
+    out.extend_from_slice(stopped_words(settings.stopped).as_bytes())?;
+    Ok(())
 }

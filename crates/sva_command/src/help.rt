@@ -57,7 +57,7 @@ pub const EXPLORE_USAGE: &str = "svahost explore [OPTIONS] [FILE]..";
 pub const JUDGE_USAGE: &str = "svahost judge [OPTIONS] [FILE]..";
 
 /// What the help of both says of files.
-pub const FILES: &str = "Files:
+pub static FILES: &str = "Files:
   [FILE]..      Read in the place of standard input; of several each has a line
   --part <K/N>  Of the files every N-th is searched, from the K-th on";
 
@@ -90,7 +90,7 @@ pub const NO_TEXT: &str =
     "svahost: nothing is known of this command line; docs/FORMAT.md describes the program\n";
 
 /// What `--help` says.
-pub const HELP: &str =
+pub static HELP: &str =
     "Judges whether a driver's order of acts is safe, and runs scenarios of a host for shared virtual
 addressing: PCI Express ATS, PRI and PASIDs, with the invalidations and page requests of Intel VT-d.
 

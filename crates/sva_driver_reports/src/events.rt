@@ -10,25 +10,7 @@ use sva_driver_words::{
     put_pasid,
 };
 use sva_open::{LocalAct, Part, Sent, Work, before};
-use sva_open_names::{Kind, kind_of};
-
-fn is_of_kind(kind: Kind, sent: &Sent) -> bool
-    ensures { result ≡ finding.is_of_kind kind sent.now }
-{
-    kind_of(&sent.message) == kind
-}
-
-fn is_use(work: &Work) -> bool
-    ensures { result ≡ finding.is_use work.now }
-{
-    matches!(work, Work::Use(_))
-}
-
-fn is_taken(work: &Work) -> bool
-    ensures { result ≡ finding.is_taken work.now }
-{
-    matches!(work, Work::Taken { .. })
-}
+use sva_open_names::{Kind, is_of_kind, is_taken, is_use, kind_of};
 
 fn count_messages(flight: &[Sent], kind: Kind) -> usize
     ensures { result ≡ count_by (finding.is_of_kind kind) flight.now }

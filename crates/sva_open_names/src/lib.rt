@@ -4,5 +4,5 @@
 mod finding;
 mod naming;
 
-pub use finding::{found, kind_of};
+pub use finding::{found, is_of_kind, is_taken, is_use, kind_of};
 pub use naming::{Kind, Named};

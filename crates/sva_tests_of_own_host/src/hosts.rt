@@ -10,8 +10,8 @@ use std::process::Abort;
 use sva_core::World;
 use sva_open::{Conduct, Link, Open, Settings, Stopped};
 use sva_open_safe::is_safe;
-use sva_snapshot::snapshot;
-use sva_step::Config;
+use sva_snapshot::{Snapshot, snapshot};
+use sva_step::{Config, Step};
 
 /// The project's own platform.
 const OWN: Settings = Settings {
@@ -35,10 +35,15 @@ const CONFIG: Config = Config {
     first: 0,
 };
 
-/// How many steps were taken, and at how many moments a frame that is withheld might still be used.
+/// A host that is followed by open acts.
 #[derive(Drop)]
-struct Counts {
+struct Walk {
+    world: World,
+    mirror: Mirror,
+    seen: Snapshot,
+    /// How many steps were taken,
     taken: usize,
+    /// and at how many moments a frame that is withheld might still be used.
     usable: usize,
 }
 
@@ -49,50 +54,73 @@ fn opened<R: Abort>(rt: &R, alloc: Global) -> World {
     }
 }
 
-/// Takes so many steps by chance. Each moment is to be safe; or, where frames are given away early, unsafe exactly
-/// where one that is withheld may still be used.
+impl Walk {
+    fn new<R: Abort>(rt: &R, alloc: Global, early: bool) -> Result<Walk, AllocError> {
+        let mirror = Mirror {
+            open: Open::new(alloc, OWN, &[KEEPS, KEEPS], 33, 6)?,
+            works: Works::new(alloc),
+            early,
+        };
+        let world = opened(rt, alloc);
+        let seen = snapshot(alloc, &world)?;
+        Ok(Walk {
+            world,
+            mirror,
+            seen,
+            taken: 0,
+            usable: 0,
+        })
+    }
+
+    /// A step, if it is accepted. The moment is to be safe; or, where frames are given away early, unsafe exactly where
+    /// one that is withheld may still be used.
+    fn take<R: Abort>(
+        &mut self,
+        rt: &R,
+        alloc: Global,
+        its: &Step,
+        turn: usize,
+    ) -> Result<(), AllocError> {
+        let Ok(answer) = self.world.apply(its) else {
+            return Ok(());
+        };
+        let after = snapshot(alloc, &self.world)?;
+        self.mirror
+            .follow(rt, alloc, its, &answer, &self.seen, &after, turn)?;
+        self.seen = after;
+        let is_usable = is_one_usable(&self.seen);
+        let is_expected = is_safe(&self.mirror.open) != (self.mirror.early && is_usable);
+        holds(rt, is_expected, "another verdict behind step", turn);
+        self.taken = self.taken.saturating_add(1);
+        self.usable = self.usable.saturating_add(usize::from(is_usable));
+        Ok(())
+    }
+}
+
+/// Takes so many steps by chance. How many were accepted, and at how many moments a frame that is withheld might still
+/// be used.
 fn run<R: Abort>(
     rt: &R,
     alloc: Global,
     seed: u64,
     turns: usize,
     early: bool,
-) -> Result<Counts, AllocError> {
+) -> Result<(usize, usize), AllocError> {
     let mut dice = Dice::new(seed);
-    let mut world = opened(rt, alloc);
-    let mut mirror = Mirror {
-        open: Open::new(alloc, OWN, &[KEEPS, KEEPS], 33, 6)?,
-        works: Works::new(alloc),
-        early,
-    };
-    let mut seen = snapshot(alloc, &world)?;
-    let mut counts = Counts {
-        taken: 0,
-        usable: 0,
-    };
+    let mut walk = Walk::new(rt, alloc, early)?;
     for turn in 0..turns {
-        let its = step(&mut dice, &seen);
-        let Ok(answer) = world.apply(&its) else {
-            continue;
-        };
-        let after = snapshot(alloc, &world)?;
-        mirror.follow(rt, alloc, &its, &answer, &seen, &after, turn)?;
-        let is_usable = is_one_usable(&after);
-        let is_expected = is_safe(&mirror.open) != (early && is_usable);
-        holds(rt, is_expected, "another verdict behind step", turn);
-        seen = after;
-        counts.taken = counts.taken.saturating_add(1);
-        counts.usable = counts.usable.saturating_add(usize::from(is_usable));
+        let its = step(&mut dice, &walk.seen);
+        walk.take(rt, alloc, &its, turn)?;
     }
-    Ok(counts)
+    Ok((walk.taken, walk.usable))
 }
 
 /// svahost's steps, as open acts, are permitted, and each moment is safe.
 #[test]
 fn own_steps_are_safe(rt: HostRuntime) -> Result<(), AllocError> {
     for seed in 0..6 {
-        let counts = run(&rt, rt.alloc(), seed, 1500, false)?;
-        holds(&rt, counts.taken >= 300, "too few steps", counts.taken);
+        let (taken, _usable) = run(&rt, rt.alloc(), seed, 1500, false)?;
+        holds(&rt, taken >= 300, "too few steps", taken);
     }
     Ok(())
 }
@@ -102,8 +130,8 @@ fn own_steps_are_safe(rt: HostRuntime) -> Result<(), AllocError> {
 fn frames_given_away_early(rt: HostRuntime) -> Result<(), AllocError> {
     let mut usable = 0usize;
     for seed in 10..16 {
-        let counts = run(&rt, rt.alloc(), seed, 1500, true)?;
-        usable = usable.saturating_add(counts.usable);
+        let (_taken, its) = run(&rt, rt.alloc(), seed, 1500, true)?;
+        usable = usable.saturating_add(its);
     }
     holds(&rt, usable >= 100, "too few such moments", usable);
     Ok(())

@@ -1,0 +1,329 @@
+"""Small drivers by chance: mapped pages, started PASIDs and cached translations, and then orders that drivers have."""
+
+import pathlib
+
+import search
+from reading import Driver, need
+from world import Settings
+
+EXAMPLES = sorted(pathlib.Path(__file__).parents[3].glob('examples/judge/**/*.svd'))
+
+PAGES, PASIDS, SPACES = (16, 17, 18), (1, 1, 1, 2), (0, 0, 0, 1)
+CODES = ('success', 'invalid', 'failure')
+AWAITED = {'wait', 'stopped', 'queue', 'groups', 'reset'}
+
+
+class Maker:
+    def __init__(self, rng):
+        self.rng = rng
+        self.ends = 1 if rng.random() < 0.9 else 2
+        self.head = [f'config {self.ends} 4 1'] + self.settings()
+
+    def one(self, *words):
+        return self.rng.choice(words)
+
+    def chance(self, p):
+        return self.rng.random() < p
+
+    def budget(self):
+        return self.one(0, 1, 1, 1, 1, 2)
+
+    def settings(self):
+        pairs = ('link posted', 'waits plain', 'drain arrived', 'caches on', None)
+        found = [s for s in pairs if s and self.chance(0.35)]
+        return found + ([self.one('stopped status', 'stopped known')] if self.chance(0.5) else [])
+
+    def devices(self):
+        found = []
+        for e in range(self.ends):
+            parts = [f'{self.budget()} {what}' for what in ('asks', 'uses', 'faults') if self.chance(0.45)]
+            parts += [word for word, p in (('evicts', .12), ('silent', .12), ('lies', .15), ('awaits', .3))
+                      if self.chance(p)]
+            parts += [f'pages {self.one(16, 17, 18)}'] if self.chance(0.15) else []
+            if parts:
+                found.append(f'device {e} ' + ' '.join(parts))
+        if self.chance(0.5):
+            found.append('workers ' + ' '.join(c for c in CODES if self.chance(0.5)) or 'success')
+        return [x if x != 'workers ' else 'workers success' for x in found]
+
+    def e(self):
+        return self.rng.randrange(self.ends)
+
+    def p(self):
+        return self.one(*PASIDS)
+
+    def page(self):
+        return self.one(*PAGES)
+
+    def setup(self):
+        """What leads to a started PASID and, perhaps, a cached translation."""
+        found = []
+        for e in range(self.ends):
+            for p in {self.p(), self.p()}:
+                s = self.one(*SPACES)
+                found += [f'pte {s} {self.page()} {self.rng.randrange(3)} {self.one("r", "w", "w")}'
+                          for _ in range(self.one(1, 1, 2))]
+                found += [f'entry {e} {p} {s}'] if self.chance(0.9) else []
+                found += [f'start {e} {p}', f'deliver start {e}'] if self.chance(0.9) else []
+        return found
+
+    def descriptors(self):
+        p, page, k = self.p(), self.page(), self.one(0, 0, 1, 2)
+        found = [self.one(f'range {p} {page} {k}', f'range {p} {page} {k}', f'pasid {p}', f'iotlb {p}',
+                          f'iotlb {p} {page} {k}', f'entry {p}') for _ in range(self.one(0, 1, 1, 2))]
+        found += ['wait' + self.one('', '', ' drain') + self.one('', '', ' fence')] if self.chance(0.8) else []
+        if self.chance(0.1):
+            found.append(self.one('wait', f'range {p} {page} {k}'))
+        return ' + '.join(found or ['wait'])
+
+    def pte(self):
+        f = self.one('none', 'none', '0 w', '1 w', '0 r', '1 r')
+        return f'pte {self.one(*SPACES)} {self.page()} {f}'
+
+    def host(self):
+        """One act of the host."""
+        e, p = self.e(), self.p()
+        return self.one(
+            self.pte(), self.pte(), f'entry {e} {p} {self.one("none", "none", 0, 1)}', f'start {e} {p}',
+            f'stop {e} {p}',
+            f'reset {e}', f'submit {e} {self.descriptors()}', f'submit {e} {self.descriptors()}',
+            f'submit {e} {self.descriptors()}', f'await stopped {e} {p}', f'await queue {e}' + self.one('', f' {p}'),
+            f'await groups {e} {p}', f'await reset {e}', f'free {self.rng.randrange(2)}',
+            f'free {self.rng.randrange(2)}',
+            f'freeze {self.rng.randrange(2)}', f'free pasid {p} {e}', f'free space {self.one(0, 1)}', f'serve {e}',
+            f'respond {e} {p} {self.one(0, 0, 1)} {self.one(*CODES)}', f'close {e}', f'open {e}',
+            self.one('lock l', 'unlock l'))
+
+    def other(self):
+        """One act of an endpoint, a unit or the link."""
+        e, p, page = self.e(), self.p(), self.page()
+        kind = self.one('start', 'stop', 'reset', 'completion', 'invalidate', 'response', 'request', 'invalidated',
+                        'page-request', 'marker', 'status', 'reset-done')
+        n = self.one('', '', ' 0', ' 1')
+        return self.one(
+            f'ask {e} {p} {page}', f'ask {e} {p} {page}', f'use {e} {p} {page}', f'evict {e} {p} {page}', f'end {e}{n}',
+            f'finish {e}{n}', f'quit {e} {p}', f'pump {e}', f'pump {e}', f'forget {e} {p}' + self.one('', f' {page}'),
+            f'fault {e} {p} {page} {self.one("r", "w", "rw")} {self.one("new", "new", 0)} {self.one("more", "last")}',
+            *[f'deliver {kind} {e}{n}'] * 6)
+
+    def recipe(self):
+        """Orders that drivers have, whole, so that what comes behind them is reached."""
+        e, p, page, f = self.e(), self.p(), self.page(), self.rng.randrange(2)
+        wait = [f'await wait {e}']
+        unmap = [f'pte 0 {page} none', f'submit {e} range {p} {page} {self.one(0, 1)} + wait'] + wait + [f'free {f}']
+        cached = [f'pte 0 {page} none', f'submit {e} iotlb {p} + range {p} {page} 0 + wait'] + wait + [f'free {f}']
+        stop = [f'stop {e} {p}', f'await stopped {e} {p}', f'entry {e} {p} none', f'submit {e} wait drain'] + wait + [
+            f'await groups {e} {p}', f'submit {e} entry {p} + iotlb {p} + pasid {p} + wait'] + wait + [
+            self.one(f'free pasid {p} {e}', f'entry {e} {p} 1', 'free space 0')]
+        reset = [f'entry {e} {p} none', f'close {e}', f'reset {e}', f'await reset {e}', f'open {e}', f'start {e} {p}']
+        page_requests = [f'serve {e}', f'respond {e} {p} 0 {self.one(*CODES)}', f'serve {e}',
+                         f'respond {e} {p} {self.one(0, 1)} success']
+        shared = [f'pte 0 {page} {f} r', f'submit {e} range {p} {page} 0 + wait'] + wait + [f'freeze {f}']
+        tables = [f'entry {e} {p} none', f'submit {e} entry {p} + iotlb {p} + pasid {p} + wait'] + wait
+        tables += ['free space 0']
+        found = self.one(unmap, cached, stop, stop, reset, reset, page_requests, page_requests, shared, tables)
+        return [x for x in found if self.chance(0.88)]
+
+    def thread(self):
+        lines = self.recipe() if self.chance(0.6) else []
+        for _ in range(self.one(0, 1, 2) if lines else self.one(1, 2, 3, 4)):
+            lines.insert(self.rng.randrange(len(lines) + 1), self.host() if self.chance(0.8) else self.other())
+        return lines[:8]
+
+    def permitted(self, lines, tries, more):
+        """`lines`, and of random acts those that are permitted and safe behind them (a few are left in though)."""
+        lines = list(lines)
+        driver = Driver('\n'.join(self.head + lines))
+        world = driver.start()
+        for line in driver.lines:
+            world = search.taken(driver, world, line.words, line, 0)
+        for _ in range(tries):
+            act = more()
+            if act.startswith('await wait') or not act:
+                continue
+            driver = Driver('\n'.join(self.head + lines + [act]))
+            line = driver.lines[-1]
+            if need(driver, world, line.words, line) is None:
+                after = search.taken(driver, world, line.words, line, 0)
+                if not search.findings(after):
+                    world, lines = after, lines + [act]
+                elif self.chance(0.003):
+                    return lines + [act]
+            elif self.chance(0.001):
+                return lines + [act]
+            if len(lines) > 16:
+                break
+        return lines
+
+
+def mend_waits(lines):
+    """Leaves out each `await wait E` with no wait above it in its thread."""
+    found = []
+    for x in lines:
+        if x.startswith('await wait'):
+            e = x.split()[2]
+            if not any(y.startswith('submit ' + e) and 'wait' in y for y in found):
+                continue
+        found.append(x)
+    return found
+
+
+def make_driver(rng):
+    m = Maker(rng)
+    m.head += m.devices()
+    before = m.permitted(m.setup(), m.one(0, 6, 20, 30), lambda: m.other() if m.chance(0.8) else m.host())
+    threads = [mend_waits(m.thread()) for _ in range(m.one(1, 1, 1, 1, 2, 2, 3))]
+    text = m.head + before + ['race']
+    for name, lines in zip('abc', threads):
+        text += [f'thread {name}'] * (len(threads) > 1 or m.chance(0.3)) + name_one(m, lines, name)
+    return '\n'.join(text) + '\n'
+
+
+def name_one(m, lines, name):
+    """Sometimes a thread awaits a named line of its own."""
+    at = [i for i, x in enumerate(lines) if ':' not in x]
+    if not at or not m.chance(0.2):
+        return lines
+    i = m.rng.choice(at)
+    k = m.rng.randrange(i, len(lines)) + 1
+    return lines[:i] + [f'{name}{name}: {lines[i]}'] + lines[i + 1:k] + [f'await {name}{name}'] + lines[k:]
+
+
+def make_mutant(rng):
+    """An example with up to four lines left out, doubled, moved, changed or added, and other settings."""
+    text = rng.choice(EXAMPLES).read_text(encoding='utf-8')
+    lines = [x.split('#')[0].strip() for x in text.split('\n')]
+    lines = [x for x in lines if x]
+    m = Maker(rng)
+    m.ends = int(lines[0].split()[1])
+    head, rest = lines[:1], [x for x in lines[1:] if x.split()[0] not in Settings.pairs]
+    old = [x for x in lines[1:] if x not in rest]
+    settings = old if m.chance(0.6) else m.settings()
+    for _ in range(m.one(0, 1, 1, 2, 3, 4)):
+        rest = mutated(m, rest)
+    rest = [x for x in rest if not x.startswith('await wait')] if m.chance(0.02) else rest
+    return '\n'.join(head + settings + kept_valid(rest)) + '\n'
+
+
+def mutated(m, lines):
+    lines, i = list(lines), m.rng.randrange(len(lines))
+    what = m.one('drop', 'drop', 'double', 'swap', 'add', 'add', 'device', 'workers')
+    if lines[i].split()[0] in ('race', 'thread', 'device', 'workers') and what in ('drop', 'double', 'swap'):
+        return lines
+    if what == 'drop':
+        lines.pop(i)
+    elif what == 'double':
+        lines.insert(m.rng.randrange(i, len(lines)) + 1, lines[i].split(': ')[-1])
+    elif what == 'swap' and i + 1 < len(lines) and lines[i + 1].split()[0] not in ('race', 'thread'):
+        lines[i:i + 2] = [lines[i + 1], lines[i]]
+    elif what == 'add':
+        lines.insert(i, m.host() if m.chance(0.75) else m.other())
+    elif what in ('device', 'workers'):
+        lines = [x for x in lines if not x.startswith(what)]
+        lines = [x for x in m.devices() if x.startswith(what)] + lines
+    return lines
+
+
+def kept_valid(lines):
+    """Without awaits of what isn't there above, as these lines are wrong."""
+    found, part, raced, names = [], {}, False, set()
+    heading = ''
+    for x in lines:
+        words = x.split()
+        if words[0] == 'race':
+            raced = True
+        if words[0] == 'thread':
+            heading = x
+        name = words.pop(0)[:-1] if words[0].endswith(':') else None
+        above = part.setdefault(heading if raced else None, [])
+        if words[:2] == ['await', 'wait'] and words[2] not in above:
+            continue
+        if words[0] == 'await' and words[1] not in AWAITED | names:
+            continue
+        if words[0] == 'submit' and 'wait' in words:
+            above.append(words[1])
+        names |= {name}
+        found.append(x)
+    return found
+
+
+def act_of_groups(m):
+    return m.one(
+        f'fault 0 1 16 r new {m.one("more", "last")}', f'fault 0 1 16 r {m.one(0, 0, 1)} {m.one("more", "last")}',
+        'deliver page-request 0' + m.one('', '', ' 1'), 'deliver page-request 0', 'serve 0', 'serve 0',
+        f'respond 0 1 {m.one(0, 0, 1)} {m.one(*CODES)}', 'deliver response 0', 'close 0', 'open 0', 'reset 0',
+        'deliver reset 0', 'deliver reset-done 0', 'start 0 1', 'deliver start 0')
+
+
+def line_of_groups(m):
+    return m.one(
+        'serve 0', 'serve 0', f'respond 0 1 {m.one(0, 0, 1)} success', 'await queue 0', 'await groups 0 1',
+        f'fault 0 1 16 r new {m.one("more", "last")}', 'deliver response 0', 'close 0', 'open 0', 'reset 0',
+        'await reset 0', 'start 0 1', 'stop 0 1', 'await stopped 0 1', 'free pasid 1 0')
+
+
+def make_groups(rng):
+    """Page requests, early answers and resets: groups that are gone, and what is left of them."""
+    m = Maker(rng)
+    m.ends, p = 1, 1
+    m.head = ['config 1 4 1'] + [x for x in m.settings() if 'caches' not in x]
+    m.head += [f'device 0 {m.one(0, 1, 1, 2)} faults' + m.one('', '', '', ' silent', ' awaits') + ' pages 16']
+    m.head += [f'workers {m.one(*CODES)}'] if m.chance(0.3) else []
+    before = m.permitted(['start 0 1', 'deliver start 0'], m.one(0, 10, 25, 40), lambda: act_of_groups(m))
+    text = m.head + before + ['race']
+    for name in 'ab'[:m.one(1, 1, 2)]:
+        text += [f'thread {name}'] + [line_of_groups(m) for _ in range(m.one(1, 2, 3, 4, 5))]
+    return '\n'.join(text) + '\n'
+
+
+def make_any(rng):
+    return rng.choice((make_mutant, make_mutant, make_driver, make_driver, make_groups))(rng)
+
+
+class Lister:
+    """A long list of acts that are permitted and safe, and last one that needn't be."""
+
+    def __init__(self, rng):
+        self.m = Maker(rng)
+        self.m.head += [x for x in self.m.devices() if x.startswith('device')]
+        self.driver = Driver('\n'.join(self.m.head))
+        for device in self.driver.devices.values():
+            device.budget, device.pages, device.pasids = (9, 9, 9), [16, 17, 18], [1, 2]
+            device.evicts = True
+        self.world, self.lines = self.driver.start(), []
+
+    def try_act(self, text, last=False):
+        self.driver.read(0, text.split())
+        line = self.driver.lines.pop()
+        line.number = len(self.lines)
+        if last:
+            self.lines.append(text)
+        elif need(self.driver, self.world, line.words, line) is None:
+            after = search.taken(self.driver, self.world, line.words, line)
+            if not search.findings(after):
+                self.world = after
+                self.lines.append(text)
+
+    def act(self):
+        """Rather what the others may do now than any act."""
+        m, w = self.m, self.world
+        if m.chance(0.55):
+            acts = list(search.duties(self.driver, w)) + [a for a, _ in search.liberties(self.driver, w)]
+            return ' '.join(str(x) for x in m.rng.choice(acts))
+        filed = [(e, g) for e, port in enumerate(w.ports) for g in port.filed]
+        if filed and m.chance(0.2):
+            e, (p, i, _, _) = m.rng.choice(filed)
+            return f'respond {e} {p} {i} {m.one(*CODES)}'
+        text = m.host() if m.chance(0.7) else m.other()
+        return text if not text.startswith(('free space', 'free pasid', 'close')) or m.chance(0.4) else m.other()
+
+
+def make_long_list(rng):
+    x = Lister(rng)
+    for text in x.m.setup():
+        x.try_act(text)
+    for _ in range(x.m.one(30, 60, 120, 200)):
+        x.try_act(x.act())
+    for _ in range(4):
+        x.try_act(x.act(), last=True)
+    return '\n'.join(x.m.head + x.lines) + '\n'

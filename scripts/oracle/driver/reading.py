@@ -1,0 +1,292 @@
+"""Reads a driver, and says what each act needs and does (docs/FORMAT.md, section 15)."""
+import world as w
+from world import Port, Settings, World
+
+KINDS = ('start', 'stop', 'reset', 'completion', 'invalidate', 'response', 'request', 'invalidated', 'page-request',
+         'marker', 'status', 'reset-done')
+CODES = ('success', 'invalid', 'failure')
+NEEDS = {
+    'submit': 'submit needs an open unit with room for all descriptors', 'close': 'close needs an open unit',
+    'open': 'open needs a closed unit', 'await wait': 'await needs the wait done',
+    'await stopped': 'await needs an answer to the stop', 'await reset': 'await needs each reset done',
+    'await queue': 'await needs an empty page request queue',
+    'await queue P': 'await needs no page request of the PASID in the queue',
+    'await groups': 'await needs each filed group of the PASID answered',
+    'serve': 'serve needs a page request in the queue', 'lock': 'lock needs a free lock',
+    'unlock': 'unlock needs a taken lock',
+    'deliver': 'deliver needs such a message in flight, behind none that it may not overtake',
+    'pump': 'pump needs an open unit, and a descriptor at the head that may go',
+    'forget': 'forget needs the entry kept by the unit',
+    'forget PAGE': 'forget needs the translation kept by the unit',
+    'ask': 'ask needs the PASID on at the endpoint',
+    'use': 'use needs the PASID on at the endpoint, and a held translation of the page',
+    'evict': 'evict needs a held translation of the page', 'end': 'end needs a use that runs',
+    'finish': 'finish needs an invalidation that has come, with no older use of what it covers',
+    'quit': 'quit needs a stop that has come, and no group, request or use of the PASID to end',
+    'fault new': 'fault needs the PASID on at the endpoint, and page requests enabled',
+    'fault G': 'fault needs that group of the PASID unfinished, and page requests enabled'}
+
+
+class Line:
+    """An act of the file: its number, its name, its words, its thread and its place there."""
+
+    def __init__(self, number, name, words, thread):
+        self.number, self.name, self.words, self.thread = number, name, words, thread
+        self.index, self.awaited = 0, None
+
+
+class Device:
+    def __init__(self):
+        self.budget, self.pages = (0, 0, 0), None
+        self.evicts = self.silent = self.lies = self.awaits = False
+
+
+class Driver:
+    """A file: settings, devices, workers, the lines before `race`, and threads behind it."""
+
+    def __init__(self, text):
+        self.settings, self.devices, self.workers = Settings(), {}, None
+        self.threads, self.heading, self.raced, self.lines = [''], None, False, []
+        for number, raw in enumerate(text.split('\n'), 1):
+            words = raw.split('#')[0].split()
+            if words:
+                self.read(number, words)
+        self.by_thread = [[] for _ in self.threads]
+        for line in self.lines:
+            thread = self.by_thread[self.threads.index(line.thread)]
+            line.index = len(thread)
+            thread.append(line)
+        for line in self.lines:
+            self.find_awaited(line)
+        self.find_pages()
+
+    def read(self, number, words):
+        first = words[0]
+        if first == 'config':
+            self.ports, self.frames = int(words[1]), int(words[2])
+            self.devices = {e: Device() for e in range(self.ports)}
+        elif first in Settings.pairs:
+            setattr(self.settings, first, words[1])
+        elif first == 'race':
+            self.raced = True
+        elif first == 'workers':
+            self.workers = words[1:]
+        elif first == 'device':
+            self.read_device(self.devices[int(words[1])], words[2:])
+        elif first == 'thread':
+            self.heading = words[1]
+        else:
+            name = words.pop(0)[:-1] if first.endswith(':') else None
+            self.lines.append(Line(number, name, numbers(words), self.thread_of(words)))
+
+    def read_device(self, device, words):
+        while words:
+            if words[0] == 'pages':
+                device.pages = [int(x, 0) for x in words[1:]]
+                return
+            if words[0].isdigit():
+                which = ('ask', 'use', 'fault').index(words[1].rstrip('s'))
+                budget = list(device.budget)
+                budget[which] = int(words[0])
+                device.budget, words = tuple(budget), words[2:]
+            else:
+                setattr(device, words[0], True)
+                words = words[1:]
+
+    def thread_of(self, words):
+        """Before the first heading a line is of the thread of its role; the lines before `race` are one thread."""
+        name = '' if not self.raced else self.heading or role(words)
+        if name not in self.threads:
+            self.threads.append(name)
+        return name
+
+    def find_awaited(self, line):
+        """Of `await wait E` the last wait that the lines above in this thread submitted; of a name its line."""
+        if line.words[0] != 'await' or line.words[1] in ('stopped', 'queue', 'groups', 'reset'):
+            return
+        if line.words[1] == 'wait':
+            above = [x for x in self.by_thread[self.threads.index(line.thread)][:line.index]
+                     if x.words[0] == 'submit' and x.words[1] == line.words[2] and waits_of(x)]
+            line.awaited = (above[-1], waits_of(above[-1])[-1:])
+        else:
+            named = next(x for x in self.lines if x.name == line.words[1])
+            line.awaited = (named, waits_of(named))
+
+    def find_pages(self):
+        """Its `pages`, or those of the `pte` lines that lead to a frame; under the PASIDs that lines start at it."""
+        mapped = sorted({x.words[2] for x in self.lines if x.words[0] == 'pte' and x.words[3] != 'none'})
+        for e, device in self.devices.items():
+            device.pages = mapped if device.pages is None else sorted(set(device.pages))
+            device.pasids = sorted({x.words[2] for x in self.lines if x.words[:2] == ['start', e]})
+
+    def start(self):
+        new = World()
+        new.ports = [Port(self.devices[e].budget) for e in range(self.ports)]
+        new.pte, new.pos = {}, (0,) * len(self.threads)
+        new.freed_spaces, new.locks, new.undone = (), frozenset(), frozenset()
+        return new
+
+
+def numbers(words):
+    return [int(x, 0) if x[0].isdigit() else x for x in words]
+
+
+def role(words):
+    if words[0] == 'deliver':
+        return 'link'
+    if words[0] in ('pump', 'forget'):
+        return f'unit {words[1]}'
+    if words[0] in ('ask', 'use', 'evict', 'end', 'finish', 'quit', 'fault'):
+        return f'endpoint {words[1]}'
+    return 'host'
+
+
+def descriptors(line):
+    """The descriptors of a `submit` line: (kind, PASID, scope), ('entry', P) or ('wait', drain, fence, its name)."""
+    found, words = [], ' '.join(str(x) for x in line.words[2:]).split(' + ')
+    for n, text in enumerate(words):
+        d = numbers(text.split())
+        if d[0] == 'wait':
+            found.append(('wait', 'drain' in d, 'fence' in d, (line.number, n)))
+        elif d[0] == 'entry':
+            found.append(('entry', d[1]))
+        else:
+            found.append((d[0], d[1], tuple(d[2:4]) if len(d) > 2 else None))
+    return found
+
+
+def waits_of(line):
+    return [d[3] for d in descriptors(line) if d[0] == 'wait'] if line.words[0] == 'submit' else []
+
+
+# ---------------------------------------------------------------------------------------------- acts
+
+def optional(words, at, missing=0):
+    return words[at] if len(words) > at else missing
+
+
+def may_deliver(driver, port, device, words, line):
+    i = w.place(port, words[1], optional(words, 3))
+    return i is not None and w.may_deliver(port, i, driver.settings)
+
+
+def may_forget(driver, port, device, words, line):
+    return tuple(words[2:4]) in port.kept if len(words) > 3 else words[2] in port.kept_entry
+
+
+# What an act needs, by FORMAT's table of what is told; an act that isn't here needs nothing.
+MAY = {
+    'deliver': may_deliver, 'forget': may_forget,
+    'submit': lambda d, port, device, x, line: not port.closed and len(port.queue) + len(descriptors(line)) <= w.PLACES,
+    'close': lambda d, port, device, x, line: not port.closed,
+    'open': lambda d, port, device, x, line: port.closed,
+    'serve': lambda d, port, device, x, line: bool(port.prq),
+    'pump': lambda d, port, device, x, line: w.may_pump(port, d.settings),
+    'ask': lambda d, port, device, x, line: w.is_on(port, x[2]),
+    'use': lambda d, port, device, x, line: w.is_on(port, x[2]) and (x[2], x[3]) in port.held,
+    'evict': lambda d, port, device, x, line: (x[2], x[3]) in port.held,
+    'end': lambda d, port, device, x, line: optional(x, 2) < len(port.uses),
+    'finish': lambda d, port, device, x, line: w.may_finish(port, optional(x, 2), device.lies),
+    'quit': lambda d, port, device, x, line: w.may_quit(port, x[2], device.awaits),
+    'fault': lambda d, port, device, x, line: w.may_fault(port, x[2], x[5])}
+
+
+def need(driver, world, words, line=None):
+    """What the act lacks, by the key of NEEDS; None where it is permitted now."""
+    verb = words[0]
+    if verb == 'await':
+        return need_of_await(driver, world, words, line)
+    if verb in ('lock', 'unlock'):
+        return verb if (words[1] in world.locks) == (verb == 'lock') else None
+    e = words[2] if verb == 'deliver' else words[1]
+    if verb not in MAY or MAY[verb](driver, world.ports[e], driver.devices[e], words, line):
+        return None
+    if verb == 'fault':
+        return 'fault new' if words[5] == 'new' else 'fault G'
+    return 'forget PAGE' if verb == 'forget' and len(words) > 3 else verb
+
+
+def need_of_await(driver, world, words, line):
+    what = words[1]
+    if line.awaited:
+        named, waits = line.awaited
+        taken = world.pos[driver.threads.index(named.thread)] > named.index
+        return None if taken and not world.undone.intersection(waits) else 'await wait'
+    port = world.ports[words[2]]
+    if what == 'stopped':
+        ok = words[3] in port.answers
+    elif what == 'queue' and len(words) > 3:
+        ok, what = not any(r[0] == words[3] for r in port.prq), 'queue P'
+    elif what == 'queue':
+        ok = not port.prq
+    elif what == 'groups':
+        ok = not any(g[0] == words[3] for g in port.filed)
+    else:
+        ok = port.resets == 0
+    return None if ok else 'await ' + what
+
+
+def do(driver, world, words, line=None):
+    """Does a permitted act in place."""
+    verb = words[0]
+    if verb == 'pte':
+        where = words[1], words[2]
+        world.pte = w.without(world.pte, where)
+        if words[3] != 'none':
+            world.pte = w.put(world.pte, where, (words[3], words[4] == 'w', False, False))
+    elif verb == 'lock' or verb == 'unlock':
+        world.locks = world.locks ^ {words[1]}
+    elif verb == 'free' and words[1] == 'pasid':
+        w.disown(world.ports[words[3]], words[2])
+    elif verb == 'free' and words[1] == 'space':
+        world.freed_spaces += words[2],
+    elif verb == 'free' or verb == 'freeze':
+        w.mark(world, words[1], 2 if verb == 'free' else 3)
+    elif verb == 'await':
+        if words[1] == 'stopped':
+            world.ports[words[2]].answers -= {words[3]}
+    elif verb == 'deliver':
+        port = world.ports[words[2]]
+        w.deliver(world, port, w.place(port, words[1], optional(words, 3)), driver.settings)
+    else:
+        do_at(driver, world, world.ports[words[1]], words, line)
+
+
+def do_at(driver, world, port, words, line):
+    verb, p = words[0], words[2] if len(words) > 2 else None
+    if verb == 'entry':
+        w.set_entry(port, p, None if words[3] == 'none' else words[3])
+    elif verb in ('start', 'stop', 'reset'):
+        port.link += (verb, p),
+        port.resets += verb == 'reset'
+        port.answers -= {p} if verb == 'stop' else set()
+    elif verb == 'submit':
+        port.queue += tuple(descriptors(line))
+        world.undone = world.undone | set(waits_of(line))
+    elif verb == 'close':
+        port.closed, port.prq, port.filed = True, (), ()
+    elif verb == 'open':
+        waits = {d[3] for d in port.queue if d[0] == 'wait'} | {x[0] for x in port.plain}
+        world.undone = world.undone - waits
+        port.closed, port.queue, port.plain, port.busy = False, (), (), frozenset()
+    elif verb == 'serve':
+        w.serve(port)
+    elif verb == 'respond':
+        w.respond(port, p, words[3], words[4] == 'failure')
+    elif verb == 'pump':
+        w.pump(world, port, driver.settings)
+    elif verb == 'forget':
+        if len(words) > 3:
+            port.kept = w.without(port.kept, (p, words[3]))
+        else:
+            port.kept_entry = w.without(port.kept_entry, p)
+    elif verb == 'ask' or verb == 'use':
+        getattr(w, verb)(port, p, words[3])
+    elif verb == 'evict':
+        port.held = w.without(port.held, (p, words[3]))
+    elif verb == 'end' or verb == 'finish':
+        getattr(w, verb)(port, p or 0)
+    elif verb == 'quit':
+        w.quit(port, p, driver.settings)
+    elif verb == 'fault':
+        w.fault(world, port, p, words[5], words[6] == 'last')

@@ -1,0 +1,220 @@
+"""Drivers by chance: what `svahost judge` says, and what the model finds; and each witness event by event. A fifth are
+long lists for `judge --run`.
+    try_drivers.py PROGRAM TRIALS|--planted SEED
+"""
+
+import pathlib
+import random
+import re
+import subprocess
+import sys
+
+sys.path.insert(1, str(pathlib.Path(__file__).parents[1]))
+import planted_in_drivers
+import reading
+import search
+import trying
+from make import make_any, make_long_list
+from reading import Driver, need
+from report import below_safe
+
+MOST = 300      # moments that the program looks at; of one text in twelve 2400
+
+
+def most_of(text):
+    return MOST if len(text) % 12 else 8 * MOST
+
+
+def ask_program(program, text, *options):
+    """The report, or its status where that isn't the one of its first line."""
+    done = subprocess.run([program, 'judge', *options], input=text, capture_output=True, text=True, check=False)
+    if '--run' in options or done.returncode == STATUSES.get(told(done.stdout)[0]):
+        return done.stdout
+    return f'status {done.returncode}\n{done.stdout}'
+
+
+STATUSES = {'safe': 0, 'unsafe': 4, 'stuck': 4, 'cut': 5, 'wrong': 1}
+
+
+def told(report):
+    """(kind, number, text) of the first line of a report."""
+    first = report.split('\n')[0]
+    for kind, pattern in (('safe', r'safe in all (\d+) moments?()$'), ('unsafe', r'unsafe in (\d+) events?: (.*)$'),
+                          ('stuck', r'stuck in (\d+) events?: (.*), waits for ever$'),
+                          ('cut', r'cut off at \d+ moments?: safe in each list of fewer than (\d+) events?()$'),
+                          ('wrong', r'line (\d+): (.*)$')):
+        m = re.match(pattern, first)
+        if m:
+            return kind, int(m.group(1)), m.group(2)
+    return 'strange', 0, first
+
+
+def compare(text, report):
+    """What differs, or None; and the kind of the verdict."""
+    driver = Driver(text)
+    kind, number, rest = told(report)
+    world, wrong = search.before_race(driver)
+    if wrong:
+        return compare_wrong(wrong, kind, number, rest), kind
+    verdict, events, texts, counts = search.search(driver, world, 2 * most_of(text))
+    if verdict == 'cut' or kind == 'cut':
+        return compare_cut(verdict, events, kind, number, counts), 'cut off'
+    if kind != verdict:
+        return f'kind: program {kind} {number} {rest}, model {verdict} {events} {texts}', kind
+    if kind == 'safe':
+        if report.split('\n')[1:-1] != below_safe(driver):
+            return f'below safe: {report.split(chr(10))[1:-1]}, model {below_safe(driver)}', kind
+        return None if number >= events else f'moments: program {number}, model {events}', kind
+    if number != events:
+        return f'{kind}: program {number}, model {events} events', kind
+    return replay(driver, world, report, kind, rest), kind
+
+
+def compare_wrong(wrong, kind, number, rest):
+    line, reason = wrong
+    verb = line.words[0]
+    if reason == 'unsafe before':
+        wanted = 'an act that is permitted now'
+        ok = kind == 'wrong' and (number, wanted in rest) == (line.number, True)
+    else:
+        ok = (kind, number, rest) == ('wrong', line.number, f"'{verb}': wanted an act that is permitted now: {reason}")
+    return None if ok else f'before race: program {kind} {number} {rest}, model {line.number} {reason}'
+
+
+def compare_cut(verdict, events, kind, number, counts):
+    """A search that was cut off may still not contradict the other one."""
+    if kind == 'cut' and verdict == 'unsafe' and events < number:
+        return f'cut: program safe below {number}, model unsafe in {events}'
+    if kind == 'cut' and number > len(counts) and verdict != 'cut':
+        return f'cut: program at {number}, and the model ends at {len(counts)}'
+    if verdict == 'cut' and kind == 'unsafe' and number < events:
+        return f'cut: program unsafe in {number}, model safe below {events}'
+    return None if kind != 'strange' else 'the report has another first line'
+
+
+# ---------------------------------------------------------------------------------------------- witnesses
+
+def replay(driver, world, report, kind, rest):
+    """Each event of the witness is to be permitted, and the last one to bring the finding."""
+    lines = report.split('\n')
+    events = lines[lines.index('# race') + 1:]
+    for event in events:
+        if not event.strip():
+            continue
+        if search.findings(world):
+            return f'witness goes on behind an unsafe moment: {event}'
+        after = follow(driver, world, event)
+        if isinstance(after, str):
+            return after
+        world = after
+    if kind == 'unsafe':
+        texts = search.reported(world) if search.findings(world) else []
+        return None if rest in texts else f'finding: program {rest}, model {texts}'
+    return replay_stuck(driver, world, lines, rest)
+
+
+def replay_stuck(driver, world, lines, rest):
+    if search.findings(world):
+        return 'stuck, but unsafe'
+    if search.followers(driver, world)[1]:
+        return 'stuck, but somebody must act'
+    waiting = {f'{driver.threads[t]}, line {line.number}' for t, line in search.of_threads(driver, world)}
+    said = {rest} | {x[2:-len(', waits too')] for x in lines if x.endswith(', waits too')}
+    return None if waiting == said else f'waits: program {said}, model {waiting}'
+
+
+def follow(driver, world, event):
+    """The moment after an event of a witness, or what is wrong with it."""
+    waited = re.match(r'# (.*), line (\d+): (.*)$', event)
+    words, _, who = event.partition(' # ') if not waited else (waited.group(3), '', f'{waited[1]}, line {waited[2]}')
+    words = reading.numbers(words.split())
+    if ', line ' in who:
+        thread, _, number = who.strip().rpartition(', line ')
+        for t, line in search.of_threads(driver, world):
+            if driver.threads[t] == thread and line.number == int(number):
+                lacks = need(driver, world, line.words, line)
+                if lacks:
+                    return f'not permitted: {event}: {lacks}'
+                if words[:2] != line.words[:2]:
+                    return f'other words: {event}'
+                return search.taken(driver, world, line.words, line, t)
+        return f'not the next line: {event}'
+    return follow_other(driver, world, words, who.strip(), event)
+
+
+def follow_other(driver, world, words, who, event):
+    acts = [(a, None) for a in search.duties(driver, world)] + list(search.liberties(driver, world))
+    for act, cost in acts:
+        if plain(act) == plain(words) and need(driver, world, act) is None and who == actor(words, act):
+            return search.taken(driver, world, act, cost=cost)
+    return f'nobody may: {event}'
+
+
+def actor(words, act):
+    kind = reading.role(words)
+    return 'worker' if kind == 'host' else kind
+
+
+def plain(act):
+    """An act without what may be left out or isn't read: N of 0, page and way of a page request, and the code."""
+    act = list(act)
+    if act[0] in ('end', 'finish') and act[2:] == [0] or act[0] == 'deliver' and act[3:] == [0]:
+        act.pop()
+    if act[0] == 'fault':
+        act[3:5] = []
+    if act[0] == 'respond' and act[4] == 'invalid':
+        act[4] = 'success'                      # "`success` (with which `invalid` is one here)"
+    return act
+
+
+# ---------------------------------------------------------------------------------------------- lists for --run
+
+def compare_run(text, report):
+    driver = Driver(text)
+    kind, number, texts = search.run(driver)
+    first = report.split('\n')[0]
+    if kind == 'safe':
+        ok = first == f'safe in each of {number} event' + 's' * (number != 1)
+    elif kind == 'unsafe':
+        ok = first in [f'unsafe at line {number}: {t}' for t in texts]
+    else:
+        verb = next(x for x in driver.lines if x.number == number).words[0]
+        ok = first == f"line {number}: '{verb}': wanted an act that is permitted now: {texts[0]}"
+    return None if ok else f'run: program {first}, model {kind} {number} {texts}', kind
+
+
+def tried(program, text, is_list):
+    """What differs, or None; and the kind of the verdict."""
+    if is_list:
+        fault, kind = compare_run(text, ask_program(program, text, '--run'))
+        return fault, 'run ' + kind
+    return compare(text, ask_program(program, text, '--most', str(most_of(text))))
+
+
+def smallest(program, text, is_list):
+    """Leaves lines out as long as the two still differ."""
+    lines, place = text.split('\n'), 1
+    while place < len(lines):
+        fewer = lines[:place] + lines[place + 1:]
+        try:
+            differs = tried(program, '\n'.join(fewer), is_list)
+            is_so = differs[0] and differs[1] not in ('wrong', 'strange', 'run not')
+        except (AssertionError, KeyError, ValueError, IndexError, StopIteration, TypeError):
+            is_so = False
+        lines, place = (fewer, max(1, place - 1)) if is_so else (lines, place + 1)
+    return '\n'.join(lines)
+
+
+def trial(program, seed, is_short=True):
+    """The kind of a verdict, what is wrong with it, if something is, and the driver, made short."""
+    rng = random.Random(seed)
+    is_list = rng.random() < 0.2
+    text = make_long_list(rng) if is_list else make_any(rng)
+    fault, kind = tried(program, text, is_list)
+    if not fault:
+        return kind, None, None
+    return kind, fault, smallest(program, text, is_list) if is_short else text
+
+
+if __name__ == '__main__':
+    sys.exit(trying.main('drivers', trial, planted_in_drivers.OF_DRIVERS))

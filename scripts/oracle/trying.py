@@ -1,0 +1,75 @@
+"""Tries what is made by chance, and says where the program and the model differ; or, with readings that are planted in
+the model, whether that is found.
+
+    TRY PROGRAM TRIALS SEED
+    TRY PROGRAM --planted SEED
+"""
+
+import collections
+import contextlib
+import sys
+
+MOST_OF_PLANTED = 1500
+
+
+class Reading:
+    """A wrong reading: a function of the model that another takes the place of, made of it."""
+
+    def __init__(self, words, owner, name, made):
+        self.words, self.owner, self.name, self.made = words, owner, name, made
+
+    @contextlib.contextmanager
+    def planted(self):
+        kept = self.owner.__dict__[self.name]
+        old = kept.__func__ if isinstance(kept, staticmethod) else kept
+        new = self.made(old)
+        setattr(self.owner, self.name, staticmethod(new) if isinstance(kept, staticmethod) else new)
+        try:
+            yield
+        finally:
+            setattr(self.owner, self.name, kept)
+
+
+def try_all(kind, trial, program, trials, seed):
+    """Tries so many, says what differs, and how many were tried and what they came to: 1 where one is wrong."""
+    came, wrong = collections.Counter(), 0
+    for number in range(trials):
+        what, fault, text = trial(program, "%s-%d" % (seed, number))
+        came[what] += 1
+        if fault:
+            wrong += 1
+            print("by-chance: %s %s-%d: %s; the smallest text:\n%s" % (kind, seed, number, fault, text), flush=True)
+    print("by-chance: %s: %s" % (kind, ", ".join("%s %d" % each for each in sorted(came.items()))))
+    print("by-chance: %s: %d tried, %d wrong" % (kind, trials, wrong))
+    return 1 if wrong or not trials else 0
+
+
+def is_found(trial, program, seed):
+    """Whether a text tells the model from the program; one that the model can't take tells them apart too."""
+    for number in range(MOST_OF_PLANTED):
+        try:
+            if trial(program, "%s-%d" % (seed, number), is_short=False)[1]:
+                return True
+        except (AssertionError, KeyError, ValueError, IndexError, StopIteration, TypeError):
+            return True
+    return False
+
+
+def find_planted(kind, trial, program, seed, readings):
+    """Plants each reading in turn: 1 where one isn't found."""
+    found = 0
+    for reading in readings:
+        with reading.planted():
+            if is_found(trial, program, seed):
+                found += 1
+            else:
+                print("by-chance: %s: not found: %s" % (kind, reading.words), flush=True)
+    print("by-chance: %s: %d planted, %d found" % (kind, len(readings), found))
+    return 0 if found == len(readings) else 1
+
+
+def main(kind, trial, readings):
+    program, what, seed = sys.argv[1:]
+    if what == "--planted":
+        return find_planted(kind, trial, program, seed, readings)
+    return try_all(kind, trial, program, int(what), seed)

@@ -132,6 +132,7 @@ fn put_who(out: &mut Vec<u8>, doing: Doing, at: usize) -> Result<(), AllocError>
         | Doing::Ask
         | Doing::Use
         | Doing::Fault
+        | Doing::Further
         | Doing::Evict => put_endpoint(out, b"endpoint", at),
     }
 }

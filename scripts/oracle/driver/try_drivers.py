@@ -19,6 +19,8 @@ from reading import Driver, need
 from report import below_safe
 
 MOST = 300      # moments that the program looks at; of one text in twelve 2400
+NAMES = {'wrong': 'an act not permitted', 'run not': 'run not permitted'}
+STATUSES = {'safe': 0, 'unsafe': 4, 'stuck': 4, 'cut': 5, 'wrong': 1}
 
 
 def most_of(text):
@@ -31,9 +33,6 @@ def ask_program(program, text, *options):
     if '--run' in options or done.returncode == STATUSES.get(told(done.stdout)[0]):
         return done.stdout
     return f'status {done.returncode}\n{done.stdout}'
-
-
-STATUSES = {'safe': 0, 'unsafe': 4, 'stuck': 4, 'cut': 5, 'wrong': 1}
 
 
 def told(report):
@@ -211,6 +210,7 @@ def trial(program, seed, is_short=True):
     is_list = rng.random() < 0.2
     text = make_long_list(rng) if is_list else make_any(rng)
     fault, kind = tried(program, text, is_list)
+    kind = NAMES.get(kind, kind)
     if not fault:
         return kind, None, None
     return kind, fault, smallest(program, text, is_list) if is_short else text

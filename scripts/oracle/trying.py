@@ -45,12 +45,13 @@ def try_all(kind, trial, program, trials, seed):
 
 
 def is_found(trial, program, seed):
-    """Whether a text tells the model from the program; one that the model can't take tells them apart too."""
+    """Whether a text tells the model from the program. One that leads where the model says that nothing leads, or to
+    what isn't kept, tells them apart too; any other fault in it ends the run."""
     for number in range(MOST_OF_PLANTED):
         try:
             if trial(program, "%s-%d" % (seed, number), is_short=False)[1]:
                 return True
-        except (AssertionError, KeyError, ValueError, IndexError, StopIteration, TypeError):
+        except (AssertionError, KeyError, StopIteration):
             return True
     return False
 

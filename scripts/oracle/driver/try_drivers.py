@@ -18,7 +18,8 @@ from make import make_any, make_long_list
 from reading import Driver, need
 from report import below_safe
 
-MOST = 300      # moments that the program looks at; of one text in twelve 2400
+MOST = 300          # moments that the program looks at; of one text in twelve 2400
+MOST_LISTS = 3000   # lists of events that are gone one by one
 NAMES = {'wrong': 'an act not permitted', 'run not': 'run not permitted'}
 STATUSES = {'safe': 0, 'unsafe': 4, 'stuck': 4, 'cut': 5, 'wrong': 1}
 
@@ -58,6 +59,9 @@ def compare(text, report):
     verdict, events, texts, counts = search.search(driver, world, 2 * most_of(text))
     if verdict == 'cut' or kind == 'cut':
         return compare_cut(verdict, events, kind, number, counts), 'cut off'
+    lists = search.search(driver, world, MOST_LISTS, merges=False)
+    if lists[0] != 'cut' and (lists[0] != verdict or verdict != 'safe' and lists[1] != events):
+        return f'the lists of events, one by one, come to something else: {lists[:3]}', kind
     if kind != verdict:
         return f'kind: program {kind} {number} {rest}, model {verdict} {events} {texts}', kind
     if kind == 'safe':
@@ -81,14 +85,14 @@ def compare_wrong(wrong, kind, number, rest):
 
 
 def compare_cut(verdict, events, kind, number, counts):
-    """A search that was cut off may still not contradict the other one."""
+    """A search that was cut off may still not contradict the other one; and the model has no more moments."""
     if kind == 'cut' and verdict == 'unsafe' and events < number:
         return f'cut: program safe below {number}, model unsafe in {events}'
     if kind == 'cut' and number > len(counts) and verdict != 'cut':
         return f'cut: program at {number}, and the model ends at {len(counts)}'
     if verdict == 'cut' and kind == 'unsafe' and number < events:
         return f'cut: program unsafe in {number}, model safe below {events}'
-    return None if kind != 'strange' else 'the report has another first line'
+    return None if kind in ('cut', 'unsafe') else f'program {kind} {number}, and the model was cut off'
 
 
 # ---------------------------------------------------------------------------------------------- witnesses

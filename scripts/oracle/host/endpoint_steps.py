@@ -17,14 +17,16 @@ class Endpoints(Workers):
             return 2
         return 5 if page >= PAGE_END else None
 
-    def may_ask(self, endpoint, pasid, page):
+    def may_begin(self, endpoint, pasid, page):
+        """2, 5 and 18, by which `ask` and `use` begin."""
         bad = self.out_of_range(endpoint, page)
+        return bad or (None if self.endpoints[endpoint].state_of(pasid) == "on" else 18)
+
+    def may_ask(self, endpoint, pasid, page):
+        bad = self.may_begin(endpoint, pasid, page)
         if bad:
             return bad
-        device = self.endpoints[endpoint]
-        if device.state_of(pasid) != "on":
-            return 18
-        return 19 if len(device.tags) == TAGS else None
+        return 19 if len(self.endpoints[endpoint].tags) == TAGS else None
 
     def do_ask(self, endpoint, pasid, page):
         device = self.endpoints[endpoint]
@@ -34,12 +36,10 @@ class Endpoints(Workers):
         return "tag %d" % tag
 
     def may_use(self, endpoint, pasid, page, access):
-        bad = self.out_of_range(endpoint, page)
+        bad = self.may_begin(endpoint, pasid, page)
         if bad:
             return bad
         device = self.endpoints[endpoint]
-        if device.state_of(pasid) != "on":
-            return 18
         if (pasid, page) not in device.held:
             return 20
         if access == "w" and not device.held[pasid, page][1]:

@@ -38,7 +38,8 @@ next_part settings mappings part (local.Ask pasid page) = device.ask part pasid 
 next_part settings mappings part (local.Use pasid page) = device.use_of part pasid page
 next_part settings mappings part (local.End place) = device.end_use part place (slice_get part.works place)
 next_part settings mappings part (local.Evict pasid page) = device.evict part (position (is_of pasid page) part.held)
-next_part settings mappings part (local.Fault pasid page write last) = device.fault part pasid page write last (slice_get part.rows pasid)
+next_part settings mappings part (local.Fault pasid page write last) =
+    device.fault part pasid page write last (device.fresh_number part) (slice_get part.rows pasid)
 next_part settings mappings part (local.More index page write last) = device.more part index page write last (slice_get part.groups index)
 next_part settings mappings part (local.Finish place) = device.finish part place (slice_get part.works place)
 next_part settings mappings part (local.Quit pasid) = device.quit settings.stopped part pasid (slice_get part.rows pasid)

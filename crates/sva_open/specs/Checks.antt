@@ -58,15 +58,15 @@ may_be_held frames (Some target) = is_current frames target
 abbrev pub is_its_own : List Tenure → Part → Sent → Option Target → Option (Option Request) → Bool
 is_its_own frames part one target None = true
 is_its_own frames part one target (Some None) = true
-is_its_own frames part one target (Some (Some request)) = (one.time == part.time) && (request.is_doomed || may_be_held frames target)
+is_its_own frames part one target (Some (Some request)) = (one.number == part.time) && (request.is_doomed || may_be_held frames target)
 
-abbrev pub is_finished_at : Option (Option Group) → Bool
-is_finished_at None = false
-is_finished_at (Some None) = false
-is_finished_at (Some (Some group)) = group.is_finished
+abbrev pub is_its_end : (number : ℕ) → Option (Option Group) → Bool
+is_its_end number None = false
+is_its_end number (Some None) = false
+is_its_end number (Some (Some group)) = (number == group.number) && group.is_finished
 
 abbrev pub ends_its_group : Part → Sent → (index : ℕ) → Bool
-ends_its_group part one index = (one.time == part.time) && is_finished_at (slice_get part.groups index)
+ends_its_group part one index = is_its_end one.number (slice_get part.groups index)
 
 abbrev pub is_right : List Tenure → Part → Sent → Message → Bool
 is_right frames part one (message.Start pasid) = is_present part pasid one.owner
@@ -87,7 +87,7 @@ abbrev pub is_good_arrived : Part → Arrived → Bool
 is_good_arrived part one = is_present part one.request.pasid one.owner
 
 abbrev pub joins_own : Arrived → Filed → Bool
-joins_own one filed = not (is_joined one.request filed) || (filed.time == one.time)
+joins_own one filed = not (is_joined one.request filed) || (filed.number == one.number)
 
 abbrev pub joins_own_group : List Filed → Option Arrived → Bool
 joins_own_group filed None = true

@@ -1,5 +1,5 @@
 -- What each act of an endpoint leaves, where it is permitted, and what an invalidation and a reset do to it.
-use Rattle.std.specs.Prelude.{ℕ, suc, ◌==◌, ◌&&◌, ◌||◌, not, if◌then◌else◌, Bool, true, false, List, [], ◌∷◌, ◌++◌, map, filter, take, find}
+use Rattle.std.specs.Prelude.{ℕ, suc, max, ◌==◌, ◌&&◌, ◌||◌, not, if◌then◌else◌, Bool, true, false, List, [], ◌∷◌, ◌++◌, map, filter, take, find}
 use Rattle.std.specs.Prelude.{remove, position, slice_get, slice_set, Option, Some, None, option_map}
 use Rattle.std.specs.List.{list_any}
 use Rattle.sva_open.specs.declared.frames.Target.{Target}
@@ -7,7 +7,11 @@ use Rattle.sva_open.specs.declared.frames.Translation.{Translation}
 use Rattle.sva_open.specs.declared.scopes.Scope.{Scope}
 use Rattle.sva_open.specs.declared.rows.State.TheVariants.{Off}
 use Rattle.sva_open.specs.declared.rows.Row.{Row}
+use Rattle.sva_open.specs.declared.messages.Message.{Message}
 use Rattle.sva_open.specs.declared.messages.Message.TheVariants as message
+use Rattle.sva_open.specs.declared.messages.Sent.{Sent}
+use Rattle.sva_open.specs.declared.descriptors.Arrived.{Arrived}
+use Rattle.sva_open.specs.declared.descriptors.Filed.{Filed}
 use Rattle.sva_open.specs.declared.works.Request.{Request}
 use Rattle.sva_open.specs.declared.works.Group.{Group}
 use Rattle.sva_open.specs.declared.works.Work.{Work}
@@ -48,14 +52,45 @@ evict part (Some place) = Some (record part { held = remove part.held place })
 
 -- ---- page requests
 
+-- Groups of one index are told apart by a number, which nobody sees. That of a new group is above those of all that is left of older
+-- groups of its index: in flight, in the page request queue, and filed.
+abbrev pub above : (is_of_index : Bool) → (number : ℕ) → ℕ
+above true number = suc number
+above false number = 0
+
+abbrev pub above_message : (index number : ℕ) → Message → ℕ
+above_message index number (message.PageRequest request) = above (request.index == index) number
+above_message index number (message.Response own fails filed) = above (own == index) number
+above_message index number _ = 0
+
+abbrev pub above_sent : (index : ℕ) → Sent → ℕ
+above_sent index one = above_message index one.number one.message
+
+abbrev pub above_arrived : (index : ℕ) → Arrived → ℕ
+above_arrived index one = above (one.request.index == index) one.number
+
+abbrev pub above_filed : (index : ℕ) → Filed → ℕ
+above_filed index one = above (one.index == index) one.number
+
+abbrev pub highest : {X : Type 0} → (X → ℕ) → List X → ℕ
+highest at [] = 0
+highest at (x ∷ xs) = max (at x) (highest at xs)
+
+abbrev pub number_above : Part → (index : ℕ) → ℕ
+number_above part index =
+    max (highest (above_sent index) part.flight) (max (highest (above_arrived index) part.arrived) (highest (above_filed index) part.filed))
+
+abbrev pub fresh_number : Part → ℕ
+fresh_number part = number_above part (lowest_free part.groups)
+
 -- the first page request of a group goes out under the lowest free index
-abbrev pub fault : Part → (pasid page : ℕ) → (write last : Bool) → Option Row → Option Part
-fault part pasid page write last None = None
-fault part pasid page write last (Some row) =
+abbrev pub fault : Part → (pasid page : ℕ) → (write last : Bool) → (number : ℕ) → Option Row → Option Part
+fault part pasid page write last number None = None
+fault part pasid page write last number (Some row) =
     if_so (is_used row.state && part.is_enabled)
     (sent
-    (record part { groups = put part.groups (record { pasid = pasid; owner = row.user; is_finished = last }) })
-    row.user part.time
+    (record part { groups = put part.groups (record { pasid = pasid; owner = row.user; number = number; is_finished = last }) })
+    row.user number
     (message.PageRequest (record { pasid = pasid; index = lowest_free part.groups; page = page; write = write; last = last })))
 
 -- a group that isn't finished goes on
@@ -66,7 +101,7 @@ more part index page write last (Some (Some group)) =
     if_so (not group.is_finished && part.is_enabled)
     (sent
     (record part { groups = slice_set part.groups index (Some (record group { is_finished = last })) })
-    group.owner part.time
+    group.owner group.number
     (message.PageRequest (record { pasid = group.pasid; index = index; page = page; write = write; last = last })))
 
 -- ---- to complete an invalidation, and to quit a PASID

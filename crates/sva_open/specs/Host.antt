@@ -127,7 +127,7 @@ abbrev pub is_joined : PageRequest → Filed → Bool
 is_joined request filed = not filed.is_whole && is_group request.pasid request.index filed
 
 abbrev pub filing : Arrived → Filed
-filing one = record { pasid = one.request.pasid; index = one.request.index; time = one.time; is_whole = one.request.last }
+filing one = record { pasid = one.request.pasid; index = one.request.index; number = one.number; is_whole = one.request.last }
 
 abbrev pub filed_at : List Filed → Arrived → Option ℕ → List Filed
 filed_at filed one None = filed ++ filing one ∷ []
@@ -142,12 +142,12 @@ serve part (Some one) =
 -- a response is sent for the first group that is filed under its PASID and index, which is filed no more; where none is, it is
 -- sent for none
 abbrev pub responded : Part → (index : ℕ) → (fails : Bool) → (place : ℕ) → Option Filed → Part
-responded part index fails place None = sent part 0 part.time (message.Response index fails false)
+responded part index fails place None = sent part 0 0 (message.Response index fails false)
 responded part index fails place (Some filed) =
-    sent (record part { filed = remove part.filed place }) 0 filed.time (message.Response index fails true)
+    sent (record part { filed = remove part.filed place }) 0 filed.number (message.Response index fails true)
 
 abbrev pub respond_at : Part → (index : ℕ) → (fails : Bool) → Option ℕ → Part
-respond_at part index fails None = sent part 0 part.time (message.Response index fails false)
+respond_at part index fails None = sent part 0 0 (message.Response index fails false)
 respond_at part index fails (Some place) = responded part index fails place (slice_get part.filed place)
 
 abbrev pub respond : Part → (pasid index : ℕ) → (fails : Bool) → Part

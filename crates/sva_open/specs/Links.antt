@@ -25,7 +25,7 @@ told_to_stop part pasid owner None = part
 told_to_stop part pasid owner (Some row) = told part pasid (stopped_by row.state) owner (Some row)
 
 abbrev pub arrive : Part → Sent → PageRequest → Part
-arrive part one request = record part { arrived = part.arrived ++ (record { request = request; owner = one.owner; time = one.time }) ∷ [] }
+arrive part one request = record part { arrived = part.arrived ++ (record { request = request; owner = one.owner; number = one.number }) ∷ [] }
 
 -- a unit that is closed drops all but a status and a reset-done
 abbrev pub if_open : Part → Part → Part

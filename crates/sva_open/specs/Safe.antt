@@ -40,15 +40,15 @@ pub record IsGood (frames : List Tenure) (part : Part) (translation : Translatio
 -- A Completion in flight would be taken for the answer to the request that has its tag (PCI Express Base 5.0, section 10.2.3):
 -- it has to be that one's; and if that isn't doomed, its translation may be used.
 pub record IsItsOwn (frames : List Tenure) (part : Part) (one : Sent) (target : Option Target) (request : Request) : Type 0 where
-  pub time : one.time ≡ part.time
+  pub time : one.number ≡ part.time
   pub frame : request.is_doomed ≡ false → IfSome target (IsCurrent frames)
 
 -- A response in flight would be taken for the answer to the group that has its index (section 10.4.2): it has to be that one's, and
 -- the group finished.
 pub record EndsItsGroup (part : Part) (one : Sent) (index : ℕ) : Type 0 where
-  pub time : one.time ≡ part.time
   pub group : Group
   pub found : slice_get part.groups index ≡ Some (Some group)
+  pub number : one.number ≡ group.number
   pub finished : group.is_finished ≡ true
 
 -- what is asked of a message in flight. What flies to a closed unit is dropped there.
@@ -86,7 +86,7 @@ pub record IsSafePart (frames : List Tenure) (freed : List ℕ) (part : Part) : 
   -- The page requests that have arrived; and the oldest, which would be filed next, joins no other group.
   pub arrived : (one : Arrived) → Contains part.arrived one → IsPresent part one.request.pasid one.owner
   pub joined : (one : Arrived) (filed : Filed) → slice_get part.arrived 0 ≡ Some one → Contains part.filed filed
-      → filed.is_whole ≡ false → filed.pasid ≡ one.request.pasid → filed.index ≡ one.request.index → filed.time ≡ one.time
+      → filed.is_whole ≡ false → filed.pasid ≡ one.request.pasid → filed.index ≡ one.request.index → filed.number ≡ one.number
   -- what the PASIDs have
   pub rows : (row : Row) → Contains part.rows row → IsOwned freed row
   -- what the unit keeps

@@ -146,7 +146,7 @@ keeps true part pasid page (Some entry) target = kept_by part pasid page entry t
 -- a request is answered by what the page leads to now, to the owner that asked
 abbrev pub answer_by : Settings → Part → Sent → (tag pasid page : ℕ) → Option Entry → Option Target → Part
 answer_by settings part one tag pasid page entry target =
-    sent (keeps settings.has_caches part pasid page entry target) one.owner one.time (message.Completion tag target)
+    sent (keeps settings.has_caches part pasid page entry target) one.owner one.number (message.Completion tag target)
 
 abbrev pub answer : Settings → List Mapping → Part → Sent → (tag pasid page : ℕ) → Part
 answer settings mappings part one tag pasid page =

@@ -158,9 +158,10 @@ put places x = put_at places x (position is_none places)
 abbrev pub with_row : Part → (pasid : ℕ) → Row → Part
 with_row part pasid row = record part { rows = slice_set part.rows pasid row }
 
--- one more message in flight, of an owner and a time
-abbrev pub sent : Part → (owner time : ℕ) → Message → Part
-sent part owner time message = record part { flight = part.flight ++ (record { message = message; owner = owner; time = time }) ∷ [] }
+-- one more message in flight, of an owner and a number
+abbrev pub sent : Part → (owner number : ℕ) → Message → Part
+sent part owner number message =
+    record part { flight = part.flight ++ (record { message = message; owner = owner; number = number }) ∷ [] }
 
 -- ---- the world in which nothing was done yet
 

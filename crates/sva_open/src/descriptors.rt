@@ -101,8 +101,8 @@ pub struct Arrived {
     pub request: PageRequest,
     /// The owner that its PASID had when its group began.
     pub owner: u64,
-    /// How many resets had come to the endpoint when its group began.
-    pub time: u64,
+    /// The number of its group.
+    pub number: u64,
 }
 
 /// A group of page requests that is filed and not answered.
@@ -112,8 +112,8 @@ pub struct Filed {
     pub pasid: usize,
     /// The Page Request Group Index.
     pub index: usize,
-    /// How many resets had come to the endpoint when it began.
-    pub time: u64,
+    /// Its number, by which it is told from another group of its index.
+    pub number: u64,
     /// Whether its last request is filed.
     pub is_whole: bool,
 }

@@ -43,6 +43,16 @@ pub fn before<T>(list: &[T], place: usize) -> &[T]
     }
 }
 
+/// The label that the next one will have: the lowest free place, or the end.
+pub fn lowest_free<T: Copy + Drop>(places: &[Option<T>]) -> usize
+    ensures { result ≡ lowest_free places.now }
+{
+    match first_free(places) {
+        Some(free) => free,
+        None => places.len(),
+    }
+}
+
 /// The first place that is free.
 fn first_free<T: Copy + Drop>(places: &[Option<T>]) -> Option<usize>
     ensures { result ≡ position is_none places.now }

@@ -93,6 +93,7 @@ pub struct Sent {
     pub message: Message,
     /// The owner that its PASID had when it was sent; of a completion, when its translation was asked for.
     pub owner: u64,
-    /// How many resets had come to the endpoint when what it is of began.
-    pub time: u64,
+    /// Of a page request or a response, the number of its group; of any other message, how many resets had come to
+    /// the endpoint when what it is of began.
+    pub number: u64,
 }

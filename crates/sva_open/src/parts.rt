@@ -76,13 +76,13 @@ impl Part {
     }
 
     /// Sends a message.
-    pub fn send(&mut self, owner: u64, time: u64, message: Message) -> Result<(), AllocError>
-        ensures { IfOk result (λ _. self.new ≡ sent self.old owner time message) }
+    pub fn send(&mut self, owner: u64, number: u64, message: Message) -> Result<(), AllocError>
+        ensures { IfOk result (λ _. self.new ≡ sent self.old owner number message) }
     {
         self.flight.push(Sent {
             message,
             owner,
-            time,
+            number,
         })?;
         Ok(())
     }

@@ -38,6 +38,8 @@ pub struct Group {
     pub pasid: usize,
     /// Whose it is.
     pub owner: u64,
+    /// By which it is told from another group of its index. Nobody sees it.
+    pub number: u64,
     /// Whether its last request was sent.
     pub is_finished: bool,
 }

@@ -7,7 +7,8 @@ ghost use Rattle.sva_open.specs.Devices as device;
 
 use std::alloc::AllocError;
 use sva_open::{
-    Group, Message, PageRequest, Part, Request, Translation, Work, drop_at, put, set_at,
+    Group, Message, PageRequest, Part, Request, Translation, Work, drop_at, lowest_free, put,
+    set_at,
 };
 
 pub(crate) fn ask(part: &mut Part, pasid: usize, page: u64) -> Result<bool, AllocError>
@@ -81,7 +82,8 @@ pub(crate) fn fault(
     last: bool,
 ) -> Result<bool, AllocError>
     ensures { IfOk result (λ done.
-        IsStep (device.fault part.old pasid page write last (slice_get part.old.rows pasid)) done part.old part.new) }
+        IsStep (device.fault part.old pasid page write last (device.fresh_number part.old) (slice_get part.old.rows pasid))
+        done part.old part.new) }
 {
     let Some(row) = part.row(pasid) else {
         return Ok(false);
@@ -89,15 +91,15 @@ pub(crate) fn fault(
     if !(row.state.is_used() && part.is_enabled) {
         return Ok(false);
     }
-    let time = part.time;
-    let index = put(
-        &mut part.groups,
-        Group {
-            pasid,
-            owner: row.user,
-            is_finished: last,
-        },
-    )?;
+    let index = lowest_free(part.groups.as_slice());
+    let number = part.number_above(index)?;
+    let group = Group {
+        pasid,
+        owner: row.user,
+        number,
+        is_finished: last,
+    };
+    put(&mut part.groups, group)?;
     let request = PageRequest {
         pasid,
         index,
@@ -105,7 +107,7 @@ pub(crate) fn fault(
         write,
         last,
     };
-    part.send(row.user, time, Message::PageRequest(request))?;
+    part.send(row.user, number, Message::PageRequest(request))?;
     Ok(true)
 }
 
@@ -127,7 +129,6 @@ pub(crate) fn more(
     if !(!group.is_finished && part.is_enabled) {
         return Ok(false);
     }
-    let time = part.time;
     set_at(
         &mut part.groups,
         index,
@@ -143,7 +144,7 @@ pub(crate) fn more(
         write,
         last,
     };
-    part.send(group.owner, time, Message::PageRequest(request))?;
+    part.send(group.owner, group.number, Message::PageRequest(request))?;
     Ok(true)
 }
 

@@ -138,7 +138,7 @@ fn arrive(part: &mut Part, one: &Sent, request: PageRequest) -> Result<(), Alloc
     part.arrived.push(Arrived {
         request,
         owner: one.owner,
-        time: one.time,
+        number: one.number,
     })?;
     Ok(())
 }

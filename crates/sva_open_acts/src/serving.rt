@@ -35,10 +35,9 @@ pub(crate) fn respond(
 fn respond_to_none(part: &mut Part, index: usize, fails: bool) -> Result<(), AllocError>
     ensures { IfOk result (λ _. part.new ≡ respond_at part.old index fails None) }
 {
-    let time = part.time;
     part.send(
         0,
-        time,
+        0,
         Message::Response {
             index,
             fails,
@@ -56,7 +55,7 @@ fn respond_at(part: &mut Part, index: usize, fails: bool, place: usize) -> Resul
     drop_at(&mut part.filed, place);
     part.send(
         0,
-        filed.time,
+        filed.number,
         Message::Response {
             index,
             fails,
@@ -87,7 +86,7 @@ fn file(filed: &mut Vec<Filed>, one: &Arrived) -> Result<(), AllocError>
     let filing = Filed {
         pasid: one.request.pasid,
         index: one.request.index,
-        time: one.time,
+        number: one.number,
         is_whole: one.request.last,
     };
     match joined(filed.as_slice(), &one.request) {

@@ -3,6 +3,7 @@ mod Classes
 pub mod Flights
 mod FlownActs
 mod Kept
+mod Numbers
 mod PlainActs
 mod PlainLinks
 mod PlainLists

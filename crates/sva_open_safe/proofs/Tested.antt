@@ -23,7 +23,7 @@ use Rattle.sva_open.specs.declared.descriptors.Filed.{Filed}
 use Rattle.sva_open.specs.World.{Open, Part, is_off}
 use Rattle.sva_open.specs.Host.{is_group, is_joined}
 use Rattle.sva_open.specs.Safe.{EndsItsGroup, IsCurrent, IsGood, IsItsOwn, IsOwned, IsPresent, IsRight, IsSafe, IsSafePart}
-use Rattle.sva_open.specs.Checks.{IsTest, is_answer_owned, is_current, is_current_at, is_entry_owned, is_finished_at, is_freed, is_good}
+use Rattle.sva_open.specs.Checks.{IsTest, is_answer_owned, is_current, is_current_at, is_entry_owned, is_its_end, is_freed, is_good}
 use Rattle.sva_open.specs.Checks.{is_good_arrived, is_good_entry, is_good_kept, is_good_request, is_good_work, is_its_own, is_owned, is_owner}
 use Rattle.sva_open.specs.Checks.{is_present, is_right, is_right_sent, is_safe, is_safe_device, is_safe_part, is_safe_unit, joins_own, joins_own_group}
 use Rattle.sva_open.specs.Checks.{may_be_held}
@@ -155,10 +155,12 @@ is_its_own_by frames part one target (Some (Some request)) s =
     and_from _ _ (eq-eqb _ _ (s request refl).time) (or_by request.is_doomed _ (λ k. may_be_held_by frames target ((s request refl).frame k)))
 
 ends_at : (part : Part) (one : Sent) (index : ℕ) (found : Option (Option Group)) → slice_get part.groups index ≡ found
-    → one.time ≡ part.time → is_finished_at found ≡ true → EndsItsGroup part one index
-ends_at part one index None is time h = absurd (cc)
-ends_at part one index (Some None) is time h = absurd (cc)
-ends_at part one index (Some (Some group)) is time h = record { time = time; group = group; found = is; finished = h }
+    → is_its_end one.number found ≡ true → EndsItsGroup part one index
+ends_at part one index None is h = absurd (cc)
+ends_at part one index (Some None) is h = absurd (cc)
+ends_at part one index (Some (Some group)) is h =
+    let each = and_parts (one.number == group.number) _ h in
+    record { group = group; found = is; number = eqb-true _ _ each.0; finished = each.1 }
 
 right : (frames : List Tenure) (part : Part) (one : Sent) (it : Message) → is_right frames part one it ≡ true → IsRight frames part one it
 right frames part one (message.Start pasid) h = present part pasid one.owner h
@@ -168,9 +170,7 @@ right frames part one (message.Completion tag target) h =
     λ request is. its_own frames part one target request (sym (ap (is_its_own frames part one target) is) ∙ h)
 right frames part one (message.Invalidate itag scope) h = tt
 right frames part one (message.Response index fails filed) h =
-    let each = and_parts filed _ h in
-    let parts = and_parts _ _ each.1 in
-    (each.0, ends_at part one index (slice_get part.groups index) refl (eqb-true _ _ parts.0) parts.1)
+    let each = and_parts filed _ h in (each.0, ends_at part one index (slice_get part.groups index) refl each.1)
 right frames part one (message.Request tag pasid page) h = tt
 right frames part one (message.Invalidated itag) h = tt
 right frames part one (message.PageRequest request) h = λ k. present part request.pasid one.owner (other (not part.is_open) _ h (ap not k))
@@ -185,7 +185,7 @@ is_right_by frames part one message.Reset r = refl
 is_right_by frames part one (message.Completion tag target) r = is_its_own_by frames part one target (slice_get part.requests tag) r
 is_right_by frames part one (message.Invalidate itag scope) r = refl
 is_right_by frames part one (message.Response index fails filed) r =
-    and_from filed _ r.0 (and_from _ _ (eq-eqb _ _ r.1.time) (ap is_finished_at r.1.found ∙ r.1.finished))
+    and_from filed _ r.0 (ap (is_its_end one.number) r.1.found ∙ and_from _ _ (eq-eqb _ _ r.1.number) r.1.finished)
 is_right_by frames part one (message.Request tag pasid page) r = refl
 is_right_by frames part one (message.Invalidated itag) r = refl
 is_right_by frames part one (message.PageRequest request) r =
@@ -200,7 +200,7 @@ is_right_by frames part one message.ResetDone r = refl
 abbrev JoinsOwn : Part → Type 0
 JoinsOwn part =
     (one : Arrived) (filed : Filed) → slice_get part.arrived 0 ≡ Some one → Contains part.filed filed → filed.is_whole ≡ false
-    → filed.pasid ≡ one.request.pasid → filed.index ≡ one.request.index → filed.time ≡ one.time
+    → filed.pasid ≡ one.request.pasid → filed.index ≡ one.request.index → filed.number ≡ one.number
 
 joined : (part : Part) → joins_own_group part.filed (slice_get part.arrived 0) ≡ true → JoinsOwn part
 joined part h one filed is has unfinished pasid index =

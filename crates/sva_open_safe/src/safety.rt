@@ -78,19 +78,19 @@ fn is_its_own(
     match part.requests.get(tag).copied() {
         None => true,
         Some(None) => true,
-        Some(Some(request)) => one.time == part.time
+        Some(Some(request)) => one.number == part.time
             && (request.is_doomed || may_be_held(frames, target)),
     }
 }
 
-/// Whether there is a group under an index, and it is finished.
-fn is_finished_at(part: &Part, index: usize) -> bool
-    ensures { result ≡ check.is_finished_at (slice_get part.now.groups index) }
+/// Whether there is a group under an index, of this number, and it is finished.
+fn is_its_end(part: &Part, index: usize, number: u64) -> bool
+    ensures { result ≡ check.is_its_end number (slice_get part.now.groups index) }
 {
     match part.groups.get(index).copied() {
         None => false,
         Some(None) => false,
-        Some(Some(group)) => group.is_finished,
+        Some(Some(group)) => number == group.number && group.is_finished,
     }
 }
 
@@ -102,8 +102,7 @@ fn is_right(frames: &[Tenure], part: &Part, one: &Sent) -> bool
         Message::Start { pasid } => is_present(part, *pasid, one.owner),
         Message::Stop { pasid } => is_present(part, *pasid, one.owner),
         Message::Completion { tag, target } => is_its_own(frames, part, one, *tag, target),
-        Message::Response { index, filed, .. } => *filed
-            && (one.time == part.time && is_finished_at(part, *index)),
+        Message::Response { index, filed, .. } => *filed && is_its_end(part, *index, one.number),
         Message::PageRequest(request) => !part.is_open
             || is_present(part, request.pasid, one.owner),
         Message::Marker { pasid } => !part.is_open || is_present(part, *pasid, one.owner),
@@ -116,11 +115,11 @@ fn is_right(frames: &[Tenure], part: &Part, one: &Sent) -> bool
     }
 }
 
-/// Whether a page request doesn't join a group of another time.
+/// Whether a page request doesn't join another group than its own.
 fn joins_own(one: &Arrived, filed: &Filed) -> bool
     ensures { result ≡ check.joins_own one.now filed.now }
 {
-    !filed.is_joined(&one.request) || filed.time == one.time
+    !filed.is_joined(&one.request) || filed.number == one.number
 }
 
 fn all_join_own(filed: &[Filed], one: &Arrived) -> bool

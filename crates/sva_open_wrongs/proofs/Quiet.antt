@@ -6,7 +6,7 @@ use Rattle.std.specs.Prelude.{◌==◌, ◌&&◌, ◌||◌, cond, find, if◌the
 use Rattle.std.specs.List.{list_all, position_from, position_or_len}
 use Rattle.sva_open.specs.World.{Open, Part, is_off, or_else}
 use Rattle.sva_open.specs.Host.{is_joined}
-use Rattle.sva_open.specs.Checks.{is_answer_owned, is_current_at, is_entry_owned, is_finished_at, is_freed, is_good, is_good_arrived}
+use Rattle.sva_open.specs.Checks.{is_answer_owned, is_current_at, is_entry_owned, is_its_end, is_freed, is_good, is_good_arrived}
 use Rattle.sva_open.specs.Checks.{is_good_entry, is_good_kept, is_good_request, is_good_work, is_its_own, is_owned, is_present, is_right}
 use Rattle.sva_open.specs.Checks.{joins_own, joins_own_group}
 use Rattle.sva_open.specs.declared.descriptors.Arrived.{Arrived}
@@ -184,21 +184,20 @@ upward : (is_open present : Bool) (u : Wrong)
 upward true present u = one_of present u
 upward false present u = refl
 
-answered : (e index : ℕ) (filed timely : Bool) (group : Option (Option Group))
-    → filed && (timely && is_finished_at group) ≡ quiet (wrongs.group_met e index (filed && timely) group) && true
-answered e index true true None = refl
-answered e index true false None = refl
-answered e index false timely None = refl
-answered e index true true (Some None) = refl
-answered e index true false (Some None) = refl
-answered e index false timely (Some None) = refl
-answered e index true true (Some (Some group)) = at group.is_finished _
+answered : (e index : ℕ) (filed : Bool) (number : ℕ) (group : Option (Option Group))
+    → filed && is_its_end number group ≡ quiet (wrongs.group_met e index filed number group) && true
+answered e index true number None = refl
+answered e index false number None = refl
+answered e index true number (Some None) = refl
+answered e index false number (Some None) = refl
+answered e index true number (Some (Some group)) = at (number == group.number) group.is_finished _ _
   where
-    at : (finished : Bool) (u : Wrong) → finished ≡ quiet (wrongs.if_so (not finished) u) && true
-    at true u = refl
-    at false u = refl
-answered e index true false (Some (Some group)) = refl
-answered e index false timely (Some (Some group)) = refl
+    at : (own finished : Bool) (u v : Wrong)
+        → own && finished ≡ quiet (if own then wrongs.if_so (not finished) u else Some v) && true
+    at true true u v = refl
+    at true false u v = refl
+    at false finished u v = refl
+answered e index false number (Some (Some group)) = refl
 
 -- a completion that leads somewhere
 completed_by : (timely doomed given write frozen : Bool) (v w u : Wrong)
@@ -229,19 +228,19 @@ timed false doomed u = refl
 
 abbrev arrives : Sort → Open → (e : ℕ) → Part → Sent → Option Target → Option (Option Request) → Option Wrong
 arrives of now e part one None request = None
-arrives of now e part one (Some target) request = wrongs.arrives_wrong of now e (one.time == part.time) target request
+arrives of now e part one (Some target) request = wrongs.arrives_wrong of now e (one.number == part.time) target request
 
 completed : (now : Open) (e : ℕ) (part : Part) (one : Sent) (tag : ℕ) (target : Option Target) (request : Option (Option Request))
     → is_its_own now.frames part one target request
     ≡ quiet (arrives sort.Freed now e part one target request) && (quiet (arrives sort.Frozen now e part one target request)
-    && quiet (wrongs.request_met e tag (one.time == part.time) request))
+    && quiet (wrongs.request_met e tag (one.number == part.time) request))
 completed now e part one tag None None = refl
 completed now e part one tag None (Some None) = refl
-completed now e part one tag None (Some (Some request)) = timed (one.time == part.time) request.is_doomed _
+completed now e part one tag None (Some (Some request)) = timed (one.number == part.time) request.is_doomed _
 completed now e part one tag (Some target) None = refl
 completed now e part one tag (Some target) (Some None) = refl
 completed now e part one tag (Some target) (Some (Some request)) =
-    completed_at target (slice_get now.frames target.frame) (one.time == part.time) request.is_doomed _ _ _
+    completed_at target (slice_get now.frames target.frame) (one.number == part.time) request.is_doomed _ _ _
 
 -- what may be wrong with a message, kind by kind
 abbrev pub left_by : (e : ℕ) → Part → (owner : ℕ) → Message → Bool
@@ -252,10 +251,10 @@ left_by e part owner it =
 
 abbrev pub met_by : (e : ℕ) → Part → Sent → Message → Bool
 met_by e part one it =
-    quiet (wrongs.response_met part e (one.time == part.time) it) && quiet (wrongs.completion_met part e (one.time == part.time) it)
+    quiet (wrongs.response_met part e one.number it) && quiet (wrongs.completion_met part e (one.number == part.time) it)
 
 abbrev led_to : Sort → Open → (e : ℕ) → Part → Sent → Message → Bool
-led_to of now e part one it = quiet (wrongs.completion_wrong of now e part (one.time == part.time) it)
+led_to of now e part one it = quiet (wrongs.completion_wrong of now e part (one.number == part.time) it)
 
 abbrev quiet_message : Open → (e : ℕ) → Part → Sent → Message → Bool
 quiet_message now e part one it =
@@ -270,7 +269,7 @@ right now e part one (message.Completion tag None) = completed now e part one ta
 right now e part one (message.Completion tag (Some target)) = completed now e part one tag (Some target) (slice_get part.requests tag)
 right now e part one (message.Invalidate itag scope) = refl
 right now e part one (message.Response index fails filed) =
-    answered e index filed (one.time == part.time) (slice_get part.groups index)
+    answered e index filed one.number (slice_get part.groups index)
 right now e part one (message.Request tag pasid page) = refl
 right now e part one (message.Invalidated itag) = refl
 right now e part one (message.PageRequest request) = upward part.is_open (is_present part request.pasid one.owner) _
@@ -365,4 +364,4 @@ joined e filed (Some one) =
     at false own u = refl
 
     own : (it : Filed) → joins_own one it ≡ quiet (wrongs.joined_by e one it)
-    own it = at (is_joined one.request it) (it.time == one.time) _
+    own it = at (is_joined one.request it) (it.number == one.number) _

@@ -79,7 +79,7 @@ completion_wrong of now endpoint part own (message.Completion tag (Some target))
 completion_wrong of now endpoint part own _ = None
 
 abbrev pub sent_wrong : Sort → Open → (endpoint : ℕ) → Part → Sent → Option Wrong
-sent_wrong of now endpoint part one = completion_wrong of now endpoint part (one.time == part.time) one.message
+sent_wrong of now endpoint part one = completion_wrong of now endpoint part (one.number == part.time) one.message
 
 abbrev pub frames_wrong : Sort → Open → (endpoint : ℕ) → Part → Option Wrong
 frames_wrong of now endpoint part =
@@ -205,23 +205,25 @@ walks freed endpoint part =
 
 -- ---- Messages
 
-abbrev pub group_met : (endpoint index : ℕ) → (is_its_own : Bool) → Option (Option Group) → Option Wrong
-group_met endpoint index own None = Some (wrong.NoGroup endpoint index)
-group_met endpoint index own (Some None) = Some (wrong.NoGroup endpoint index)
-group_met endpoint index own (Some (Some group)) =
-    if own then if_so (not group.is_finished) (wrong.Unfinished endpoint index) else Some (wrong.OtherGroup endpoint index)
+abbrev pub group_met : (endpoint index : ℕ) → (filed : Bool) → (number : ℕ) → Option (Option Group) → Option Wrong
+group_met endpoint index filed number None = Some (wrong.NoGroup endpoint index)
+group_met endpoint index filed number (Some None) = Some (wrong.NoGroup endpoint index)
+group_met endpoint index filed number (Some (Some group)) =
+    if filed && (number == group.number)
+    then if_so (not group.is_finished) (wrong.Unfinished endpoint index)
+    else Some (wrong.OtherGroup endpoint index)
 
-abbrev pub response_met : Part → (endpoint : ℕ) → (is_of_time : Bool) → Message → Option Wrong
-response_met part endpoint timely (message.Response index fails filed) =
-    group_met endpoint index (filed && timely) (slice_get part.groups index)
-response_met part endpoint timely _ = None
+abbrev pub response_met : Part → (endpoint number : ℕ) → Message → Option Wrong
+response_met part endpoint number (message.Response index fails filed) =
+    group_met endpoint index filed number (slice_get part.groups index)
+response_met part endpoint number _ = None
 
 abbrev pub one_met : Part → (endpoint : ℕ) → Sent → Option Wrong
-one_met part endpoint one = response_met part endpoint (one.time == part.time) one.message
+one_met part endpoint one = response_met part endpoint one.number one.message
 
 abbrev pub joined_by : (endpoint : ℕ) → Arrived → Filed → Option Wrong
 joined_by endpoint one filed =
-    if_so (is_joined one.request filed && not (filed.time == one.time)) (wrong.Joins endpoint one.request.pasid one.request.index)
+    if_so (is_joined one.request filed && not (filed.number == one.number)) (wrong.Joins endpoint one.request.pasid one.request.index)
 
 abbrev pub joins : (endpoint : ℕ) → List Filed → Option Arrived → Option Wrong
 joins endpoint filed None = None
@@ -237,7 +239,7 @@ completion_met part endpoint timely (message.Completion tag target) = request_me
 completion_met part endpoint timely _ = None
 
 abbrev pub answer_met : Part → (endpoint : ℕ) → Sent → Option Wrong
-answer_met part endpoint one = completion_met part endpoint (one.time == part.time) one.message
+answer_met part endpoint one = completion_met part endpoint (one.number == part.time) one.message
 
 -- ---- The whole
 

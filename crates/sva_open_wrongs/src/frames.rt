@@ -172,7 +172,7 @@ fn sent_wrong(sort: Sort, now: &Open, endpoint: usize, part: &Part, sent: Sent) 
             sort,
             now,
             endpoint,
-            sent.time == part.time,
+            sent.number == part.time,
             target,
             part.requests.get(tag).copied(),
         ),

@@ -80,16 +80,17 @@ fn kept_walked(freed: &[u64], endpoint: usize, kept: KeptEntry) -> Option<Wrong>
 fn group_met(
     endpoint: usize,
     index: usize,
-    own: bool,
+    filed: bool,
+    number: u64,
     group: Option<Option<Group>>,
 ) -> Option<Wrong>
-    ensures { result ≡ wrongs.group_met endpoint index own group }
+    ensures { result ≡ wrongs.group_met endpoint index filed number group }
 {
     match group {
         None => Some(Wrong::NoGroup { endpoint, index }),
         Some(None) => Some(Wrong::NoGroup { endpoint, index }),
         Some(Some(group)) => {
-            if own {
+            if both(filed, number == group.number) {
                 if_so(!group.is_finished, Wrong::Unfinished { endpoint, index })
             } else {
                 Some(Wrong::OtherGroup { endpoint, index })
@@ -111,7 +112,8 @@ fn one_met(part: &Part, endpoint: usize, sent: Sent) -> Option<Wrong>
         Message::Response { index, filed, .. } => group_met(
             endpoint,
             index,
-            both(filed, sent.time == part.time),
+            filed,
+            sent.number,
             part.groups.get(index).copied(),
         ),
         _ => None,
@@ -122,7 +124,7 @@ fn joined_by(endpoint: usize, one: Arrived, filed: Filed) -> Option<Wrong>
     ensures { result ≡ wrongs.joined_by endpoint one filed }
 {
     if_so(
-        filed.is_joined(&one.request) && filed.time != one.time,
+        filed.is_joined(&one.request) && filed.number != one.number,
         Wrong::Joins {
             endpoint,
             pasid: one.request.pasid,
@@ -153,7 +155,7 @@ fn answer_met(part: &Part, endpoint: usize, sent: Sent) -> Option<Wrong>
         Message::Completion { tag, .. } => request_met(
             endpoint,
             tag,
-            sent.time == part.time,
+            sent.number == part.time,
             part.requests.get(tag).copied(),
         ),
         _ => None,

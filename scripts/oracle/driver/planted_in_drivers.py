@@ -66,6 +66,14 @@ def first_owner_stays(old):
     return set_entry
 
 
+def groups_by_index(old):
+    """Nothing tells two groups of one index apart."""
+    def fault(moment, port, p, group, last):
+        port.begun = 0
+        old(moment, port, p, group, last)
+    return fault
+
+
 OF_DRIVERS = [
     Reading('a freed frame may be used', search, 'findings', without_rank(0)),
     Reading('a frozen frame may be written', search, 'findings', without_rank(1)),
@@ -73,6 +81,7 @@ OF_DRIVERS = [
     Reading('a PASID may be used for an earlier owner', search, 'findings', without_rank(3)),
     Reading('a freed table may be walked', search, 'findings', without_rank(4)),
     Reading('a response may find another group', search, 'findings', without_rank(5)),
+    Reading('groups of one index are one group', world, 'fault', groups_by_index),
     Reading('a Start, Stop or Reset overtakes what goes down', world, 'stays_behind',
             overtakes('start', 'stop', 'reset')),
     Reading('a marker overtakes page requests', world, 'stays_behind', overtakes('marker')),

@@ -35,7 +35,7 @@ class Port:
         self.on, self.held, self.tags = {}, {}, {}   # tags: tag -> (PASID, page, doomed)
         self.uses, self.taken = (), ()          # (slot, PASID, page, translation); (ITag, PASID, scope, slots noted)
         self.groups, self.disabled, self.budget = {}, False, budget   # index -> (PASID, group, finished)
-        self.link, self.past_resets = (), 0
+        self.link, self.begun = (), 0           # begun: how many groups were
 
     def copy(self):
         new = Port.__new__(Port)
@@ -172,7 +172,7 @@ def stop_arrives(world, port, m, settings):
 def reset_arrives(world, port, m, settings):
     """MODEL 3.12: clears cache, tags, taken invalidations, groups, PASIDs and the disabled flag; uses are dead."""
     port.held, port.tags, port.groups, port.on = {}, {}, {}, {}
-    port.taken, port.uses, port.disabled, port.past_resets = (), (), False, port.past_resets + 1
+    port.taken, port.uses, port.disabled = (), (), False
     port.link = tuple(orphan(x) for x in port.link) + (('reset-done',),)
 
 
@@ -353,10 +353,9 @@ def may_fault(port, p, group):
 
 
 def fault(world, port, p, group, last):
-    """Nothing tells two groups of one index apart that have no reset between them."""
     if group == 'new':
-        group = lowest(port.groups)
-        port.groups = put(port.groups, group, (p, port.past_resets, last))
+        group, port.begun = lowest(port.groups), port.begun + 1
+        port.groups = put(port.groups, group, (p, port.begun, last))
     else:
         q, gid, _ = port.groups[group]
         port.groups = put(port.groups, group, (q, gid, last))

@@ -1,6 +1,6 @@
 //! The numbers of groups, by which those of one index are told apart.
 
-ghost use Rattle.std.specs.Prelude.{◌≡◌, IfOk, max};
+ghost use Rattle.std.specs.Prelude.{◌≡◌, IfOk};
 ghost use Rattle.sva_open.specs.Devices as device;
 ghost use Rattle.sva_open.specs.Devices.{highest, number_above};
 
@@ -18,14 +18,8 @@ impl Part {
         let in_flight = above_all_sent(self.flight.as_slice(), index)?;
         let arrived = above_all_arrived(self.arrived.as_slice(), index)?;
         let filed = above_all_filed(self.filed.as_slice(), index)?;
-        Ok(larger(in_flight, larger(arrived, filed)))
+        Ok(in_flight.max(arrived.max(filed)))
     }
-}
-
-fn larger(one: u64, other: u64) -> u64
-    ensures { result ≡ max one other }
-{
-    if one < other { other } else { one }
 }
 
 fn above(is_of_index: bool, number: u64) -> Result<u64, AllocError>
@@ -55,7 +49,7 @@ fn above_all_sent(flight: &[Sent], index: usize) -> Result<u64, AllocError>
 {
     let mut top = 0;
     for one in flight {
-        top = larger(top, above_sent(one, index)?);
+        top = top.max(above_sent(one, index)?);
     }
     Ok(top)
 }
@@ -65,7 +59,7 @@ fn above_all_arrived(arrived: &[Arrived], index: usize) -> Result<u64, AllocErro
 {
     let mut top = 0;
     for one in arrived {
-        top = larger(top, above(one.request.index == index, one.number)?);
+        top = top.max(above(one.request.index == index, one.number)?);
     }
     Ok(top)
 }
@@ -75,7 +69,7 @@ fn above_all_filed(filed: &[Filed], index: usize) -> Result<u64, AllocError>
 {
     let mut top = 0;
     for one in filed {
-        top = larger(top, above(one.index == index, one.number)?);
+        top = top.max(above(one.index == index, one.number)?);
     }
     Ok(top)
 }

@@ -52,8 +52,8 @@ evict part (Some place) = Some (record part { held = remove part.held place })
 
 -- ---- page requests
 
--- Groups of one index are told apart by a number, which nobody sees. That of a new group is above those of all that is left of older
--- groups of its index: in flight, in the page request queue, and filed.
+-- Groups of one index are told apart by a number, which no message carries on a real link. That of a new group is above
+-- those of all that is left of older groups of its index: in flight, in the page request queue, and filed.
 abbrev pub above : (is_of_index : Bool) → (number : ℕ) → ℕ
 above true number = suc number
 above false number = 0
@@ -78,7 +78,8 @@ highest at (x ∷ xs) = max (at x) (highest at xs)
 
 abbrev pub number_above : Part → (index : ℕ) → ℕ
 number_above part index =
-    max (highest (above_sent index) part.flight) (max (highest (above_arrived index) part.arrived) (highest (above_filed index) part.filed))
+    max (highest (above_sent index) part.flight)
+    (max (highest (above_arrived index) part.arrived) (highest (above_filed index) part.filed))
 
 abbrev pub fresh_number : Part → ℕ
 fresh_number part = number_above part (lowest_free part.groups)

@@ -10,8 +10,8 @@ use crate::parts::Part;
 use std::alloc::AllocError;
 
 impl Part {
-    /// The number of a group that begins under an index: above those of all that is left of older groups of it. An error
-    /// where there is none, which no memory has room for.
+    /// The number of a group that begins under an index: above those of all that is left of older groups of it. An
+    /// error where there is none above.
     pub fn number_above(&self, index: usize) -> Result<u64, AllocError>
         ensures { IfOk result (λ number. number ≡ number_above self.now index) }
     {

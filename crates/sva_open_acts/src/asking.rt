@@ -82,7 +82,8 @@ pub(crate) fn fault(
     last: bool,
 ) -> Result<bool, AllocError>
     ensures { IfOk result (λ done.
-        IsStep (device.fault part.old pasid page write last (device.fresh_number part.old) (slice_get part.old.rows pasid))
+        IsStep
+        (device.fault part.old pasid page write last (device.fresh_number part.old) (slice_get part.old.rows pasid))
         done part.old part.new) }
 {
     let Some(row) = part.row(pasid) else {

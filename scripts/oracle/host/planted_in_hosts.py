@@ -8,7 +8,7 @@ from host import Host
 from host_steps import Bindings, Spaces, Units, Workers
 from race_moments import Moment
 from trying import Reading
-from world import INVALIDATING, QUIET, World
+from world import INVALIDATING, QUIET, STOPPING, World
 
 
 def never_behind(*kinds):
@@ -148,6 +148,22 @@ OF_STEPS = [
     Reading("an answer is what the worker says at each stage", Workers, "code_for",
             lambda old: lambda self, job, verdict: old(self, job, verdict) and host_steps.CODES[verdict]),
 ]
+
+
+def stops_unasked(old):
+    """A binding drains before its endpoint has said that it has stopped."""
+    def may_advance(self, binding):
+        if binding in self.bindings and self.bindings[binding][3] == STOPPING:
+            self.bindings[binding] = self.bindings[binding][:4] + (True, None)
+        return old(self, binding)
+    return may_advance
+
+
+# each is of a host that leaks, or does what nobody may do
+AS_DRIVER = [each for each in OF_STEPS if each.name in (
+    "stays_behind", "on_completion", "on_invalidate", "head_stays", "unmap_pages", "settle", "submit_unmapping",
+    "pasid_for", "has_open_group")]
+AS_DRIVER.append(Reading("a binding drains though its endpoint hasn't stopped", Bindings, "may_advance", stops_unasked))
 
 
 def spares_no_budget(old):

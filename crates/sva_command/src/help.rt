@@ -130,7 +130,7 @@ first scenario, as in examples/first.sva:
     map 0 16 r
 
 The script ./svahost first builds the program where there is none of the present sources: in two to
-three minutes, without its proof. `./svahost prove` proves it on this machine, with all that it stands
+four minutes, without its proof. `./svahost prove` proves it on this machine, with all that it stands
 on, which takes about an hour on four cores; `./svahost --version` says which of the two is run.
 
 `svahost replay < examples/first.sva` runs the steps and prints a report, a line for each step and

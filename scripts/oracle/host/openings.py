@@ -61,6 +61,12 @@ def unbinding(rng):
     return steps[:rng.randint(len(steps) - 18, len(steps))]
 
 
+def invalidating(rng):
+    """A binding that is Invalidating, at an endpoint that still has a translation of it."""
+    steps = bound(rng, 2) + [("ask", 0, 1, 16), ("deliver", 1), ("deliver", 2), ("unbind", 0), ("deliver", 3)]
+    return steps + [("quit", 0, 1), ("deliver", 4), ("advance", 0), ("pump", 0), ("advance", 0)]
+
+
 def held(rng):
     """A translation that is held, and perhaps used."""
     steps = bound(rng, 2) + [("ask", 0, 1, 16), ("deliver", 1), ("deliver", 2)]

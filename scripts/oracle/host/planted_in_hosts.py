@@ -159,11 +159,13 @@ def stops_unasked(old):
     return may_advance
 
 
-# each is of a host that leaks, or does what nobody may do
-AS_DRIVER = [each for each in OF_STEPS if each.name in (
-    "stays_behind", "on_completion", "on_invalidate", "head_stays", "unmap_pages", "settle", "submit_unmapping",
-    "pasid_for", "has_open_group")]
-AS_DRIVER.append(Reading("a binding drains though its endpoint hasn't stopped", Bindings, "may_advance", stops_unasked))
+# each is of a host that leaks, or that does what nobody may do
+AS_DRIVER = [
+    Reading("a binding drains though its endpoint hasn't stopped", Bindings, "may_advance", stops_unasked),
+    *(each for each in OF_STEPS if each.name in (
+        "stays_behind", "on_completion", "on_invalidate", "head_stays", "unmap_pages", "settle", "submit_unmapping",
+        "pasid_for", "has_open_group")),
+]
 
 
 def spares_no_budget(old):

@@ -14,6 +14,7 @@ import planted_in_hosts
 import trying
 from as_driver import AsDriver
 from host import Host
+from openings import invalidating
 from propose import Proposer
 from world import MOST_SPACES
 
@@ -27,14 +28,23 @@ def one_by_one(step):
     return step[:2] + (step[2] & -step[2], 1) if step[0] == "finish" else step
 
 
+def steps(rng, host):
+    """Random steps, of which some are refused; one list in eight begins where a binding is Invalidating."""
+    proposer = Proposer(rng, host, rng.choice(PROFILES))
+    proposer.span = rng.choice([4, 4, 16, 60])
+    if rng.random() < 0.125:
+        proposer.base = 16
+        yield from invalidating(rng)
+    for _ in range(rng.randint(50, 600)):
+        yield one_by_one(proposer.step())
+
+
 def driver(rng):
     """A random list of steps that are accepted, as acts."""
     config = (rng.choice([1, 2, 2, 3]), rng.choice([2, 4, 8, 40]), rng.randint(1, 2))
     early, host = rng.choice(EARLY), Host(*config)
-    proposer, told = Proposer(rng, host, rng.choice(PROFILES)), AsDriver(config, lambda: rng.random() < early)
-    proposer.span = rng.choice([4, 4, 16, 60])
-    for _ in range(rng.randint(50, 600)):
-        step = one_by_one(proposer.step())
+    told = AsDriver(config, lambda: rng.random() < early)
+    for step in steps(rng, host):
         if host.refusal(step) is not None or step == ("space",) and host.next["space"] == MOST_SPACES:
             continue
         before = host.copy()

@@ -94,8 +94,9 @@ awaits_at lines (Some place) = awaits_line place (slice_get lines place)
 
 abbrev pub awaits_name : List LineSaid → List (List ℕ) → Result SayingSaid DriverWrong
 awaits_name lines words = do
+  said ← awaits_at lines (position (is_named (word_at 1 words)) lines)
   _ ← no_more 2 words
-  awaits_at lines (position (is_named (word_at 1 words)) lines)
+  Ok said
 
 abbrev pub await_named : List LineSaid → List (List ℕ) → Result SayingSaid DriverWrong
 await_named lines words = if has_word 1 words then awaits_name lines words else lacking 1 wanted.Awaited

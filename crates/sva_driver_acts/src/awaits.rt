@@ -180,14 +180,14 @@ fn await_named(lines: &[LineRead], words: &[&[u8]]) -> Result<Saying, DriverWron
     if !has_word(words, 1) {
         return Err(lacking(1, DriverWanted::Awaited));
     }
-    judge_end(words, 2)?;
     let Some(place) = place_of(word_at(words, 1), lines) else {
         return Err(lacking(1, DriverWanted::Awaited));
     };
-    match lines.get(place) {
-        None => Err(lacking(1, DriverWanted::Awaited)),
-        Some(line) => Ok(awaits_by(place, wait_at(&line.saying))),
-    }
+    let Some(line) = lines.get(place) else {
+        return Err(lacking(1, DriverWanted::Awaited));
+    };
+    judge_end(words, 2)?;
+    Ok(awaits_by(place, wait_at(&line.saying)))
 }
 
 /// Reads `await stopped E P`.

@@ -108,6 +108,10 @@ descriptor_words = codes "range" ∷ codes "pasid" ∷ codes "iotlb" ∷ codes "
 unfoldable pub freed_words : List (List ℕ)
 freed_words = codes "space" ∷ codes "pasid" ∷ []
 
+-- the words that stand behind `await`, where a name doesn't
+unfoldable pub awaited_words : List (List ℕ)
+awaited_words = codes "wait" ∷ codes "stopped" ∷ codes "queue" ∷ codes "groups" ∷ codes "reset" ∷ []
+
 -- the word that is near to the wrong one, of those that were wanted
 abbrev pub near_wanted : Known → (word : List ℕ) → DriverWanted → Option (List ℕ)
 near_wanted known word wanted.Before =
@@ -117,7 +121,7 @@ near_wanted known word wanted.Act = near_among act_words word
 near_wanted known word wanted.Kind = or_else (near_among kind_words word) (near_among more_kind_words word)
 near_wanted known word wanted.Descriptor = near_among descriptor_words word
 near_wanted known word wanted.Freed = near_among freed_words word
-near_wanted known word wanted.Awaited = near_name known word
+near_wanted known word wanted.Awaited = or_else (near_name known word) (near_among awaited_words word)
 near_wanted known word _ = None
 
 -- of an act that isn't permitted it is told what it needs

@@ -2,10 +2,11 @@
 
 ghost use Rattle.std.specs.Prelude.{◌≡◌, ◌++◌, ◌∷◌, [], OnOk, Some, codes, decimal, map, option_map};
 ghost use Rattle.std.specs.Prelude.{slice_get};
-ghost use Rattle.sva_driver_words.specs.Faults.{act_words, behind_words, before_words, descriptor_words, fault_text};
-ghost use Rattle.sva_driver_words.specs.Faults.{freed_words, hint_text, more_kind_words, near_wanted, no_more};
+ghost use Rattle.sva_driver_words.specs.Faults.{act_words, awaited_words, behind_words, before_words, descriptor_words};
+ghost use Rattle.sva_driver_words.specs.Faults.{fault_text, freed_words, hint_text, more_kind_words, near_wanted, no_more};
 ghost use Rattle.sva_driver_words.specs.Faults.{setting_words, submit_text, wanted_text, where_text};
 ghost use Rattle.sva_race_words.specs.ScriptFaults.{or_else};
+ghost use Rattle.sva_script.specs.Names.{near_name};
 ghost use Rattle.sva_words.specs.Near.{near_among};
 ghost use Rattle.sva_words.specs.Reserved.{kind_words};
 
@@ -237,6 +238,9 @@ const DESCRIPTOR_WORDS: [&[u8]; 5] = [b"range", b"pasid", b"iotlb", b"entry", b"
 /// The words that begin what is freed, where it isn't a frame.
 const FREED_WORDS: [&[u8]; 2] = [b"space", b"pasid"];
 
+/// The words that stand behind `await`, where a name doesn't.
+const AWAITED_WORDS: [&[u8]; 5] = [b"wait", b"stopped", b"queue", b"groups", b"reset"];
+
 fn near_act(word: &[u8]) -> Option<&'static [u8]>
     ensures { option_map (λ near. near.now) result ≡ near_among act_words word.now }
 {
@@ -277,6 +281,23 @@ fn near_freed(word: &[u8]) -> Option<&'static [u8]>
     ensures { option_map (λ near. near.now) result ≡ near_among freed_words word.now }
 {
     first_near(&FREED_WORDS, word)
+}
+
+fn near_await_word(word: &[u8]) -> Option<&'static [u8]>
+    ensures { option_map (λ near. near.now) result ≡ near_among awaited_words word.now }
+{
+    first_near(&AWAITED_WORDS, word)
+}
+
+/// What may stand behind `await`, and is near to a wrong word: the name of a line, or else a word of the format.
+fn near_awaited<'n>(names: &'n Names, word: &[u8]) -> Option<&'n [u8]>
+    ensures { option_map (λ near. near.now) result
+        ≡ or_else (near_name names.now word.now) (near_among awaited_words word.now) }
+{
+    match names.near(word) {
+        Some(near) => Some(near),
+        None => near_await_word(word),
+    }
 }
 
 /// The word that begins a line before `race`, and is near to a wrong one.
@@ -326,7 +347,7 @@ fn near<'n>(wanted: &DriverWanted, names: &'n Names, word: &[u8]) -> Option<&'n 
         DriverWanted::Kind => near_any_kind(word),
         DriverWanted::Descriptor => near_descriptor(word),
         DriverWanted::Freed => near_freed(word),
-        DriverWanted::Awaited => names.near(word),
+        DriverWanted::Awaited => near_awaited(names, word),
         _ => None,
     }
 }

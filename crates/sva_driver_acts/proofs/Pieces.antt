@@ -1,6 +1,6 @@
 -- What is read of pieces of words, one after another.
 use Rattle.std.proofs.Common.{◌≡◌, ◌∙◌, ◌+◌, ap, arith, sym, ℕ, List, [], ◌∷◌, ◌++◌, length, map}
-use Rattle.std.specs.Prelude.{Result, Ok, Err}
+use Rattle.std.specs.Prelude.{Result, Ok}
 use Rattle.std.proofs.lemmas.List.{length-map, map_push}
 use Rattle.sva_grammar.specs.Grammar.{◌>>=◌}
 use Rattle.sva_driver_acts.specs.Descriptors.{each_from}

@@ -1,6 +1,6 @@
 -- What a line awaits.
 use Rattle.std.specs.Prelude.{ℕ, ◌+◌, ◌==◌, ◌&&◌, if◌then◌else◌, Bool, true, false, List, [], ◌∷◌, codes, position, slice_get, Option, Some, None}
-use Rattle.std.specs.Prelude.{Result, Ok, Err}
+use Rattle.std.specs.Prelude.{Result, Ok}
 use Rattle.std.specs.List.{list_any}
 use Rattle.std.specs.Str.{bytes_eq}
 use Rattle.sva_step.specs.declared.limits.Config.{Config}
@@ -12,7 +12,7 @@ use Rattle.sva_race_words.specs.Words.{word_at}
 use Rattle.sva_driver_words.specs.Faults.{lacking, no_more}
 use Rattle.sva_driver_words.specs.Fields.{endpoint_at, has_word, pasid_at, says}
 use Rattle.sva_driver_acts.specs.Sayings.{SayingSaid, did, saying_seen}
-use Rattle.sva_driver_acts.specs.Sayings.SayingSaid.{DoesSaid, SubmitsSaid, AwaitsLineSaid, AwaitsWaitsSaid}
+use Rattle.sva_driver_acts.specs.Sayings.SayingSaid.{SubmitsSaid, AwaitsLineSaid, AwaitsWaitsSaid}
 use Rattle.sva_driver_acts.specs.declared.kept.LineRead.{LineRead}
 use Rattle.sva_driver_words.specs.declared.faults.DriverWanted.TheVariants as wanted
 use Rattle.sva_driver_words.specs.declared.faults.DriverWrong.{DriverWrong}

@@ -1,6 +1,6 @@
 -- What the descriptors of a line are, by its words.
 use Rattle.std.specs.Prelude.{ℕ, ◌+◌, ◌-◌, ◌%◌, ◌^◌, ◌&&◌, nat_le, nat_lt, if◌then◌else◌, Bool, true, false, Vec, List}
-use Rattle.std.specs.Prelude.{[], ◌∷◌, codes, drop, length, map, Result, Ok, Err}
+use Rattle.std.specs.Prelude.{[], ◌∷◌, codes, drop, length, map, Result, Ok}
 use Rattle.std.specs.Global.{Global}
 use Rattle.sva_step.specs.declared.limits.Config.{Config}
 use Rattle.sva_grammar.specs.Grammar.{◌>>=◌}

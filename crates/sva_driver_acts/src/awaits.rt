@@ -108,22 +108,16 @@ fn submits_there(thread: &[u8], endpoint: usize, line: &LineRead) -> bool
     is(line.thread.as_slice(), thread) && is_endpoint(endpoint, wait_at(&line.saying))
 }
 
-/// The place where it is one more, and else the one found before.
-pub(crate) fn later(found: Option<usize>, is_one: bool, place: usize) -> Option<usize>
-    ensures { result ≡ (if is_one then Some place else found) }
-{
-    if is_one { Some(place) } else { found }
-}
-
-/// The place of the last line of a thread that submits a wait at an endpoint.
+/// The place of the last line of a thread that submits a wait at an endpoint. It looks from the end.
 fn last_wait(thread: &[u8], endpoint: usize, lines: &[LineRead]) -> Option<usize>
     ensures { result ≡ awaits.last_wait thread.now endpoint (map line_seen lines.now) }
 {
-    let mut found = None;
-    for place in 0..lines.len() {
-        found = later(found, submits_there(thread, endpoint, &lines[place]), place);
+    for place in (0..lines.len()).rev() {
+        if submits_there(thread, endpoint, &lines[place]) {
+            return Some(place);
+        }
     }
-    found
+    None
 }
 
 /// Reads `await wait E`.

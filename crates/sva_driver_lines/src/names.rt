@@ -69,20 +69,14 @@ pub(crate) fn own(alloc: Global, name: Option<&[u8]>) -> Result<Vec<u8>, AllocEr
     }
 }
 
-/// The place where it is one more, and else the one found before.
-fn later(found: Option<usize>, is_one: bool, place: usize) -> Option<usize>
-    ensures { result ≡ (if is_one then Some place else found) }
-{
-    if is_one { Some(place) } else { found }
-}
-
-/// The place of a thread's last line.
+/// The place of a thread's last line. It looks from the end, where that mostly stands.
 pub(crate) fn last_of(thread: &[u8], lines: &[LineRead]) -> Option<usize>
     ensures { result ≡ last_from (readings.is_of_thread thread.now) 0 None (map line_seen lines.now) }
 {
-    let mut found = None;
-    for place in 0..lines.len() {
-        found = later(found, is(lines[place].thread.as_slice(), thread), place);
+    for place in (0..lines.len()).rev() {
+        if is(lines[place].thread.as_slice(), thread) {
+            return Some(place);
+        }
     }
-    found
+    None
 }

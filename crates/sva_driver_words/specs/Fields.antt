@@ -3,7 +3,7 @@ use Rattle.std.specs.Prelude.{ℕ, ◌&&◌, nat_le, nat_lt, if◌then◌else◌
 use Rattle.std.specs.Str.{bytes_eq}
 use Rattle.sva_step.specs.declared.limits.Config.{Config}
 use Rattle.sva_grammar.specs.declared.faults.Cause.{Cause}
-use Rattle.sva_grammar.specs.Grammar.{◌>>=◌, number}
+use Rattle.sva_grammar.specs.Grammar.{number}
 use Rattle.sva_open_names.specs.declared.naming.Kind.{Kind}
 use Rattle.sva_open_names.specs.declared.naming.Kind.TheVariants as kind
 use Rattle.sva_race_words.specs.Words.{word_at}

@@ -1,10 +1,10 @@
-use Rattle.std.proofs.Common.{◌≡◌, None, drop}
+use Rattle.std.proofs.Common.{◌≡◌, None, take}
 use Rattle.sva_driver_acts.specs.Awaits.{last_from}
 use Rattle.sva_driver_acts.proofs.Lasts.{seen}
 use Rattle.sva_driver_lines.specs.Readings.{is_of_thread}
 use Rattle.sva_driver_lines.proofs.names.last_of.Given as goal
 
--- the last one among those that are left, or else the one so far, is the last of all
+-- the last one among those before this place is the last of all
 abbrev pub invariant-loop-place : goal.invariant-loop-place
 invariant-loop-place l =
-    last_from (is_of_thread l.thread) l.place l.found (seen (drop l.place l.lines)) ≡ last_from (is_of_thread l.thread) 0 None (seen l.lines)
+    last_from (is_of_thread l.thread) 0 None (seen (take l.place l.lines)) ≡ last_from (is_of_thread l.thread) 0 None (seen l.lines)

@@ -263,9 +263,8 @@ def blocks_of(path):
     return blocks
 
 
-@functools.lru_cache(maxsize=None)
 def edits_in(crate, folder):
-    """The edits of a folder of a crate. The list is kept, so nobody changes it."""
+    """The edits of a folder of a crate."""
     found = []
     for path in files_below(f"{ROOT}/crates/{crate}/{folder}", ".edits"):
         head, *blocks = blocks_of(path)

@@ -8,7 +8,7 @@ from world import DRAINING, INVALIDATING, LIVE, STOPPING
 
 
 def usable(host, frame):
-    """What FORMAT calls the translations that an endpoint may still use and that lead to this frame: (endpoint, words)."""
+    """The translations to this frame that an endpoint may still use: the endpoint of each, and FORMAT's words for it."""
     found = []
     for number, device in enumerate(host.endpoints):
         held = [("held translation", page, pasid) for (pasid, page), (to, _) in device.held.items() if to == frame]
@@ -46,8 +46,8 @@ class AsDriver:
     def follow(self, step, answer, before, after):
         """A step that was accepted. Its acts, in the order in which a host does them."""
         name, *words = step
-        known = {"ask": None, "evict": None, "quit": None, "fault": None, "pump": ("itag", "wait"), "serve": ("part", "job")}
-        if name in known and (known[name] is None or answer.startswith(known[name])):
+        did = {"pump": ("itag", "wait"), "serve": ("part", "job")}
+        if name in ("ask", "evict", "quit", "fault") or name in did and answer.startswith(did[name]):
             self.lines.append(text_of(step))
         own = getattr(self, "of_" + name, None)
         if own:
@@ -84,8 +84,8 @@ class AsDriver:
 
     def of_deliver(self, message, answer, before, after):
         endpoint, kind, _ = before.messages[message]
-        older = [number for number, (at, of, _) in before.messages.items() if (at, of) == (endpoint, kind) and number < message]
-        self.act("deliver %s %d %d", kind, endpoint, len(older))
+        alike = [number for number, each in before.messages.items() if each[:2] == (endpoint, kind)]
+        self.act("deliver %s %d %d", kind, endpoint, sum(number < message for number in alike))
         if answer == "reset":
             self.uses[endpoint], self.taken[endpoint] = [], []
         if answer == "taken":

@@ -1,5 +1,5 @@
-"""svahost's own host by chance, as a driver: each of its acts is permitted and each moment safe, as `svahost judge --run`
-has it; and where frames are given away when they are withheld, the first one that an endpoint may still use is told.
+"""svahost's own host by chance, as a driver: each of its acts is permitted and each moment safe, as `judge --run` has
+it; and where frames are given away when they are withheld, the first one that an endpoint may still use is told.
     try_as_driver.py PROGRAM TRIALS|--planted SEED
 """
 

@@ -8,7 +8,7 @@ from world import DRAINING, INVALIDATING, LIVE, STOPPING
 
 
 def usable(host, frame):
-    """The translations to this frame that an endpoint may still use: the endpoint of each, and FORMAT's words for it."""
+    """The translations to this frame that an endpoint may still use: each one's endpoint, and its words."""
     found = []
     for number, device in enumerate(host.endpoints):
         held = [("held translation", page, pasid) for (pasid, page), (to, _) in device.held.items() if to == frame]

@@ -18,9 +18,9 @@ _svahost() {
     words='--svg --help'
   elif [[ $command == explore || $command == judge ]]; then
     # readline takes the = of --most=N for a word
-    [[ $before == --most || $before == --part || $before == = ]] && return
-    words='--most --part --help'
-    if [ "$command" = judge ]; then words="--run $words"; else words="--why --ends $words"; fi
+    [[ $before == --most || $before == --part || $before == --jobs || $before == = ]] && return
+    words='--most --part --jobs --help'
+    if [ "$command" = judge ]; then words="--run --strict $words"; else words="--why --ends $words"; fi
     if [[ $current != -* ]]; then
       compopt -o filenames 2> /dev/null
       local kind=r

@@ -11,8 +11,8 @@ syntax iskeyword @,48-57,-,_
 syntax match svdComment /\%(^\|\s\)\@1<=#.*$/
 syntax match svdName /^\s*\zs\l[[:alnum:]-]*:\ze\s/
 syntax match svdAct /\%(^\s*\|^\s*\l[[:alnum:]-]*:\s\+\)\@<=\%(pte\|entry\|start\|stop\|reset\|submit\|await\|serve\|respond\|close\|open\|free\|freeze\|lock\|unlock\|ask\|use\|end\|evict\|fault\|finish\|quit\|pump\|deliver\|forget\)\ze\%(\s\|$\)/
-syntax match svdLine /^\s*\zs\%(config\|race\|thread\|workers\|device\|link\|waits\|drain\|caches\|stopped\)\ze\%(\s\|$\)/
-syntax match svdWord /\%(^\s*\%(link\|waits\|drain\|caches\|stopped\)\s\+\)\@<=\%(free\|posted\|fence\|plain\|empty\|arrived\|off\|on\|marker\|status\|known\)\ze\%(\s\|$\)/
+syntax match svdLine /^\s*\zs\%(config\|race\|thread\|workers\|device\|platform\|link\|waits\|drain\|caches\|stopped\)\ze\%(\s\|$\)/
+syntax match svdWord /\%(^\s*\%(platform\|link\|waits\|drain\|caches\|stopped\)\s\+\)\@<=\%(vt-d\|free\|posted\|fence\|plain\|empty\|arrived\|off\|on\|marker\|status\|known\)\ze\%(\s\|$\)/
 syntax match svdWord /\%(^\s*device\s.*\)\@<=\<\%(asks\|uses\|faults\|evicts\|silent\|lies\|awaits\|pages\)\ze\%(\s\|$\)/
 syntax match svdWord /\%(\s\)\@1<=\%(r\|w\|rw\|none\|new\|more\|last\|success\|invalid\|failure\)\ze\%(\s\|$\)/
 " descriptors, what is awaited, and what is freed

@@ -16,6 +16,7 @@ syntax match svsRace /^\s*\zs\%(race\|thread\|workers\|device\|ends\|never\|alwa
 syntax match svsRace /\%(^\s*ends\s\+\)\@<=\%(never\|always\|sometimes\)\ze\s/
 syntax match svsRace /\%(^\s*\|^\s*\l[[:alnum:]-]*:\s\+\)\@<=try\ze\s/
 syntax match svsRace /\%(^\s*\%(ends\s\+\)\?\%(never\|always\|sometimes\)\s.*\)\@<=\<\%(done\|usable\|times\|not\|and\|or\|is\)\ze\s/
+syntax match svsRace /\%(\<usable\s\+\S\+\s\+\)\@<=at\ze\%(\s\|$\)/
 syntax match svsRace /\%(^\s*device\s.*\)\@<=\<\%(asks\|uses\|faults\|evicts\|pages\|silent\)\ze\%(\s\|$\)/
 syntax match svsWord /\%(\s\)\@1<=\%(r\|w\|rw\|new\|more\|last\|next\|success\|invalid\|failure\)\ze\%(\s\|$\)/
 syntax match svsKind /\%(\<deliver\s\+\)\@20<=\%(start\|stop\|reset\|reset-done\|completion\|invalidate\|invalidated\|response\|request\|page-request\|marker\)\ze\s/

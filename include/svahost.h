@@ -71,7 +71,8 @@
  *   there.
  * - A call takes up to three quarters of a MiB of stack: give a thread that calls one MiB or more.
  * - A call starts no thread, takes no lock and doesn't wait. How long it takes grows with the text, and no bound of it
- *   is promised. A search takes time and memory for each moment, up to `most`: of a driver 2 to 3 KB, of a race some 14.
+ *   is promised. A search takes time and memory for each moment, up to `most`: of a driver 2 to 3 KB, of a
+ *   race 12 to 44.
  * - The library is for x86-64 Linux with glibc. It needs a processor of the level x86-64-v2 (SSE4.2 and POPCNT, say),
  *   and doesn't look whether it has one.
  *
@@ -96,8 +97,8 @@ extern "C" {
 /* How a call ended. The numbers stay. A later version may add further ones: take what you don't know for a failure. */
 enum svahost_status {
     /* The report is whole. The steps were run, refused ones too; of svahost_test, each answer was as expected; of
-       svahost_judge and svahost_run, each moment is safe, and no line waits for ever; of svahost_explore, all claims
-       hold. */
+       svahost_judge, each moment is safe, and no line waits for ever; of svahost_run, nothing is wrong behind any line,
+       which says nothing of other orders; of svahost_explore, all claims hold. */
     SVAHOST_DONE = 0,
     /* The report is whole, and tells what is wrong: a line that can't be read, a config out of its limits, or, of
        svahost_test, an answer that isn't as expected. */
@@ -221,7 +222,8 @@ static inline enum svahost_status svahost_show(const void *text, size_t length, 
  * Judges a driver: is its order of acts safe in every order of what link, units, workers and endpoints do beside it?
  * SVAHOST_DONE: the report begins with `safe in all N moments`. SVAHOST_FAILS: it begins with `unsafe in N events: ..`
  * or `stuck in N events: ..`, and has a shortest list of events to that place, which svahost_run takes once the first
- * line is gone. SVAHOST_CUT_OFF: it begins with `cut off at N moments`. SVAHOST_FAULTED: the report tells what is wrong
+ * line is gone; or it is `unsafe at line L: ..` alone, of the first line before `race` behind which something is wrong.
+ * SVAHOST_CUT_OFF: it begins with `cut off at N moments`. SVAHOST_FAULTED: the report tells what is wrong
  * with the driver's lines.
  */
 static inline enum svahost_status svahost_judge(const void *text, size_t length, uint64_t most, void *report,
@@ -232,9 +234,10 @@ static inline enum svahost_status svahost_judge(const void *text, size_t length,
 
 /*
  * Takes the lines of a driver one by one, in the order in which they stand, without a search: for a list of events that
- * a model under test has logged. SVAHOST_DONE: the report is `safe in each of N events`. SVAHOST_FAILS: it is
- * `unsafe at line L: ..`, of the first moment that isn't safe. SVAHOST_FAULTED: the report tells what is wrong with the
- * lines, or which isn't permitted where it stands.
+ * a model under test has logged. SVAHOST_DONE: the report is `nothing wrong in any of N events`, and where the text has
+ * a `race` behind that `; the orders behind race were not searched`: only svahost_judge says that a driver is safe.
+ * SVAHOST_FAILS: it is `unsafe at line L: ..`, of the first moment that isn't safe. SVAHOST_FAULTED: the report tells
+ * what is wrong with the lines, or which isn't permitted where it stands.
  */
 static inline enum svahost_status svahost_run(const void *text, size_t length, void *report, size_t room,
                                               size_t *needed)

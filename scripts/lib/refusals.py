@@ -1,10 +1,11 @@
 """What is kept of edits that were tried: of each crate a checksum of all that its refusals stand on. `scripts/more-edits --kept FILE` doesn't try the edits of a
-crate again whose checksum stands in the file: the checker's logic, the crates.txt lines, texts and proofs of the crate and of all below it, and of the crates that judge it from
-above, the edits that are tried, and the scripts that try them."""
+crate again whose checksum stands in the file: the kit, with its libraries, the crates.txt lines, texts and proofs of the crate and of all below it, and of the crates
+that judge it from above, the edits that are tried, and the scripts that try them. It spares time, and is no evidence: who writes the file can write any sum."""
 
 import functools
 import hashlib
 import os
+import shutil
 import subprocess
 from pathlib import Path
 
@@ -23,9 +24,12 @@ def sum_of(*texts):
 
 
 @functools.lru_cache(maxsize=None)
-def logic():
-    """The logic by which the kit's checker judges. Kits that have the same one differ in how they are called, and not in what they refuse."""
-    return subprocess.run(["rt", "version"], capture_output=True, check=True).stdout.partition(b" ")[2]
+def kit():
+    """The logic by which the kit's checker judges, and its file WHAT, which names all that the kit was made of, and which `rt` has in its own sums. Kits that have
+    one logic may have other contracts in their libraries."""
+    folder = os.path.dirname(os.path.dirname(os.path.realpath(shutil.which("rt"))))
+    said = subprocess.run(["rt", "version"], capture_output=True, check=True).stdout
+    return sum_of(said.partition(b" ")[2], Path(folder, "WHAT").read_bytes()).encode()
 
 
 @functools.lru_cache(maxsize=None)
@@ -44,7 +48,7 @@ def key_of(crate, edits):
     # An edit of must-fail/ may stand in a check beside these, as one of a function that has none of them.
     tried = [repr((it.name, it.pairs, it.by, it.only)).encode() for it in [*edits, *must_fail(crate)]]
     judges = [text_of(f"{ROOT}/{it}").encode() for it in JUDGES]
-    return sum_of(logic(), *judges, *(text_sum(it).encode() for it in sorted(stands_on)), *tried)
+    return sum_of(kit(), *judges, *(text_sum(it).encode() for it in sorted(stands_on)), *tried)
 
 
 def read(file):
@@ -66,5 +70,6 @@ def write(file, kept):
 
 HEAD = [
     "Of each crate: how many of its further edits were refused, each of those that .ci/more-edits names, and a checksum of all on which that",
-    "stands (scripts/lib/refusals.py). Where it is the present one, the gate doesn't try them again. `scripts/more-edits --keep` writes it.",
+    "stands (scripts/lib/refusals.py). Where it is the present one, the gate doesn't try them again. `scripts/more-edits --keep` writes it. It",
+    "spares time, and is no evidence: delete it, and all are tried.",
 ]

@@ -6,7 +6,7 @@ use Rattle.sva_race_reports.specs.declared.judging.Judged.TheVariants.{Holds, Fa
 use Rattle.sva_race_reports.specs.declared.searching.Wanted.{Wanted}
 use Rattle.sva_race_reports.specs.Explored.{ExploresText}
 use Rattle.sva_driver_reports.specs.declared.reports.Ruling.{Ruling}
-use Rattle.sva_driver_reports.specs.declared.reports.Ruling.TheVariants.{Safe, Unsafe, Stuck, CutOff}
+use Rattle.sva_driver_reports.specs.declared.reports.Ruling.TheVariants.{Safe, Untried, Right, Unsafe, Stuck, CutOff}
 use Rattle.sva_driver_runs.specs.Judged.{IsTextJudged, IsTextRun}
 use Rattle.sva_c.specs.Buffers.{IsHandedOver, LacksMemory}
 use Rattle.sva_c.specs.declared.statuses.TheConstants.{CUT_OFF, DONE, FAILS, FAULTED}
@@ -15,6 +15,8 @@ use Rattle.sva_c.specs.declared.statuses.TheConstants.{CUT_OFF, DONE, FAILS, FAU
 abbrev pub ruled_status : Option Ruling → ℕ
 ruled_status None = FAULTED
 ruled_status (Some Safe) = DONE
+ruled_status (Some Untried) = DONE
+ruled_status (Some Right) = DONE
 ruled_status (Some Unsafe) = FAILS
 ruled_status (Some Stuck) = FAILS
 ruled_status (Some CutOff) = CUT_OFF

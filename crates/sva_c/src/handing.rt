@@ -45,7 +45,7 @@ pub(crate) fn ruled_status(said: Option<Ruling>) -> u32
 {
     match said {
         None => FAULTED,
-        Some(Ruling::Safe) => DONE,
+        Some(Ruling::Safe | Ruling::Untried | Ruling::Right) => DONE,
         Some(Ruling::Unsafe | Ruling::Stuck) => FAILS,
         Some(Ruling::CutOff) => CUT_OFF,
     }

@@ -137,7 +137,8 @@ pub extern "C" fn sva_c_judge(
     }
 }
 
-/// Whether a driver is safe whose lines are taken one after another, as `judge --run` prints it.
+/// Whether something is wrong behind a line of a driver whose lines are taken one after another, as `judge --run`
+/// prints it.
 #[unsafe(no_mangle)]
 pub extern "C" fn sva_c_run(
     alloc: Global,

@@ -5,17 +5,15 @@ use std::alloc::{AllocError, Global};
 use std::fs::OpenFile;
 use std::rt::Files as FileSystem;
 use std::{fs, io};
-use sva_command::{Asked, Awaited, Named, files_of, named_in, parse, part_of};
+use sva_command::{Asked, Awaited, Named, files_of, jobs_of, named_in, parse, part_of};
 use sva_reports::{DriveFault, Told, read_all};
-use sva_several::Search;
+use sva_several::{Search, Wanted};
 
-/// Several files, and what is done with them.
+/// Several files, and what is wanted of them.
 #[derive(Drop)]
 pub struct Several {
-    /// What is done with each.
-    pub search: Search,
-    /// Whether they are a part.
-    pub is_part: bool,
+    /// What is wanted.
+    pub wanted: Wanted,
     /// Their names.
     pub names: Vec<String>,
 }
@@ -38,7 +36,7 @@ pub enum Files {
     },
     /// It names several, or asks for a part of them.
     Several(Several),
-    /// What it says of a part can't be meant.
+    /// What it says of a part, or of how many are searched at once, can't be meant.
     Wrong {
         /// What is told of that.
         said: String,
@@ -49,22 +47,30 @@ pub enum Files {
 fn search_of(asked: Asked) -> Search {
     match asked {
         Asked::Judge { run: true, .. } => Search::Lines,
-        Asked::Judge { run: false, most } => Search::Drivers { most },
+        Asked::Judge {
+            run: false,
+            most,
+            strict,
+        } => Search::Drivers { most, strict },
         Asked::Explore { most, .. } => Search::Races { most },
         // No other command takes files.
         _ => Search::Lines,
     }
 }
 
-/// What is told of a part that isn't one.
-fn no_part(alloc: Global, text: &[u8]) -> Result<String, AllocError> {
-    let mut said = String::from_str(
-        alloc,
-        "svahost: --part takes K/N with K from 1 to N, as 2/3, and not '",
-    )?;
+/// What is told of an option's text that can't be meant.
+fn no_meaning(alloc: Global, takes: &str, text: &[u8]) -> Result<Files, AllocError> {
+    let mut said = String::from_str(alloc, takes)?;
     said.push_str(text_of(text))?;
     said.push_str("'\n")?;
-    Ok(said)
+    Ok(Files::Wrong { said })
+}
+
+/// What is told of an option of files where none is named.
+fn no_files(alloc: Global, told: &str) -> Result<Files, AllocError> {
+    Ok(Files::Wrong {
+        said: String::from_str(alloc, told)?,
+    })
 }
 
 /// A word that was text.
@@ -75,44 +81,52 @@ fn text_of(word: &[u8]) -> &str {
 /// The files of a part, which the text behind `--part` says.
 fn part_in(
     alloc: Global,
-    asked: Asked,
+    wanted: Wanted,
     text: &[u8],
     files: &[String],
 ) -> Result<Files, AllocError> {
     let Some(part) = part_of(text) else {
-        return Ok(Files::Wrong {
-            said: no_part(alloc, text)?,
-        });
+        return no_meaning(
+            alloc,
+            "svahost: --part takes K/N with K from 1 to N, as 2/3, and not '",
+            text,
+        );
     };
     if files.is_empty() {
-        return Ok(Files::Wrong {
-            said: String::from_str(
-                alloc,
-                "svahost: --part is a part of several files, and none is named\n",
-            )?,
-        });
+        return no_files(
+            alloc,
+            "svahost: --part is a part of several files, and none is named\n",
+        );
     }
     Ok(Files::Several(Several {
-        search: search_of(asked),
-        is_part: true,
+        wanted: Wanted {
+            is_part: true,
+            ..wanted
+        },
         names: files_of(alloc, part, files)?,
     }))
 }
 
-/// What the words say of files, where the others are this command.
-fn of_files(alloc: Global, asked: Asked, named: Named) -> Result<Files, AllocError> {
+/// What the words say of files, where the others are this command, and so many are searched at once.
+fn of_files(alloc: Global, asked: Asked, jobs: u64, named: Named) -> Result<Files, AllocError> {
     let Named {
         own,
         mut files,
         part,
         awaited,
+        ..
     } = named;
+    let wanted = Wanted {
+        search: search_of(asked),
+        jobs,
+        is_part: false,
+    };
     if matches!(awaited, Awaited::Part) {
         // No word is behind the last `--part`.
-        return part_in(alloc, asked, b"", files.as_slice());
+        return part_in(alloc, wanted, b"", files.as_slice());
     }
     if let Some(text) = part {
-        return part_in(alloc, asked, text.as_slice(), files.as_slice());
+        return part_in(alloc, wanted, text.as_slice(), files.as_slice());
     }
     if files.len() == 1 {
         if let Some(file) = files.pop() {
@@ -120,22 +134,68 @@ fn of_files(alloc: Global, asked: Asked, named: Named) -> Result<Files, AllocErr
         }
     }
     Ok(Files::Several(Several {
-        search: search_of(asked),
-        is_part: false,
+        wanted,
         names: files,
     }))
 }
 
-/// What the words of a command line say of files, the program's name first.
-pub fn files_in(alloc: Global, words: Vec<String>) -> Result<Files, AllocError> {
+/// What is said of how many files are searched at once: a number, nothing, or what can't be meant.
+fn jobs_in(named: &Named, usual: u64) -> Option<u64> {
+    // No word is behind the last `--jobs`.
+    if matches!(named.awaited, Awaited::Jobs) {
+        return None;
+    }
+    match &named.jobs {
+        Some(text) => jobs_of(text.as_slice()),
+        None => Some(usual),
+    }
+}
+
+/// The text behind `--jobs`.
+fn jobs_text(named: &Named) -> &[u8] {
+    match &named.jobs {
+        Some(text) if !matches!(named.awaited, Awaited::Jobs) => text.as_slice(),
+        _ => b"",
+    }
+}
+
+/// What the words say of files, where the others are this command.
+fn files_by(alloc: Global, asked: Asked, usual: u64, named: Named) -> Result<Files, AllocError> {
+    let Some(jobs) = jobs_in(&named, usual) else {
+        return no_meaning(
+            alloc,
+            "svahost: --jobs takes a number from 1 to 256, and not '",
+            jobs_text(&named),
+        );
+    };
+    if named.files.is_empty() && named.part.is_none() {
+        return no_files(
+            alloc,
+            "svahost: --jobs is of several files, and none is named\n",
+        );
+    }
+    of_files(alloc, asked, jobs, named)
+}
+
+/// Whether no file is named, and nothing is said of any.
+fn is_bare(named: &Named) -> bool {
+    named.files.is_empty()
+        && named.part.is_none()
+        && named.jobs.is_none()
+        && !matches!(named.awaited, Awaited::Jobs)
+}
+
+/// What the words of a command line say of files, the program's name first. So many are searched at once where they don't
+/// say how many.
+pub fn files_in(alloc: Global, usual: u64, words: Vec<String>) -> Result<Files, AllocError> {
     let Some(named) = named_in(alloc, words.as_slice())? else {
         return Ok(Files::Input { own: words });
     };
-    if named.files.is_empty() && named.part.is_none() {
+    if is_bare(&named) {
         return Ok(Files::Input { own: words });
     }
     match parse(alloc, named.own.as_slice()) {
-        Ok(asked) => of_files(alloc, asked, named),
+        Ok(asked) => files_by(alloc, asked, usual, named),
         Err(error) => match error.kind() {
             ErrorKind::OutOfMemory => Err(AllocError),
             _ => Ok(Files::Input { own: named.own }),

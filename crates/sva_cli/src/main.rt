@@ -12,7 +12,7 @@ use std::io::{IsTerminal, Read, Write};
 use std::process::ExitCode;
 use std::rt::{Env, Files as FileSystem};
 use std::sync::Wait;
-use std::thread::Threads;
+use std::thread::{Threads, available_parallelism};
 use sva_program::{Told, Watch, faulted, main_with, unread};
 use sva_reports::{DriveFault, write_all};
 use sva_several::{Meter, Searched, tell_all};
@@ -25,6 +25,14 @@ const MISTAKE: u8 = 2;
 fn words<R: Env + AllocGlobal>(rt: &R) -> io::Result<Vec<String>> {
     let words = std::env::args(rt)?.collect(rt.alloc())?;
     Ok(words)
+}
+
+/// How many processors there are for this program, as far as that is known.
+fn processors<R: Threads>(rt: &R) -> u64 {
+    match available_parallelism(rt) {
+        Ok(count) => count.get() as u64,
+        Err(_) => 1,
+    }
 }
 
 /// Tells of a mistake.
@@ -76,25 +84,12 @@ fn search_on<X: AllocGlobal + Threads + Sync + FileSystem, O: Write + Drop, E: W
     requires { IsNew errors.old }
 {
     let alloc = rt.alloc();
-    let Several {
-        search,
-        is_part,
-        names,
-    } = several;
+    let Several { wanted, names } = several;
     match read_files(rt, alloc, names.as_slice()) {
         Ok(texts) => {
             let mut writer = Told::new(output);
             let (names, texts) = (names.as_slice(), texts.as_slice());
-            let told = tell_all(
-                rt,
-                alloc,
-                *search,
-                *is_part,
-                names,
-                texts,
-                &mut writer,
-                meter,
-            );
+            let told = tell_all(rt, alloc, *wanted, names, texts, &mut writer, meter);
             ended(told, errors)
         }
         Err(Unread::File(name)) => mistaken(unreadable(alloc, name), errors),
@@ -111,7 +106,7 @@ fn main(rt: HostRuntime) -> ExitCode {
     };
     let is_terminal = rt.stderr().is_terminal();
     let mut watch = Progress::new(alloc, rt.stderr(), &rt, is_terminal);
-    let status = match files_in(alloc, words) {
+    let status = match files_in(alloc, processors(&rt), words) {
         Ok(Files::Input { own }) => {
             let (input, output) = (rt.stdin(), rt.stdout());
             run_on(&rt, own.as_slice(), input, output, &mut errors, &mut watch)

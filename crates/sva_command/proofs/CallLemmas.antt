@@ -1,14 +1,17 @@
 -- A call for help or for the version isn't mistaken, and a line with no command is.
 use Rattle.std.proofs.Common.{◌≡◌, inl, inr, refl, subst, ap, ◌∙◌, List, [], ◌∷◌, codes, String, length, ◌<◌, arith}
 use Rattle.clap.specs.Words.{IsAmong, Text, fault_of}
+use Rattle.clap.specs.Kinds.{or_else}
+use Rattle.clap.specs.Simple.{subcommand_of}
 use Rattle.clap.proofs.OnLiterals.{clap_on_literals}
 use Rattle.clap.specs.declared.error.kind.ErrorKind.{ErrorKind}
 use Rattle.clap.specs.declared.error.kind.ErrorKind.TheVariants.{DisplayHelp, DisplayVersion, MissingSubcommand}
-use Rattle.sva_command.specs.Command.{AsksText, faults_of, CallsHelp, CallsVersion, IsMistaken, svahost, texts}
+use Rattle.sva_command.specs.Command.{AsksText, asked_by, faults_of, CallsHelp, CallsVersion, IsMistaken, own_faults, svahost, texts}
 use Rattle.sva_command.specs.Command.{behind_chart, behind_check, behind_explore, behind_judge, behind_plain, behind_replay}
 use Rattle.sva_command.specs.Command.{behind_show, behind_storm, behind_test}
 use Rattle.sva_command.specs.Command.{behind_trace, behind_why}
 use Rattle.sva_command.specs.Command.{by_long, by_long_version, by_short, by_short_version}
+use Rattle.sva_command.proofs.FlagLemmas.{left}
 use Rattle.sva_command.proofs.LineLemmas.{no_words}
 
 help_long : (name : Text) (rest : List Text) → fault_of svahost (name ∷ codes "--help" ∷ rest) ≡ DisplayHelp ∷ []
@@ -71,26 +74,29 @@ version_short : (name : Text) (rest : List Text) → fault_of svahost (name ∷ 
 unfolding clap_on_literals
 version_short name rest = refl
 
-calls_help : (words : List Text) → CallsHelp words → faults_of words ≡ DisplayHelp ∷ []
+-- where clap finds a fault, that is the only one
+shown : (words : List Text) (kind : ErrorKind) → fault_of svahost words ≡ kind ∷ [] → faults_of words ≡ kind ∷ []
 unfolding faults_of
-calls_help words (by_long name rest e) = ap (fault_of svahost) e ∙ help_long name rest
-calls_help words (by_short name rest e) = ap (fault_of svahost) e ∙ help_short name rest
-calls_help words (behind_replay name e) = ap (fault_of svahost) e ∙ help_of_replay name
-calls_help words (behind_check name e) = ap (fault_of svahost) e ∙ help_of_check name
-calls_help words (behind_storm name e) = ap (fault_of svahost) e ∙ help_of_storm name
-calls_help words (behind_plain name e) = ap (fault_of svahost) e ∙ help_of_plain name
-calls_help words (behind_test name e) = ap (fault_of svahost) e ∙ help_of_test name
-calls_help words (behind_show name e) = ap (fault_of svahost) e ∙ help_of_show name
-calls_help words (behind_why name e) = ap (fault_of svahost) e ∙ help_of_why name
-calls_help words (behind_chart name e) = ap (fault_of svahost) e ∙ help_of_chart name
-calls_help words (behind_explore name e) = ap (fault_of svahost) e ∙ help_of_explore name
-calls_help words (behind_judge name e) = ap (fault_of svahost) e ∙ help_of_judge name
-calls_help words (behind_trace name e) = ap (fault_of svahost) e ∙ help_of_trace name
+shown words kind is = ap (λ kinds. or_else kinds (own_faults (asked_by (subcommand_of svahost words)))) is
+
+calls_help : (words : List Text) → CallsHelp words → faults_of words ≡ DisplayHelp ∷ []
+calls_help words (by_long name rest e) = shown words _ (ap (fault_of svahost) e ∙ help_long name rest)
+calls_help words (by_short name rest e) = shown words _ (ap (fault_of svahost) e ∙ help_short name rest)
+calls_help words (behind_replay name e) = shown words _ (ap (fault_of svahost) e ∙ help_of_replay name)
+calls_help words (behind_check name e) = shown words _ (ap (fault_of svahost) e ∙ help_of_check name)
+calls_help words (behind_storm name e) = shown words _ (ap (fault_of svahost) e ∙ help_of_storm name)
+calls_help words (behind_plain name e) = shown words _ (ap (fault_of svahost) e ∙ help_of_plain name)
+calls_help words (behind_test name e) = shown words _ (ap (fault_of svahost) e ∙ help_of_test name)
+calls_help words (behind_show name e) = shown words _ (ap (fault_of svahost) e ∙ help_of_show name)
+calls_help words (behind_why name e) = shown words _ (ap (fault_of svahost) e ∙ help_of_why name)
+calls_help words (behind_chart name e) = shown words _ (ap (fault_of svahost) e ∙ help_of_chart name)
+calls_help words (behind_explore name e) = shown words _ (ap (fault_of svahost) e ∙ help_of_explore name)
+calls_help words (behind_judge name e) = shown words _ (ap (fault_of svahost) e ∙ help_of_judge name)
+calls_help words (behind_trace name e) = shown words _ (ap (fault_of svahost) e ∙ help_of_trace name)
 
 calls_version : (words : List Text) → CallsVersion words → faults_of words ≡ DisplayVersion ∷ []
-unfolding faults_of
-calls_version words (by_long_version name rest e) = ap (fault_of svahost) e ∙ version_long name rest
-calls_version words (by_short_version name rest e) = ap (fault_of svahost) e ∙ version_short name rest
+calls_version words (by_long_version name rest e) = shown words _ (ap (fault_of svahost) e ∙ version_long name rest)
+calls_version words (by_short_version name rest e) = shown words _ (ap (fault_of svahost) e ∙ version_short name rest)
 
 among_one : (kind other : ErrorKind) → IsAmong kind (other ∷ []) → kind ≡ other
 among_one kind other (inl e) = e
@@ -104,11 +110,14 @@ pub version_unmistaken : (words : List Text) → CallsVersion words → IsMistak
 version_unmistaken words calls (kind, _, differs, among) = differs (among_one kind DisplayVersion (subst (IsAmong kind) (calls_version words calls) among))
 
 -- a line with no command is mistaken
+missing : (words : List Text) → length words < 2 → fault_of svahost words ≡ MissingSubcommand ∷ []
+unfolding clap_on_literals
+missing [] short = refl
+missing (name ∷ []) short = refl
+missing (name ∷ word ∷ rest) short = absurd (omega (arith, short))
+
 no_command : (words : List Text) → length words < 2 → faults_of words ≡ MissingSubcommand ∷ []
-unfolding clap_on_literals faults_of
-no_command [] short = refl
-no_command (name ∷ []) short = refl
-no_command (name ∷ word ∷ rest) short = absurd (omega (arith, short))
+no_command words short = shown words MissingSubcommand (missing words short)
 
 asks_nothing : (words : List Text) → faults_of words ≡ MissingSubcommand ∷ [] → AsksText words → ⊥
 asks_nothing words e (inl among) = cc (among_one DisplayHelp MissingSubcommand (subst (IsAmong DisplayHelp) e among))
@@ -122,6 +131,6 @@ no_command_asks (name ∷ word ∷ rest) few asks = absurd (omega (arith, few))
 -- and clap doesn't take it
 pub no_command_taken : {Z : Type 0} (words : List (String Z)) → length words < 2 → faults_of (texts words) ≡ [] → ⊥
 unfolding faults_of
-no_command_taken [] few none = no_words [] few none
-no_command_taken (name ∷ []) few none = no_words (texts (name ∷ [])) few none
+no_command_taken [] few none = no_words [] few (left _ _ none)
+no_command_taken (name ∷ []) few none = no_words (texts (name ∷ [])) few (left _ _ none)
 no_command_taken (name ∷ word ∷ rest) few none = absurd (omega (arith, few))

@@ -5,10 +5,9 @@ use Rattle.std.proofs.Common.{length, cond, option_map, fold, ◌||◌, ◌<◌,
 use Rattle.std.specs.Prelude.{is_some}
 use Rattle.std.specs.Str.{bytes_eq}
 use Rattle.std.specs.Str.Parse.{digits_value, without_leading_plus}
-use Rattle.clap.specs.Words.{HasKind, Text, built, fault_of}
+use Rattle.clap.specs.Words.{Text, built, fault_of}
 use Rattle.clap.specs.Kinds.{Kinds, or_else}
 use Rattle.clap.specs.Simple.{entered, names_of}
-use Rattle.clap.specs.declared.error.Error.{Error}
 use Rattle.clap.specs.Faults.{check_fault, defaults_fault, settle_fault}
 use Rattle.clap.specs.Faults.{entered_fault, is_simple_and_free, level_fault, other_fault, step_fault, turn_fault, walk_fault}
 use Rattle.clap.specs.Walk.{finished, settled, rows_after, Names, Walk, answers_to, idle, nothing_held, subcommand_or_other, walk_from, walked}
@@ -16,7 +15,7 @@ use Rattle.clap.proofs.OnLiterals.{clap_on_literals}
 use Rattle.clap.proofs.ValueTestLemmas.{Accepts-accepts, accepts-Accepts}
 use Rattle.sva_command.specs.declared.command.Asked.{Asked}
 use Rattle.sva_command.specs.declared.command.Asked.TheVariants.{Replay, Check, Storm, Plain, Test, Show, Why, Chart, Explore, Judge, Trace}
-use Rattle.sva_command.specs.Command.{Asks, AsksRun, faults_of, GivesTurns, IsCommand, WritesTurns, apart, attached, chart_shape, is_given}
+use Rattle.sva_command.specs.Command.{Enters, GivesTurns, IsCommand, WritesTurns, apart, attached, chart_shape, is_given}
 use Rattle.sva_command.specs.Command.{explore_shape, judge_shape, most_by, most_text, svahost, trace_shape, usual}
 use Rattle.sva_command.proofs.FlagLemmas.{dashes, is_word, leaf_words, left, right, top, tops, tops_ask}
 use Rattle.sva_command.proofs.TurnLemmas.{IsTaken, taken_apart, taken_attached, taken_nothing}
@@ -229,7 +228,11 @@ gives rest (taken_nothing none) = (10000, usual none refl)
 gives rest (taken_apart text is e) = (digits_value 10 (without_leading_plus text), apart text is (writes text e))
 gives rest (taken_attached text is e) = (digits_value 10 (without_leading_plus text), attached text is (writes text e))
 
-asks_bare : (bare : Bare) (words : List Text) → IsCommand (word_of bare) words → AsksRun words
+-- by clap's definitions the words ask for a command
+abbrev pub EntersRun : List Text → Type 0
+EntersRun words = (asked : Asked) × Enters asked words
+
+asks_bare : (bare : Bare) (words : List Text) → IsCommand (word_of bare) words → EntersRun words
 asks_bare replaying words is = (Replay, is)
 asks_bare checking words is = (Check, is)
 asks_bare printing words is = (Plain, is)
@@ -242,41 +245,42 @@ asks_command command name rest (inl none) = (name, inl (ap (λ r. name ∷ comma
 asks_command command name rest (inr one) = (name, inr (ap (λ r. name ∷ command ∷ r) one))
 
 asks_storm : (name : Text) (words rest : List Text) → (turns : ℕ) × GivesTurns turns rest → (words ≡ rest) ⊎ (words ≡ rest ++ codes "--" ∷ [])
-    → AsksRun (name ∷ storm ∷ words)
+    → EntersRun (name ∷ storm ∷ words)
 asks_storm name words rest (turns, given) (inl e) = (Storm turns, (name, rest, given, inl (ap (λ r. name ∷ storm ∷ r) e)))
 asks_storm name words rest (turns, given) (inr e) = (Storm turns, (name, rest, given, inr (ap (λ r. name ∷ storm ∷ r) e)))
 
 -- where clap finds no fault, the words ask for a command
-asks_first : (name word : Text) (rest : List Text) → IsFirst word → fault_of svahost (name ∷ word ∷ rest) ≡ [] → AsksRun (name ∷ word ∷ rest)
+asks_first : (name word : Text) (rest : List Text) → IsFirst word → fault_of svahost (name ∷ word ∷ rest) ≡ [] → EntersRun (name ∷ word ∷ rest)
 unfolding clap_on_literals
 asks_first name word rest (is_bare bare is) e =
     let none = bare_words bare name rest (subst (λ w. fault_of svahost (name ∷ w ∷ rest) ≡ []) is e) in
-    subst (λ w. AsksRun (name ∷ w ∷ rest)) (sym is) (asks_bare bare _ (asks_command (word_of bare) name rest none))
+    subst (λ w. EntersRun (name ∷ w ∷ rest)) (sym is) (asks_bare bare _ (asks_command (word_of bare) name rest none))
 asks_first name word rest (is_chart is) e =
     let none = chart_level name rest (subst (λ w. fault_of svahost (name ∷ w ∷ rest) ≡ []) is e) in
-    subst (λ w. AsksRun (name ∷ w ∷ rest)) (sym is) (Chart (is_given (codes "svg") (rows_after chart_shape.rules [] rest)), (name, rest, (none, refl), refl))
+    subst (λ w. EntersRun (name ∷ w ∷ rest)) (sym is) (Chart (is_given (codes "svg") (rows_after chart_shape.rules [] rest)), (name, rest, (none, refl), refl))
 asks_first name word rest (is_explore is) e =
     let none = explore_level name rest (subst (λ w. fault_of svahost (name ∷ w ∷ rest) ≡ []) is e) in
-    subst (λ w. AsksRun (name ∷ w ∷ rest)) (sym is) (
+    subst (λ w. EntersRun (name ∷ w ∷ rest)) (sym is) (
       Explore (most_by (most_text (rows_after explore_shape.rules [] rest))) (is_given (codes "why") (rows_after explore_shape.rules [] rest))
           (is_given (codes "ends") (rows_after explore_shape.rules [] rest)),
       (name, rest, (none, refl, refl, refl), refl),
     )
 asks_first name word rest (is_judge is) e =
     let none = judge_level name rest (subst (λ w. fault_of svahost (name ∷ w ∷ rest) ≡ []) is e) in
-    subst (λ w. AsksRun (name ∷ w ∷ rest)) (sym is) (
-      Judge (is_given (codes "run") (rows_after judge_shape.rules [] rest)) (most_by (most_text (rows_after judge_shape.rules [] rest))),
-      (name, rest, (none, refl, refl), refl),
+    subst (λ w. EntersRun (name ∷ w ∷ rest)) (sym is) (
+      Judge (is_given (codes "run") (rows_after judge_shape.rules [] rest)) (most_by (most_text (rows_after judge_shape.rules [] rest)))
+          (is_given (codes "strict") (rows_after judge_shape.rules [] rest)),
+      (name, rest, (none, refl, refl, refl), refl),
     )
 asks_first name word rest (is_trace is) e =
     let none = trace_level name rest (subst (λ w. fault_of svahost (name ∷ w ∷ rest) ≡ []) is e) in
-    subst (λ w. AsksRun (name ∷ w ∷ rest)) (sym is) (
+    subst (λ w. EntersRun (name ∷ w ∷ rest)) (sym is) (
       Trace (is_given (codes "live") (rows_after trace_shape.rules [] rest)) (is_given (codes "why") (rows_after trace_shape.rules [] rest)),
       (name, rest, (none, refl, refl), refl),
     )
 asks_first name word rest (is_storm is) e =
     let found = taken rest (storm_level name rest (subst (λ w. fault_of svahost (name ∷ w ∷ rest) ≡ []) is e)) in
-    subst (λ w. AsksRun (name ∷ w ∷ rest)) (sym is) (asks_storm name rest found.0 (gives found.0 found.1.0) found.1.1)
+    subst (λ w. EntersRun (name ∷ w ∷ rest)) (sym is) (asks_storm name rest found.0 (gives found.0 found.1.0) found.1.1)
 asks_first name word rest (is_dashes is) e =
     let none = none_behind_top rest
     (subst (λ w. walk_fault top names (walked top.rules names (walk_from nothing_held) w) rest ≡ []) is (right _ _ (left _ _ e))) in
@@ -286,14 +290,10 @@ first_is : (name word : Text) (rest : List Text) → fault_of svahost (name ∷ 
 unfolding clap_on_literals
 first_is name word rest e = top_first word (left _ _ (left _ _ e))
 
-pub asks_run : (words : List Text) → fault_of svahost words ≡ [] → AsksRun words
+pub asks_run : (words : List Text) → fault_of svahost words ≡ [] → EntersRun words
 asks_run [] e = absurd (no_words [] (omega arith) e)
 asks_run (name ∷ []) e = absurd (no_words (name ∷ []) (omega arith) e)
 asks_run (name ∷ word ∷ rest) e = asks_first name word rest (first_is name word rest e) e
-
-pub asked_after_all : (words : List Text) → (AsksRun words → ⊥) → faults_of words ≡ [] → ⊥
-unfolding faults_of
-asked_after_all words other none = other (asks_run words none)
 
 -- and where they do, it finds none
 unfoldable pub given_taken : (turns : ℕ) (rest : List Text) → GivesTurns turns rest → IsTaken rest
@@ -388,7 +388,7 @@ takes_chart name rest e =
     ap (λ k. or_else k (behind_words (fold (walked top.rules names) first rest))) (gathered_unfaulted chart [] rest (walk_from nothing_held))
     ∙ ap behind_words (gathers_all chart [] rest (walk_from nothing_held)) ∙ ap (λ k. or_else k []) e
 
-taken_words : (asked : Asked) (words : List Text) → Asks asked words → fault_of svahost words ≡ []
+pub taken_words : (asked : Asked) (words : List Text) → Enters asked words → fault_of svahost words ≡ []
 taken_words Replay words is = taken_bare replaying words is
 taken_words Check words is = taken_bare checking words is
 taken_words Plain words is = taken_bare printing words is
@@ -397,23 +397,10 @@ taken_words Show words is = taken_bare showing words is
 taken_words Why words is = taken_bare explaining words is
 taken_words (Chart svg) words (name, rest, given, e) = subst (λ w. fault_of svahost w ≡ []) (sym e) (takes_chart name rest given.0)
 taken_words (Explore most whys few_ends) words (name, rest, given, e) = subst (λ w. fault_of svahost w ≡ []) (sym e) (takes_explore name rest given.0)
-taken_words (Judge run most) words (name, rest, given, e) = subst (λ w. fault_of svahost w ≡ []) (sym e) (takes_judge name rest given.0)
+taken_words (Judge run most strict) words (name, rest, given, e) = subst (λ w. fault_of svahost w ≡ []) (sym e) (takes_judge name rest given.0)
 taken_words (Trace live whys) words (name, rest, given, e) = subst (λ w. fault_of svahost w ≡ []) (sym e) (takes_trace name rest given.0)
 taken_words (Storm turns) words (name, rest, given, inl e) = subst (λ w. fault_of svahost w ≡ []) (sym e) (unfaulted name rest (given_taken turns rest given)).0
 taken_words (Storm turns) words (name, rest, given, inr e) = subst (λ w. fault_of svahost w ≡ []) (sym e) (unfaulted name rest (given_taken turns rest given)).1
-
-pub takes : (asked : Asked) (words : List Text) → Asks asked words → faults_of words ≡ []
-unfolding faults_of
-takes asked words asks = taken_words asked words asks
-
--- what clap says of the command line is said of these words
-pub untaken : (words : List Text) → fault_of svahost words ≡ [] → faults_of words ≡ []
-unfolding faults_of
-untaken words e = e
-
-pub faulted : (words : List Text) (error : Error) → HasKind (fault_of svahost words) error → HasKind (faults_of words) error
-unfolding faults_of
-faulted words error has = has
 
 pub is_free : is_simple_and_free svahost ≡ true
 unfolding clap_on_literals

@@ -1,23 +1,27 @@
 -- Words ask for one command, and clap enters that.
 use Rattle.std.proofs.Common.{◌≡◌, inl, inr, refl, sym, subst, ap, ◌∙◌, ℕ, Bool, true, false, List, [], ◌∷◌, ◌++◌, Some, codes}
-use Rattle.std.proofs.Common.{unwrap_or}
+use Rattle.std.proofs.Common.{unwrap_or, IfOk, Result, Ok, Err}
 use Rattle.std.specs.Str.{bytes_eq}
 use Rattle.std.proofs.lemmas.Slice.Eq.{bytes_eq-Decides}
 use Rattle.std.specs.Str.Parse.{digits_value, without_leading_plus}
-use Rattle.clap.specs.Words.{IsUnsignedIn, Text, built}
+use Rattle.clap.specs.Words.{FailsBy, HasKind, IsAmong, IsUnsignedIn, Kinds, Text, built, fault_of}
+use Rattle.clap.specs.Kinds.{or_else}
 use Rattle.clap.specs.Simple.{HasMatchesOf, entered, subcommand_of, subcommand_rows_of}
+use Rattle.clap.specs.declared.error.Error.{Error}
+use Rattle.clap.specs.declared.error.kind.ErrorKind.{ErrorKind}
 use Rattle.clap.specs.declared.parser.matches.ArgMatches.{ArgMatches}
 use Rattle.clap.specs.Walk.{rows_after, nothing_held, walk_from}
 use Rattle.clap.proofs.OnLiterals.{clap_on_literals}
 use Rattle.clap.proofs.ValueTestLemmas.{accepts-Accepts}
 use Rattle.sva_command.specs.declared.command.Asked.{Asked}
 use Rattle.sva_command.specs.declared.command.Asked.TheVariants.{Replay, Check, Storm, Plain, Test, Show, Why, Chart, Explore, Judge, Trace}
-use Rattle.sva_command.specs.Command.{Asks, faults_of, GivesTurns, IsCommand, IsReadable, apart, asked_by, attached, chart_shape, is_given}
-use Rattle.sva_command.specs.Command.{explore_shape, judge_shape, most_by, most_text, svahost, trace_shape, turns_by, turns_text, usual}
+use Rattle.sva_command.specs.Command.{Asks, AsksRun, Enters, faults_of, GivesTurns, IsCommand, IsReadable, apart, asked_by, attached, chart_shape}
+use Rattle.sva_command.specs.Command.{explore_shape, is_given, judge_shape, most_by, most_text, own_faults, svahost, trace_shape, turns_by, turns_text, usual}
 use Rattle.sva_command.proofs.TakenLemmas.{found, text_accepted, text_of}
 use Rattle.sva_command.proofs.TurnLemmas.{is_accepted, parser, rules as storm_rules}
 use Rattle.sva_command.proofs.LineLemmas.{Bare, word_of, asked_of, storm, chart, explore, judge, trace, gathers}
-use Rattle.sva_command.proofs.LineLemmas.{asks_run, given_taken}
+use Rattle.sva_command.proofs.FlagLemmas.{left, right}
+use Rattle.sva_command.proofs.LineLemmas.{asks_run, given_taken, taken_words}
 use Rattle.sva_command.proofs.LineLemmas.Bare.{replaying, checking, printing, testing, showing, explaining}
 
 -- ---- which command the words ask for
@@ -100,11 +104,15 @@ tells_explore name rest most whys few_ends is are short =
       subst IsReadable (sym enters) (λ is_storm. absurd (is_other explore refl is_storm)),
     )
 
-tells_judge : (name : Text) (rest : List Text) (run : Bool) (most : ℕ) → run ≡ is_given (codes "run") (rows_after judge_shape.rules [] rest)
-    → most ≡ most_by (most_text (rows_after judge_shape.rules [] rest)) → Tells (Judge run most) (name ∷ judge ∷ rest)
-tells_judge name rest run most is are =
-    let enters = enters_judge name rest in
-    (ap asked_by enters ∙ (λ i. Judge (sym is i) (sym are i)), subst IsReadable (sym enters) (λ is_storm. absurd (is_other judge refl is_storm)))
+tells_judge : (name : Text) (rest : List Text) (run : Bool) (most : ℕ) (strict : Bool)
+    → run ≡ is_given (codes "run") (rows_after judge_shape.rules [] rest)
+    → most ≡ most_by (most_text (rows_after judge_shape.rules [] rest)) → strict ≡ is_given (codes "strict") (rows_after judge_shape.rules [] rest)
+    → Tells (Judge run most strict) (name ∷ judge ∷ rest)
+tells_judge name rest run most strict is are strictly =
+    let enters = enters_judge name rest in (
+      ap asked_by enters ∙ (λ i. Judge (sym is i) (sym are i) (sym strictly i)),
+      subst IsReadable (sym enters) (λ is_storm. absurd (is_other judge refl is_storm)),
+    )
 
 tells_trace : (name : Text) (rest : List Text) (live whys : Bool) → live ≡ is_given (codes "live") (rows_after trace_shape.rules [] rest)
     → whys ≡ is_given (codes "why") (rows_after trace_shape.rules [] rest) → Tells (Trace live whys) (name ∷ trace ∷ rest)
@@ -118,7 +126,7 @@ tells_chart name rest svg is =
     let enters = enters_chart name rest in
     (ap asked_by enters ∙ ap Chart (sym is), subst IsReadable (sym enters) (λ is_storm. absurd (is_other chart refl is_storm)))
 
-tells : (asked : Asked) (words : List Text) → Asks asked words → Tells asked words
+tells : (asked : Asked) (words : List Text) → Enters asked words → Tells asked words
 tells Replay words is = bare_tells replaying words is
 tells Check words is = bare_tells checking words is
 tells Plain words is = bare_tells printing words is
@@ -128,7 +136,8 @@ tells Why words is = bare_tells explaining words is
 tells (Chart svg) words (name, rest, given, e) = subst (Tells (Chart svg)) (sym e) (tells_chart name rest svg given.1)
 tells (Explore most whys few_ends) words (name, rest, given, e) =
     subst (Tells (Explore most whys few_ends)) (sym e) (tells_explore name rest most whys few_ends given.1 given.2 given.3)
-tells (Judge run most) words (name, rest, given, e) = subst (Tells (Judge run most)) (sym e) (tells_judge name rest run most given.1 given.2)
+tells (Judge run most strict) words (name, rest, given, e) =
+    subst (Tells (Judge run most strict)) (sym e) (tells_judge name rest run most strict given.1 given.2 given.3)
 tells (Trace live whys) words (name, rest, given, e) = subst (Tells (Trace live whys)) (sym e) (tells_trace name rest live whys given.1 given.2)
 tells (Storm turns) words (name, rest, given, inl e) =
     let t = given_taken turns rest given in
@@ -140,16 +149,54 @@ tells (Storm turns) words (name, rest, given, inr e) =
     (tells_storm name (text_of rest t) turns (rest ++ codes "--" ∷ []) (found rest t).1 (text_accepted rest t) (given_number turns rest given))
 
 -- where clap finds no fault, the words ask for the command that was made of what it entered
-pub asks_entered : (words : List Text) (m : ArgMatches) (asked : Asked) → faults_of words ≡ [] → HasMatchesOf svahost words m
+pub asks_entered : (words : List Text) (m : ArgMatches) (asked : Asked) → fault_of svahost words ≡ [] → HasMatchesOf svahost words m
     → (IsReadable (subcommand_rows_of m) → asked ≡ asked_by (subcommand_rows_of m))
-    → Asks asked words
-unfolding clap_on_literals faults_of
+    → Enters asked words × (asked ≡ asked_by (subcommand_of svahost words))
+unfolding clap_on_literals
 asks_entered words m asked none has made =
     let run = asks_run words none in
     let told = tells run.0 words run.1 in
     let same = (has refl).1 in
-    subst (λ a. Asks a words) (sym (made (subst IsReadable (sym same) told.1) ∙ ap asked_by same ∙ told.0)) run.1
+    let is = made (subst IsReadable (sym same) told.1) ∙ ap asked_by same in
+    (subst (λ a. Enters a words) (sym (is ∙ told.0)) run.1, is)
 
 -- no words ask for two commands
 pub one_alone : (asked other : Asked) (words : List Text) → Asks asked words → Asks other words → asked ≡ other
-one_alone asked other words p q = sym (tells asked words p).0 ∙ (tells other words q).0
+one_alone asked other words p q = sym (tells asked words p.0).0 ∙ (tells other words q.0).0
+
+-- ---- the faults of words
+
+-- where clap finds none, they are those of the command
+pub own_alone : (words : List Text) → fault_of svahost words ≡ [] → faults_of words ≡ own_faults (asked_by (subcommand_of svahost words))
+unfolding faults_of
+own_alone words none = ap (λ kinds. or_else kinds (own_faults (asked_by (subcommand_of svahost words)))) none
+
+-- what asks for a command has none
+pub takes : (asked : Asked) (words : List Text) → Asks asked words → faults_of words ≡ []
+takes asked words asks =
+    own_alone words (taken_words asked words asks.0) ∙ ap own_faults (tells asked words asks.0).0 ∙ asks.1
+
+-- and what has none asks for a command
+pub asked_after_all : (words : List Text) → (AsksRun words → ⊥) → faults_of words ≡ [] → ⊥
+unfolding faults_of
+asked_after_all words other none =
+    let run = asks_run words (left (fault_of svahost words) (own_faults (asked_by (subcommand_of svahost words))) none) in
+    let own = right (fault_of svahost words) (own_faults (asked_by (subcommand_of svahost words))) none in
+    other (run.0, (run.1, ap own_faults (sym (tells run.0 words run.1).0) ∙ own))
+
+among_first : (kind : ErrorKind) (kinds other : Kinds) → IsAmong kind kinds → IsAmong kind (or_else kinds other)
+among_first kind [] other among = absurd among
+among_first kind (first ∷ rest) other among = among
+
+-- those that clap finds are among them
+pub faulted : (words : List Text) (error : Error) → HasKind (fault_of svahost words) error → HasKind (faults_of words) error
+unfolding faults_of
+faulted words error (inl memory) = inl memory
+faulted words error (inr among) = inr (among_first _ (fault_of svahost words) _ among)
+
+-- the command is asked for where it can be meant
+pub asked_meant : (words : List Text) (entered : Asked) (result : Result Asked Error) → Enters entered words → FailsBy (own_faults entered) result
+    → IfOk result (λ meant. meant ≡ entered)
+    → IfOk result (λ asked. Asks asked words)
+asked_meant words entered (Ok meant) enters none is = subst (λ asked. Asks asked words) (sym is) (enters, none)
+asked_meant words entered (Err error) enters fails is = tt

@@ -5,6 +5,8 @@ use Rattle.std.specs.Option.{option_map_or}
 use Rattle.std.specs.Str.{bytes_eq}
 use Rattle.std.specs.Str.Parse.{digits_value, without_leading_plus}
 use Rattle.clap.specs.Faults.{level_fault}
+use Rattle.clap.specs.Kinds.{or_else}
+use Rattle.clap.specs.Simple.{subcommand_of}
 use Rattle.clap.specs.ValueTests.{is_unsigned_in}
 use Rattle.clap.specs.Walk.{first_of, nothing_held, rows_after}
 use Rattle.clap.specs.Words.{App, IsAmong, IsUnsignedIn, Kinds, Row, Rule, Shape, Text, built, fault_of, new_app, new_rule, one_of}
@@ -12,7 +14,7 @@ use Rattle.clap.specs.Words.{with_rule, with_subcommand}
 use Rattle.clap.specs.declared.builder.action.ArgAction.TheVariants.{Set, SetTrue}
 use Rattle.clap.specs.declared.builder.value_parser.ValueParser.TheVariants.{Unsigned}
 use Rattle.clap.specs.declared.error.kind.ErrorKind.{ErrorKind}
-use Rattle.clap.specs.declared.error.kind.ErrorKind.TheVariants.{DisplayHelp, DisplayVersion}
+use Rattle.clap.specs.declared.error.kind.ErrorKind.TheVariants.{ArgumentConflict, DisplayHelp, DisplayVersion}
 use Rattle.sva_command.specs.declared.command.Asked.{Asked}
 use Rattle.sva_command.specs.declared.command.Asked.TheVariants.{Replay, Check, Storm, Plain, Test, Show, Why, Chart, Explore, Judge, Trace}
 
@@ -45,9 +47,13 @@ abbrev pub no_commands : App
 no_commands = let plain = new_app (codes "svahost") in
     record plain { top = record plain.top { has_version = true; subcommand_required = true; disable_help_subcommand = true } }
 
+-- the command `judge`
+abbrev pub judge_app : App
+judge_app = with_rule (with_rule (with_rule (new_app (codes "judge")) most_rule) (flag_rule (codes "run"))) (flag_rule (codes "strict"))
+
 -- `svahost` with a version and its commands: `storm`, which takes `--turns`, `chart`, which takes `--svg`, `explore`, which takes `--most`,
--- `--why` and `--ends`, `judge`, which takes `--most` and `--run`, `trace`, which takes `--live` and `--why`, and those that take no arguments;
--- each has clap's flags for help
+-- `--why` and `--ends`, `judge`, which takes `--most`, `--run` and `--strict`, `trace`, which takes `--live` and `--why`, and those that take no
+-- arguments; each has clap's flags for help
 abbrev pub svahost : App
 svahost =
     let replaying = with_subcommand no_commands (new_app (codes "replay")).top in
@@ -60,12 +66,8 @@ svahost =
     let charting = with_subcommand explaining (with_rule (new_app (codes "chart")) (flag_rule (codes "svg"))).top in
     let exploring = with_subcommand charting
     (with_rule (with_rule (with_rule (new_app (codes "explore")) most_rule) (flag_rule (codes "why"))) (flag_rule (codes "ends"))).top in
-    let judging = with_subcommand exploring (with_rule (with_rule (new_app (codes "judge")) most_rule) (flag_rule (codes "run"))).top in
+    let judging = with_subcommand exploring judge_app.top in
     with_subcommand judging (with_rule (with_rule (new_app (codes "trace")) (flag_rule (codes "live"))) (flag_rule (codes "why"))).top
-
--- the faults of words, by clap's definitions
-unfoldable pub faults_of : List Text → Kinds
-faults_of words = fault_of svahost words
 
 -- the words of a command line as texts
 abbrev pub texts : {Z : Type 0} → List (String Z) → List Text
@@ -169,16 +171,18 @@ GivesFlags live whys words =
 abbrev pub IsTrace : (live whys : Bool) → List Text → Type 0
 IsTrace live whys words = (name : Text) × (rest : List Text) × GivesFlags live whys rest × (words ≡ name ∷ codes "trace" ∷ rest)
 
--- the words behind `judge`, by clap's definitions: they have no fault, `--run` is among them or not, and they give this number
-abbrev pub GivesJudge : (run : Bool) → (most : ℕ) → List Text → Type 0
-GivesJudge run most words =
+-- the words behind `judge`, by clap's definitions: they have no fault, `--run` and `--strict` are among them or not, and they give this number
+abbrev pub GivesJudge : (run : Bool) → (most : ℕ) → (strict : Bool) → List Text → Type 0
+GivesJudge run most strict words =
     (level_fault judge_shape [] nothing_held words false [] ≡ [])
     × (run ≡ is_given (codes "run") (rows_after judge_shape.rules [] words))
     × (most ≡ most_by (most_text (rows_after judge_shape.rules [] words)))
+    × (strict ≡ is_given (codes "strict") (rows_after judge_shape.rules [] words))
 
--- the words are the program's name, `judge`, and words that say this of `--run` and of `--most`
-abbrev pub IsJudge : (run : Bool) → (most : ℕ) → List Text → Type 0
-IsJudge run most words = (name : Text) × (rest : List Text) × GivesJudge run most rest × (words ≡ name ∷ codes "judge" ∷ rest)
+-- the words are the program's name, `judge`, and words that say this of `--run`, of `--most` and of `--strict`
+abbrev pub IsJudge : (run : Bool) → (most : ℕ) → (strict : Bool) → List Text → Type 0
+IsJudge run most strict words =
+    (name : Text) × (rest : List Text) × GivesJudge run most strict rest × (words ≡ name ∷ codes "judge" ∷ rest)
 
 -- the words behind `chart`, by clap's definitions: they have no fault, and `--svg` is among them or not
 abbrev pub GivesSvg : Bool → List Text → Type 0
@@ -189,19 +193,28 @@ GivesSvg svg words =
 abbrev pub IsChart : Bool → List Text → Type 0
 IsChart svg words = (name : Text) × (rest : List Text) × GivesSvg svg rest × (words ≡ name ∷ codes "chart" ∷ rest)
 
--- the words ask for this command
+-- by clap's definitions the words ask for this command
+abbrev pub Enters : Asked → List Text → Type 0
+Enters Replay words = IsCommand (codes "replay") words
+Enters Check words = IsCommand (codes "check") words
+Enters (Storm turns) words = IsStorm turns words
+Enters Plain words = IsCommand (codes "plain") words
+Enters Test words = IsCommand (codes "test") words
+Enters Show words = IsCommand (codes "show") words
+Enters Why words = IsCommand (codes "why") words
+Enters (Chart svg) words = IsChart svg words
+Enters (Explore most whys few_ends) words = IsExplore most whys few_ends words
+Enters (Judge run most strict) words = IsJudge run most strict words
+Enters (Trace live whys) words = IsTrace live whys words
+
+-- `--strict` is of a verdict on all orders, and with `--run` there is none
+abbrev pub own_faults : Asked → Kinds
+own_faults (Judge true most true) = ArgumentConflict ∷ []
+own_faults asked = []
+
+-- the words ask for this command, and it can be meant
 abbrev pub Asks : Asked → List Text → Type 0
-Asks Replay words = IsCommand (codes "replay") words
-Asks Check words = IsCommand (codes "check") words
-Asks (Storm turns) words = IsStorm turns words
-Asks Plain words = IsCommand (codes "plain") words
-Asks Test words = IsCommand (codes "test") words
-Asks Show words = IsCommand (codes "show") words
-Asks Why words = IsCommand (codes "why") words
-Asks (Chart svg) words = IsChart svg words
-Asks (Explore most whys few_ends) words = IsExplore most whys few_ends words
-Asks (Judge run most) words = IsJudge run most words
-Asks (Trace live whys) words = IsTrace live whys words
+Asks asked words = Enters asked words × (own_faults asked ≡ [])
 
 -- the command that clap entered, by its name and by what was found of `--turns`
 abbrev pub turns_text : List Row → Option Text
@@ -225,9 +238,13 @@ asked_by (Some (name, rows)) =
     if bytes_eq name (codes "why") then Why else
     if bytes_eq name (codes "chart") then Chart (is_given (codes "svg") rows) else
     if bytes_eq name (codes "explore") then Explore (most_by (most_text rows)) (is_given (codes "why") rows) (is_given (codes "ends") rows) else
-    if bytes_eq name (codes "judge") then Judge (is_given (codes "run") rows) (most_by (most_text rows)) else
+    if bytes_eq name (codes "judge") then Judge (is_given (codes "run") rows) (most_by (most_text rows)) (is_given (codes "strict") rows) else
     if bytes_eq name (codes "trace") then Trace (is_given (codes "live") rows) (is_given (codes "why") rows) else
     Replay
+
+-- the faults of words: those that clap's definitions find, and where they find none, that of the command that was asked for
+unfoldable pub faults_of : List Text → Kinds
+faults_of words = or_else (fault_of svahost words) (own_faults (asked_by (subcommand_of svahost words)))
 
 -- what was found of `--turns` is a number of turns
 abbrev pub IsWritten : Option Text → Type 0
@@ -248,7 +265,11 @@ AsksExplore words = (most : ℕ) × (whys : Bool) × (few_ends : Bool) × Asks (
 
 -- the words ask for a driver to be judged, or its lines to be taken
 abbrev pub AsksJudge : List Text → Type 0
-AsksJudge words = (run : Bool) × (most : ℕ) × Asks (Judge run most) words
+AsksJudge words = (run : Bool) × (most : ℕ) × (strict : Bool) × Asks (Judge run most strict) words
+
+-- the words ask for a driver to be judged, and for a verdict that says nothing to have a status of its own
+abbrev pub AsksStrict : List Text → Type 0
+AsksStrict words = (most : ℕ) × Asks (Judge false most true) words
 
 -- a call for help: by a flag in the place of the command, whatever follows, or behind the command
 pub data CallsHelp (words : List Text) : Type 0 where

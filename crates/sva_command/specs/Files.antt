@@ -1,4 +1,4 @@
--- The files that `explore` and `judge` name, and the part of them that is searched.
+-- The files that `explore` and `judge` name, the part of them that is searched, and how many are searched at once.
 use Rattle.std.specs.Prelude.{ℕ, ◌+◌, ◌-◌, ◌==◌, ◌&&◌, ◌||◌, nat_le, if◌then◌else◌, Bool, List, [], ◌∷◌, ◌++◌, codes, drop, length, take}
 use Rattle.std.specs.Prelude.{Option, Some, None, Result, Ok}
 use Rattle.std.specs.List.{position}
@@ -14,15 +14,16 @@ use Rattle.sva_command.specs.declared.files.Part.{Part}
 
 -- ---- The words
 
--- the words that are left for the command line, the files, what was said of the part, and what the next word is
+-- the words that are left for the command line, the files, what was said of the part and of how many at once, and what the next word is
 pub record Named : Type 0 where
   pub own : List Text
   pub files : List Text
   pub part : Option Text
+  pub jobs : Option Text
   pub awaited : Awaited
 
 abbrev pub begun : (name command : Text) → Named
-begun name command = record { own = name ∷ command ∷ []; files = []; part = None; awaited = awaited.Word }
+begun name command = record { own = name ∷ command ∷ []; files = []; part = None; jobs = None; awaited = awaited.Word }
 
 abbrev pub with_own : Named → Text → Named
 with_own named word = record named { own = named.own ++ word ∷ [] }
@@ -32,6 +33,9 @@ with_file named word = record named { files = named.files ++ word ∷ [] }
 
 abbrev pub with_part : Named → Text → Named
 with_part named text = record named { part = Some text }
+
+abbrev pub with_jobs : Named → Text → Named
+with_jobs named text = record named { jobs = Some text }
 
 abbrev pub awaiting : Named → Awaited → Named
 awaiting named next = record named { awaited = next }
@@ -46,16 +50,20 @@ kind_of word =
     if bytes_eq word (codes "--most") then kind.Most else
     if bytes_eq word (codes "--part") then kind.Part else
     if begins word (codes "--part=") then kind.PartIs else
+    if bytes_eq word (codes "--jobs") then kind.Jobs else
+    if begins word (codes "--jobs=") then kind.JobsIs else
     if begins word (codes "-") then kind.Own else
     kind.File
 
--- `--` is left for the command line, and what stands behind it is a file; so is `--most` with the word behind it; of `--part`, whose part
--- stands in the next word or behind `=`, the command line has nothing
+-- `--` is left for the command line, and what stands behind it is a file; so is `--most` with the word behind it; of `--part` and
+-- `--jobs`, whose text stands in the next word or behind `=`, the command line has nothing
 abbrev pub with_kind : Kind → Named → Text → Named
 with_kind kind.Files named word = awaiting (with_own named word) awaited.File
 with_kind kind.Most named word = awaiting (with_own named word) awaited.Most
 with_kind kind.Part named word = awaiting named awaited.Part
 with_kind kind.PartIs named word = with_part named (drop 7 word)
+with_kind kind.Jobs named word = awaiting named awaited.Jobs
+with_kind kind.JobsIs named word = with_jobs named (drop 7 word)
 with_kind kind.Own named word = with_own named word
 with_kind kind.File named word = with_file named word
 
@@ -63,6 +71,7 @@ abbrev pub with_awaited : Awaited → Named → Text → Named
 with_awaited awaited.Word named word = with_kind (kind_of word) named word
 with_awaited awaited.Most named word = with_own (awaiting named awaited.Word) word
 with_awaited awaited.Part named word = with_part (awaiting named awaited.Word) word
+with_awaited awaited.Jobs named word = with_jobs (awaiting named awaited.Word) word
 with_awaited awaited.File named word = with_file named word
 
 abbrev pub with_word : Named → Text → Named
@@ -105,3 +114,12 @@ every count before (item ∷ items) =
 -- the files of a part: every N-th, from the K-th on
 abbrev pub files_of : Part → List Text → List Text
 files_of part files = every part.count (part.index - 1) files
+
+-- ---- How many at once
+
+abbrev pub jobs_by : Result ℕ Cause → Option ℕ
+jobs_by (Ok jobs) = if nat_le 1 jobs && nat_le jobs 256 then Some jobs else None
+jobs_by fault = None
+
+abbrev pub jobs_of : Text → Option ℕ
+jobs_of text = jobs_by (number text)

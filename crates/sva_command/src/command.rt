@@ -2,14 +2,16 @@
 
 ghost use Rattle.std.specs.Prelude.{◌≡◌, IfOk, codes, false};
 ghost use Rattle.clap.specs.Words.{FailsBy, app_of, found_of, new_app, rows_of, rule_of, subcommand_rows_of, with_rule, with_subcommand};
-ghost use Rattle.sva_command.specs.Command.{Asks, IsReadable, IsWritten, asked_by, faults_of, flag_rule, is_given, no_commands};
+ghost use Rattle.sva_command.specs.Command.{Asks, IsReadable, IsWritten, asked_by, faults_of, flag_rule, is_given, judge_app, no_commands, own_faults};
 ghost use Rattle.sva_command.specs.Command.{most_by, most_rule, most_text, svahost, texts, turns_by, turns_rule, turns_text, within};
 
 use crate::help::{
     ABOUT, CHART, CHECK, ENDS, EXPLORE, EXPLORE_USAGE, FILES, HELP, JUDGE, JUDGE_USAGE, LIVE, MOST,
-    PLAIN, REPLAY, RUN, SHOW, STORM, SVG, TEST, TRACE, TURNS, VERSION, WAITS, WHY, WHYS,
+    PLAIN, REPLAY, RUN, SHOW, STORM, STRICT, STRICT_RUN, SVG, TEST, TRACE, TURNS, VERSION, WAITS,
+    WHY, WHYS,
 };
 use clap::builder::ValueParser;
+use clap::error::ErrorKind;
 use clap::{Arg, ArgAction, ArgMatches, Command, Error};
 use std::alloc::{AllocError, Global};
 
@@ -65,6 +67,8 @@ pub enum Asked {
         run: bool,
         /// How many moments are looked at at most: 1 to 1000000000.
         most: u64,
+        /// Does a verdict that says nothing have a status of its own? Not where the lines are taken one after another.
+        strict: bool,
     },
     /// Each step of a script with its answer and its messages, as it comes.
     Trace {
@@ -169,9 +173,7 @@ fn flag<'a>(alloc: Global, name: &'a str, about: &'a str) -> Arg<'a>
 
 /// The program with its command `judge`.
 fn with_judge<'a>(svahost: Command<'a>, alloc: Global) -> Result<Command<'a>, AllocError>
-    ensures { IfOk result (λ command. app_of command
-        ≡ with_subcommand (app_of svahost.entry) (with_rule (with_rule (new_app (codes "judge"))
-        most_rule) (flag_rule (codes "run"))).top) }
+    ensures { IfOk result (λ command. app_of command ≡ with_subcommand (app_of svahost.entry) judge_app.top) }
 {
     let judge = Command::new(alloc, "judge")
         .about(JUDGE)
@@ -180,7 +182,8 @@ fn with_judge<'a>(svahost: Command<'a>, alloc: Global) -> Result<Command<'a>, Al
         .after_help(files_help());
     let with_most = judge.arg(most_option(alloc))?;
     let with_run = with_most.arg(flag(alloc, "run", RUN))?;
-    svahost.subcommand(with_run)
+    let with_strict = with_run.arg(flag(alloc, "strict", STRICT))?;
+    svahost.subcommand(with_strict)
 }
 
 /// The program with its command `trace`.
@@ -247,8 +250,27 @@ pub fn parse(alloc: Global, words: &[String]) -> Result<Asked, Error>
     ensures asked { IfOk result (λ asked. Asks asked (texts words.now)) }
 {
     match command(alloc)?.try_get_matches_from(words) {
-        Ok(matches) => Ok(entered(&matches)),
+        Ok(matches) => meant(alloc, entered(&matches)),
         Err(error) => Err(error),
+    }
+}
+
+/// A command that was entered, unless that can't be meant: `--strict` is of a verdict on all orders, and with `--run` there is
+/// none.
+fn meant(alloc: Global, asked: Asked) -> Result<Asked, Error>
+    ensures fails { FailsBy (own_faults asked) result }
+    ensures asked { IfOk result (λ meant. meant ≡ asked) }
+{
+    match asked {
+        Asked::Judge {
+            run: true,
+            strict: true,
+            ..
+        } => {
+            let mut judge = Command::new(alloc, "judge").override_usage(JUDGE_USAGE);
+            Err(judge.error(ErrorKind::ArgumentConflict, STRICT_RUN)?)
+        }
+        _ => Ok(asked),
     }
 }
 
@@ -276,6 +298,7 @@ fn entered(matches: &ArgMatches<'_>) -> Asked
         Some(("judge", below)) => Asked::Judge {
             run: is_given(below, "run"),
             most: most(below),
+            strict: is_given(below, "strict"),
         },
         Some(("trace", below)) => Asked::Trace {
             live: is_given(below, "live"),

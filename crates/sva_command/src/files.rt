@@ -1,4 +1,4 @@
-//! The files that `explore` and `judge` name, and the part of them that is searched.
+//! The files that `explore` and `judge` name, the part of them that is searched, and how many are searched at once.
 
 ghost use Rattle.std.specs.Prelude.{◌≡◌, ◌≤◌, ◌+◌, IfOk, IfSome, MatchOption, OnOk, Ok, drop, length, map, option_map, string_bytes, take, true};
 ghost use Rattle.std.specs.List.{position};
@@ -13,6 +13,9 @@ use sva_words::is;
 /// How many parts there are at most.
 const MOST_PARTS: u64 = 999_999;
 
+/// How many files are searched at once at most.
+const MOST_JOBS: u64 = 256;
+
 /// What the next word is.
 #[derive(Clone, Copy)]
 pub enum Awaited {
@@ -22,6 +25,8 @@ pub enum Awaited {
     Most,
     /// The part behind `--part`.
     Part,
+    /// The number behind `--jobs`.
+    Jobs,
     /// A file, whatever it looks like, since `--` came before.
     File,
 }
@@ -37,6 +42,10 @@ pub enum Kind {
     Part,
     /// `--part=` with the part.
     PartIs,
+    /// `--jobs`.
+    Jobs,
+    /// `--jobs=` with the number.
+    JobsIs,
     /// Another option.
     Own,
     /// A file.
@@ -63,6 +72,10 @@ fn kind_of(word: &[u8]) -> Kind
         Kind::Part
     } else if begins(word, b"--part=") {
         Kind::PartIs
+    } else if is(word, b"--jobs") {
+        Kind::Jobs
+    } else if begins(word, b"--jobs=") {
+        Kind::JobsIs
     } else if begins(word, b"-") {
         Kind::Own
     } else {
@@ -79,6 +92,8 @@ pub struct Named {
     pub files: Vec<String>,
     /// What stands behind `--part`; of several the last one.
     pub part: Option<Vec<u8>>,
+    /// What stands behind `--jobs`; of several the last one.
+    pub jobs: Option<Vec<u8>>,
     /// What a further word would be.
     pub awaited: Awaited,
 }
@@ -94,6 +109,7 @@ impl Model for Named {
       own = texts named.own.items;
       files = texts named.files.items;
       part = option_map (λ part. part.items) named.part;
+      jobs = option_map (λ jobs. jobs.items) named.jobs;
       awaited = named.awaited;
     } };
 }
@@ -110,6 +126,7 @@ impl Named {
             own,
             files: Vec::new(alloc),
             part: None,
+            jobs: None,
             awaited: Awaited::Word,
         })
     }
@@ -135,6 +152,14 @@ impl Named {
         ensures { OnOk result (self.new ≡ files.with_part self.old text.now) }
     {
         self.part = Some(Vec::from_slice(alloc, text)?);
+        Ok(())
+    }
+
+    /// A text says how many are searched at once.
+    fn set_jobs(&mut self, alloc: Global, text: &[u8]) -> Result<(), AllocError>
+        ensures { OnOk result (self.new ≡ files.with_jobs self.old text.now) }
+    {
+        self.jobs = Some(Vec::from_slice(alloc, text)?);
         Ok(())
     }
 
@@ -165,6 +190,11 @@ impl Named {
                 Ok(())
             }
             Kind::PartIs => self.set_part(alloc, behind_equals(word.as_bytes())),
+            Kind::Jobs => {
+                self.await_next(Awaited::Jobs);
+                Ok(())
+            }
+            Kind::JobsIs => self.set_jobs(alloc, behind_equals(word.as_bytes())),
             Kind::Own => self.keep(alloc, word),
             Kind::File => self.name(alloc, word),
         }
@@ -185,6 +215,10 @@ impl Named {
                 self.await_next(Awaited::Word);
                 self.set_part(alloc, word.as_bytes())
             }
+            Awaited::Jobs => {
+                self.await_next(Awaited::Word);
+                self.set_jobs(alloc, word.as_bytes())
+            }
             Awaited::File => self.name(alloc, word),
         }
     }
@@ -200,7 +234,7 @@ impl Named {
     }
 }
 
-/// What stands behind `--part=`.
+/// What stands behind `--part=` or `--jobs=`.
 fn behind_equals(word: &[u8]) -> &[u8]
     ensures { result.now ≡ drop 7 word.entry.now }
 {
@@ -261,6 +295,23 @@ pub fn part_of(text: &[u8]) -> Option<Part>
         Some(at) => part_by(number_in(&text[..at]), number_in(&text[at + 1..])),
         None => None,
     }
+}
+
+/// A number of files that are searched at once.
+fn jobs_by(found: Result<u64, Cause>) -> Option<u64>
+    ensures { result ≡ files.jobs_by found }
+{
+    match found {
+        Ok(jobs) if 1 <= jobs && jobs <= MOST_JOBS => Some(jobs),
+        _ => None,
+    }
+}
+
+/// How many files a text says that are searched at once, if it says it: 1 to 256.
+pub fn jobs_of(text: &[u8]) -> Option<u64>
+    ensures { result ≡ files.jobs_of text.now }
+{
+    jobs_by(number_in(text))
 }
 
 /// The files of a part: every N-th, from the K-th on.

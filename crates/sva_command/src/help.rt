@@ -41,7 +41,8 @@ pub const EXPLORE: &str =
     "Follows every order of the race on standard input or in a FILE, and prints which claims hold";
 
 /// What `-h` says of `--most`.
-pub const MOST: &str = "How many moments are looked at at most, 1 to 1000000000";
+pub const MOST: &str =
+    "How many moments are looked at at most, 1 to 1000000000; files searched at once share them";
 
 /// What `-h` says of `--why` of `explore`.
 pub const WAITS: &str =
@@ -59,14 +60,23 @@ pub const JUDGE_USAGE: &str = "svahost judge [OPTIONS] [FILE]..";
 /// What the help of both says of files.
 pub static FILES: &str = "Files:
   [FILE]..      Read in the place of standard input; of several each has a line
-  --part <K/N>  Of the files every N-th is searched, from the K-th on";
+  --part <K/N>  Of the files every N-th is searched, from the K-th on
+  --jobs <N>    So many are searched at once, 1 to 256; if not given, one a processor";
 
 /// What `-h` says of `judge`.
 pub const JUDGE: &str =
     "Follows every order of the driver on standard input or in a FILE, and prints whether each is safe";
 
 /// What `-h` says of `--run`.
-pub const RUN: &str = "The lines are taken one after another, in the order in which they stand";
+pub const RUN: &str =
+    "The lines are taken one after another, as they stand: no other order is looked at";
+
+/// What `-h` says of `--strict`.
+pub const STRICT: &str =
+    "The status is 8 where nothing was ever tried, and the verdict so says nothing";
+
+/// What is told of `--strict` with `--run`.
+pub const STRICT_RUN: &str = "the argument '--strict' cannot be used with '--run'";
 
 /// What `-h` says of `trace`.
 pub const TRACE: &str =
@@ -111,7 +121,8 @@ what device, link and unit do beside its lines:
 `svahost judge FILE` follows every order, and prints `safe in all N moments`, or a shortest list of
 events behind which an endpoint may still use a frame that has another owner, say. Here that has 5
 events; with `await wait 0` above `free 0` the order is safe. `--most N` is how many moments are looked
-at, at most; `--run` takes the lines one after another instead. The acts stand further down.
+at, at most; `--run` takes the lines one after another instead, and looks at no other order; with
+`--strict` the status is 8 where nothing was ever tried. The acts stand further down.
 
 A scenario is a text on standard input, of at most 65536 lines and 1048576 bytes. Its first line is
 the config: how many endpoints, frames and workers there are. Each further line is a step. Words are
@@ -186,7 +197,8 @@ to its delivery; `--svg` as a picture. Each scenario is a script.
 A race is a script that leaves open who comes first. Behind the word `race` stand the lines of threads:
 of the host, of each endpoint, each unit and each worker, or those below `thread NAME`. Each thread
 keeps its order, and a line that is refused waits. The link, the units, the workers and the endpoints
-go on by themselves. Last stand the claims:
+go on by themselves. Last stand the claims, in which `usable FRAME [at E]` says that endpoint E, or any,
+may touch the frame:
 
     config 1 4 1
     s: space
@@ -197,7 +209,7 @@ go on by themselves. Last stand the claims:
     a: ask 0 b 0x10
     u: use 0 b 0x10 w
     out: unmap s 0x10
-    never usable 0 0 and out is free 0
+    never usable m at 0 and out is free m
     ends always done u
 
 `svahost explore` follows every order, and prints of each claim whether it holds, fails, or is unknown
@@ -206,8 +218,9 @@ each text; `--ends` prints no more than 20. A claim that fails has a witness, a 
 `replay` takes; so has a `sometimes` that holds. With `--why` stands behind each witness what `why`
 says of its steps, and which lines wait where it ends, with what holds them back.
 
-`svahost explore FILE ..` and `svahost judge FILE ..` search several files side by side and print a
-line for each, of one file the report; `--part K/N` is every N-th of them, from the K-th on.
+`svahost explore FILE ..` and `svahost judge FILE ..` search several files at once, `--jobs N` of them or
+one a processor, and print a line for each, of one file the report; `--part K/N` is every N-th of them,
+from the K-th on.
 
 The config, and the steps. E is an endpoint, S a space, B a binding, M a message, F a frame and W a
 worker, each numbered from 0, and a word in brackets may be missing:
@@ -268,8 +281,9 @@ The acts of a driver. S is any space, 0 to 63, P a PASID, 1 to 32, I a group's i
     lock L, unlock L       a lock that threads share
 
 Settings stand above the first act: `link free` or `posted`, `waits fence` or `plain`, `drain empty` or
-`arrived`, `caches off` or `on`, `stopped marker`, `status` or `known`. Threads, workers and devices are
-as in a race.
+`arrived`, `caches off` or `on`, `stopped marker`, `status` or `known`; and before these `platform vt-d`,
+which is `link posted`, `waits plain`, `drain arrived` and `caches on`, or `platform free`. Threads,
+workers and devices are as in a race.
 
 These steps send a message, and no others. Behind it stands what its delivery is answered:
 
@@ -301,9 +315,9 @@ A step that isn't allowed is answered `refused N Name`, changes nothing, and the
 a line can't be read nothing is run, and the report is that line's fault alone: `line 2 WordCount`.
 
 The status is 0 where the steps were run, refused ones too, where all claims of a race hold, where a
-driver is safe, and for help and the version; 1 for a line that can't be read, for a config that is
-out of its limits, for a bad audit, and for a fault of a stream or of memory, of which standard error
-tells in a line; 2 for a wrong command line, of which standard error tells too; 4 where a claim
+driver is safe, where nothing is wrong in one that `--run` takes, and for help and the version; 1 for a
+line that can't be read, for a config that is out of its limits, for a bad audit, and for a fault of a
+stream or of memory, of which standard error tells in a line; 2 for a wrong command line, of which standard error tells too; 4 where a claim
 fails, and where a driver is unsafe or stuck; and 5 where none fails and one is unknown, and where
 the search of a driver was cut off. The script svahost ends with 3 where it can't build the program.
 All else goes to standard output.

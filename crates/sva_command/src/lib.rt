@@ -6,5 +6,5 @@ mod files;
 mod help;
 
 pub use command::{Asked, parse};
-pub use files::{Awaited, Kind, Named, Part, files_of, named_in, part_of};
+pub use files::{Awaited, Kind, Named, Part, files_of, jobs_of, named_in, part_of};
 pub use help::NO_TEXT;

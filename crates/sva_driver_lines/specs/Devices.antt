@@ -24,11 +24,22 @@ unsaid = record { link = Free; all_fence = true; drain_empties = true; has_cache
 
 abbrev pub is_setting : (word : List ℕ) → Bool
 is_setting word =
-    bytes_eq word (codes "link")
+    bytes_eq word (codes "platform")
+    || bytes_eq word (codes "link")
     || bytes_eq word (codes "waits")
     || bytes_eq word (codes "drain")
     || bytes_eq word (codes "caches")
     || bytes_eq word (codes "stopped")
+
+-- a platform is all settings but one, which is the endpoint's: `vt-d` what Intel VT-d on PCI Express is, `free` what holds
+-- where nothing is said
+abbrev pub platform_set : Settings → List (List ℕ) → Result Settings DriverWrong
+platform_set settings words =
+    if says 1 (codes "vt-d") words
+    then Ok (record settings { link = Posted; all_fence = false; drain_empties = false; has_caches = true }) else
+    if says 1 (codes "free") words
+    then Ok (record settings { link = Free; all_fence = true; drain_empties = true; has_caches = false }) else
+    lacking 1 wanted.Platform
 
 abbrev pub link_set : Settings → List (List ℕ) → Result Settings DriverWrong
 link_set settings words =
@@ -63,6 +74,7 @@ stopped_set settings words =
 
 abbrev pub set : Settings → List (List ℕ) → Result Settings DriverWrong
 set settings words =
+    if says 0 (codes "platform") words then platform_set settings words else
     if says 0 (codes "link") words then link_set settings words else
     if says 0 (codes "waits") words then waits_set settings words else
     if says 0 (codes "drain") words then drain_set settings words else

@@ -149,7 +149,7 @@ act_line config reading number parts thread =
 
 -- ---- Lines that are no acts
 
--- a setting stands before the first act, and once
+-- a setting stands before the first act, and once; a platform before each other setting
 abbrev pub is_word : (word own : List ℕ) → Bool
 is_word word own = bytes_eq own word
 
@@ -157,6 +157,7 @@ abbrev pub set_line : Reading → List (List ℕ) → Result Reading DriverWrong
 set_line reading words =
     if nat_lt 0 (length reading.lines) then lacking 0 wanted.Earlier else
     if list_any (is_word (word_at 0 words)) reading.set then lacking 0 wanted.OneLine else
+    if says 0 (codes "platform") words && nat_lt 0 (length reading.set) then lacking 0 wanted.Ahead else
     (setting_line reading.settings words
     >>= λ settings. Ok (record reading { settings = settings; set = reading.set ++ word_at 0 words ∷ [] }))
 

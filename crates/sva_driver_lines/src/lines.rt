@@ -126,7 +126,7 @@ fn take_act(
     }
 }
 
-/// Takes a setting: before the first act, and once.
+/// Takes a setting: before the first act, and once; a platform before each other setting.
 fn take_setting(alloc: Global, reading: &mut Reading, words: &[&[u8]]) -> Result<(), DriverStop>
     ensures { Takes (readings.set_line reading.old (map (λ word. word.now) words.now)) reading.old reading.new result }
 {
@@ -135,6 +135,9 @@ fn take_setting(alloc: Global, reading: &mut Reading, words: &[&[u8]]) -> Result
     }
     if reading.is_set(word_at(words, 0)) {
         return Err(DriverStop::Wrong(lacking(0, DriverWanted::OneLine)));
+    }
+    if says(words, 0, b"platform") && reading.has_settings() {
+        return Err(DriverStop::Wrong(lacking(0, DriverWanted::Ahead)));
     }
     let settings = reading.setting_in(words).map_err(DriverStop::Wrong)?;
     match reading.set_settings(alloc, settings, word_at(words, 0)) {

@@ -422,6 +422,13 @@ impl Reading {
         is_among(self.set.as_slice(), word)
     }
 
+    /// Whether a setting was said.
+    pub(crate) fn has_settings(&self) -> bool
+        ensures { result ≡ nat_lt 0 (length self.now.set) }
+    {
+        self.set.len() > 0
+    }
+
     /// Keeps settings, of which one begins by this word.
     pub(crate) fn set_settings(
         &mut self,

@@ -12,11 +12,37 @@ use sva_words::is;
 pub(crate) fn is_setting(word: &[u8]) -> bool
     ensures { result ≡ devices.is_setting word.now }
 {
-    is(word, b"link")
+    is(word, b"platform")
+        || is(word, b"link")
         || is(word, b"waits")
         || is(word, b"drain")
         || is(word, b"caches")
         || is(word, b"stopped")
+}
+
+/// The settings of a platform: all but by what endpoints say that they have stopped.
+fn platform_set(settings: Settings, words: &[&[u8]]) -> Result<Settings, DriverWrong>
+    ensures { result ≡ devices.platform_set settings (map (λ word. word.now) words.now) }
+{
+    if says(words, 1, b"vt-d") {
+        return Ok(Settings {
+            link: Link::Posted,
+            all_fence: false,
+            drain_empties: false,
+            has_caches: true,
+            ..settings
+        });
+    }
+    if says(words, 1, b"free") {
+        return Ok(Settings {
+            link: Link::Free,
+            all_fence: true,
+            drain_empties: true,
+            has_caches: false,
+            ..settings
+        });
+    }
+    Err(lacking(1, DriverWanted::Platform))
 }
 
 fn link_set(settings: Settings, words: &[&[u8]]) -> Result<Settings, DriverWrong>
@@ -118,6 +144,9 @@ fn stopped_set(settings: Settings, words: &[&[u8]]) -> Result<Settings, DriverWr
 fn set(settings: Settings, words: &[&[u8]]) -> Result<Settings, DriverWrong>
     ensures { result ≡ devices.set settings (map (λ word. word.now) words.now) }
 {
+    if says(words, 0, b"platform") {
+        return platform_set(settings, words);
+    }
     if says(words, 0, b"link") {
         return link_set(settings, words);
     }

@@ -1,6 +1,6 @@
 -- Texts that are made of one piece for each of a list, at its place.
 use Rattle.std.proofs.Common.{◌≡◌, ◌∙◌, ◌<◌, ◌≤◌, ◌+◌, ap, append-nil, append_assoc, add-one, refl}
-use Rattle.std.proofs.Common.{sym, ℕ, suc, List, [], ◌∷◌, ◌++◌, length, get_or, drop}
+use Rattle.std.proofs.Common.{sym, ℕ, suc, List, [], ◌∷◌, ◌++◌, Bool, length, get_or, drop}
 use Rattle.std.proofs.Common.{Option, Some, None, true, false}
 use Rattle.std.specs.Prelude.{if◌then◌else◌, replicate, slice_get}
 use Rattle.std.proofs.lemmas.List.{drop_all, drop_more, replicate_more}
@@ -10,7 +10,10 @@ use Rattle.sva_open.specs.declared.works.Group.{Group}
 use Rattle.sva_judge.specs.Spots.{Spot}
 use Rattle.sva_judge.specs.declared.drivers.Device.{Device}
 use Rattle.sva_judge.specs.declared.drivers.Line.{Line}
+use Rattle.sva_judge.specs.declared.verdicts.Looked.{Looked}
 use Rattle.sva_driver_texts.specs.declared.kept.Text.{Text}
+use Rattle.sva_driver_reports.specs.Limits.{ask_text, asks_from}
+use Rattle.sva_driver_reports.specs.Nevers.{never_text, nevers_from}
 use Rattle.sva_driver_reports.specs.Reports.{budgets_from, group_text, groups_from, marked_text, part_text, parts_from, rows_from, stopping_text}
 use Rattle.sva_driver_reports.specs.Reports.{other_text, others_from, waiting_place, waits_by}
 use Rattle.sva_driver_reports.specs.Witness.{EventSaid, before_text, befores, conduct_text, conducts_from, wider}
@@ -146,6 +149,32 @@ module _ (mark : List ℕ) (of : List Part) (lines : List Line) where
       last_piece (λ i xs. budgets_from mark of lines i xs) (λ i x. marked_text mark of lines i x)
       budgets_none xs i out whole past so_far
 
+-- ---- Asks that lack
+
+module _ (has_caches : Bool) (lines : List Line) where
+  asks_more : (i : ℕ) (x : Device) (xs : List Device)
+      → asks_from has_caches lines i (x ∷ xs) ≡ ask_text has_caches lines i x ++ asks_from has_caches lines (i + 1) xs
+  unfolding asks_from
+  asks_more i x xs = refl
+
+  asks_none : (i : ℕ) → asks_from has_caches lines i [] ≡ []
+  unfolding asks_from
+  asks_none i = refl
+
+  pub asks_next : (xs : List Device) (i : ℕ) (blank : Device) (out new whole : List ℕ) → i < length xs
+      → out ++ asks_from has_caches lines i (drop i xs) ≡ whole
+      → new ≡ out ++ ask_text has_caches lines i (get_or xs i blank)
+      → new ++ asks_from has_caches lines (i + 1) (drop (i + 1) xs) ≡ whole
+  asks_next xs i blank out new whole inside so_far is =
+      next_piece (λ i xs. asks_from has_caches lines i xs) (λ i x. ask_text has_caches lines i x)
+      asks_more xs i blank out new whole inside so_far is
+
+  pub asks_end : (xs : List Device) (i : ℕ) (out whole : List ℕ) → length xs ≤ i
+      → out ++ asks_from has_caches lines i (drop i xs) ≡ whole → out ≡ whole
+  asks_end xs i out whole past so_far =
+      last_piece (λ i xs. asks_from has_caches lines i xs) (λ i x. ask_text has_caches lines i x)
+      asks_none xs i out whole past so_far
+
 -- ---- The lines before `race`
 
 pub none_before : (text : Text) → befores text 0 ≡ []
@@ -216,6 +245,29 @@ module _ (text : Text) (spot : Spot) (first : ℕ) where
       last_piece (λ i xs. others_from text spot first i xs)
       (λ i x. other_text spot first i x (slice_get text.said.items i))
       others_none xs i out whole past so_far
+
+-- ---- What never happened
+
+module _ (devices : List Device) (lines : List Line) where
+  nevers_more : (i : ℕ) (x : Looked) (xs : List Looked)
+      → nevers_from devices lines (x ∷ xs) ≡ never_text devices lines x ++ nevers_from devices lines xs
+  unfolding nevers_from
+  nevers_more i x xs = refl
+
+  nevers_none : (i : ℕ) → nevers_from devices lines [] ≡ []
+  unfolding nevers_from
+  nevers_none i = refl
+
+  pub nevers_next : (xs : List Looked) (i : ℕ) (blank : Looked) (out new whole : List ℕ) → i < length xs
+      → out ++ nevers_from devices lines (drop i xs) ≡ whole → new ≡ out ++ never_text devices lines (get_or xs i blank)
+      → new ++ nevers_from devices lines (drop (i + 1) xs) ≡ whole
+  nevers_next xs i blank out new whole inside so_far is =
+      next_piece (λ i xs. nevers_from devices lines xs) (λ i x. never_text devices lines x) nevers_more xs i blank out new whole inside so_far is
+
+  pub nevers_end : (xs : List Looked) (i : ℕ) (out whole : List ℕ) → length xs ≤ i
+      → out ++ nevers_from devices lines (drop i xs) ≡ whole → out ≡ whole
+  nevers_end xs i out whole past so_far =
+      last_piece (λ i xs. nevers_from devices lines xs) (λ i x. never_text devices lines x) nevers_none xs i out whole past so_far
 
 -- ---- Widths
 

@@ -1,4 +1,6 @@
 pub mod Events
 pub mod Findings
+pub mod Limits
+pub mod Nevers
 pub mod Reports
 pub mod Witness

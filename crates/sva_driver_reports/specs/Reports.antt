@@ -13,14 +13,16 @@ use Rattle.sva_judge.specs.declared.drivers.Device.{Device}
 use Rattle.sva_judge.specs.declared.drivers.Line.{Line}
 use Rattle.sva_judge.specs.Choices.{is_next}
 use Rattle.sva_judge.specs.Spots.{Spot, start_of}
+use Rattle.sva_judge.specs.declared.verdicts.Looked.{Looked}
 use Rattle.sva_judge.specs.declared.verdicts.Verdict.{Verdict}
 use Rattle.sva_judge.specs.declared.verdicts.Verdict.TheVariants as verdict
 use Rattle.sva_driver_texts.specs.Budgets.{is_pageless, is_unasked, is_unstarted}
 use Rattle.sva_driver_texts.specs.declared.kept.Said.{Said}
 use Rattle.sva_driver_texts.specs.declared.kept.Text.{Text}
 use Rattle.sva_driver_words.specs.Pieces.{and_number, counted_text, with_endpoint}
-use Rattle.sva_driver_words.specs.Platforms.{platform_text}
+use Rattle.sva_driver_reports.specs.Limits.{limits_text}
 use Rattle.sva_driver_reports.specs.Findings.{wrong_text}
+use Rattle.sva_driver_reports.specs.Nevers.{is_tried, nevers_text, untried_text}
 use Rattle.sva_driver_reports.specs.Witness.{EventSaid, events_from, events_text, front_text, last_spot, line_who, said_if}
 use Rattle.sva_driver_reports.specs.declared.reports.Ruling.{Ruling}
 use Rattle.sva_driver_reports.specs.declared.reports.Ruling.TheVariants as ruling
@@ -184,23 +186,25 @@ stuck_text text choices =
     ++ parts_from 0 (behind text choices).world.parts
     ++ budgets_text (codes "# ") text ++ witness_text text choices
 
-abbrev pub safe_text : Text → (moments : ℕ) → List ℕ
-safe_text text moments =
-    codes "safe in all " ++ moments_text moments ++ 10 ∷ budgets_text (codes "") text
-    ++ platform_text text.driver.start.settings
+abbrev pub safe_line : (moments : ℕ) → (tried : Bool) → List ℕ
+safe_line moments tried = codes "safe in all " ++ moments_text moments ++ untried_text tried ++ 10 ∷ []
+
+abbrev pub safe_text : Text → (moments : ℕ) → List Looked → List ℕ
+safe_text text moments looked =
+    safe_line moments (is_tried looked) ++ budgets_text (codes "") text ++ limits_text text ++ nevers_text text looked
 
 abbrev pub cut_text : (moments events : ℕ) → List ℕ
 cut_text moments events =
     codes "cut off at " ++ moments_text moments ++ codes ": safe in each list of fewer than " ++ events_count events ++ 10 ∷ []
 
 abbrev pub report_text : Text → Verdict → List ℕ
-report_text text (verdict.Safe moments) = safe_text text moments
+report_text text (verdict.Safe moments looked) = safe_text text moments looked.items
 report_text text (verdict.Unsafe witness) = unsafe_text text witness.items
 report_text text (verdict.Stuck witness moments) = stuck_text text witness.items
 report_text text (verdict.CutOff moments events) = cut_text moments events
 
 abbrev pub ruling_of : Verdict → Ruling
-ruling_of (verdict.Safe moments) = ruling.Safe
+ruling_of (verdict.Safe moments looked) = if is_tried looked.items then ruling.Safe else ruling.Untried
 ruling_of (verdict.Unsafe witness) = ruling.Unsafe
 ruling_of (verdict.Stuck witness moments) = ruling.Stuck
 ruling_of (verdict.CutOff moments events) = ruling.CutOff

@@ -4,6 +4,8 @@
 mod events;
 mod findings;
 mod fronts;
+mod limits;
+mod nevers;
 mod notes;
 mod reports;
 mod witness;

@@ -6,12 +6,14 @@ ghost use Rattle.sva_driver_reports.specs.Reports as reports;
 
 use crate::findings::put_wrong;
 use crate::fronts::put_front;
+use crate::limits::put_limits;
+use crate::nevers::{is_tried, put_nevers, put_untried};
 use crate::notes::{put_budgets, put_others, put_state, put_waiting};
 use crate::witness::{Event, events_of, put_events};
 use std::alloc::{AllocError, Global};
 use sva_driver_texts::Text;
-use sva_driver_words::{put_counted, put_platform};
-use sva_judge::{Choice, Spot, Verdict, start};
+use sva_driver_words::put_counted;
+use sva_judge::{Choice, Looked, Spot, Verdict, start};
 use sva_open_wrongs::first_wrong;
 
 /// What is said of a driver.
@@ -19,6 +21,10 @@ use sva_open_wrongs::first_wrong;
 pub enum Ruling {
     /// Each permitted list of events is safe, and no line waits at an end.
     Safe,
+    /// Each is, but no endpoint ever held a translation or sent a page request.
+    Untried,
+    /// The lines, taken one after another, lead to nothing wrong; no other order was looked at.
+    Right,
     /// One isn't.
     Unsafe,
     /// Each is, but a line waits at an end.
@@ -105,14 +111,30 @@ fn put_stuck(
     Ok(())
 }
 
-fn put_safe(out: &mut Vec<u8>, text: &Text, moments: usize) -> Result<(), AllocError>
-    ensures { OnOk result (out.new.items ≡ out.old.items ++ reports.safe_text text.now moments) }
+/// Appends the first line of a driver that is safe: whether anything was tried that could go wrong too.
+fn put_safe_line(out: &mut Vec<u8>, moments: usize, tried: bool) -> Result<(), AllocError>
+    ensures { OnOk result (out.new.items ≡ out.old.items ++ reports.safe_line moments tried) }
 {
     out.extend_from_slice(b"safe in all ")?;
     put_counted(out, moments as u64, "moment", "moments")?;
-    out.extend_from_slice(b"\n")?;
+    put_untried(out, tried)?;
+    out.extend_from_slice(b"\n")
+}
+
+fn put_safe(
+    out: &mut Vec<u8>,
+    text: &Text,
+    moments: usize,
+    looked: &[Looked],
+) -> Result<(), AllocError>
+    ensures { OnOk result (out.new.items
+        ≡ out.old.items ++ reports.safe_text text.now moments looked.now) }
+{
+    put_safe_line(out, moments, is_tried(looked))?;
     put_budgets(out, b"", text)?;
-    put_platform(out, &text.driver.start.settings)
+    put_limits(out, text)?;
+    put_nevers(out, text, looked)?;
+    Ok(())
 }
 
 fn put_cut(out: &mut Vec<u8>, moments: usize, events: usize) -> Result<(), AllocError>
@@ -130,7 +152,13 @@ pub fn ruling_of(verdict: &Verdict) -> Ruling
     ensures { result ≡ reports.ruling_of verdict.now }
 {
     match verdict {
-        Verdict::Safe { .. } => Ruling::Safe,
+        Verdict::Safe { looked, .. } => {
+            if is_tried(looked.as_slice()) {
+                Ruling::Safe
+            } else {
+                Ruling::Untried
+            }
+        }
         Verdict::Unsafe { .. } => Ruling::Unsafe,
         Verdict::Stuck { .. } => Ruling::Stuck,
         Verdict::CutOff { .. } => Ruling::CutOff,
@@ -147,7 +175,7 @@ pub fn put_report(
     ensures { OnOk result (out.new.items ≡ out.old.items ++ reports.report_text text.now verdict.now) }
 {
     match verdict {
-        Verdict::Safe { moments } => put_safe(out, text, *moments),
+        Verdict::Safe { moments, looked } => put_safe(out, text, *moments, looked.as_slice()),
         Verdict::Unsafe { witness } => put_unsafe(alloc, out, text, witness.as_slice()),
         Verdict::Stuck { witness, .. } => put_stuck(alloc, out, text, witness.as_slice()),
         Verdict::CutOff { moments, events } => put_cut(out, *moments, *events),

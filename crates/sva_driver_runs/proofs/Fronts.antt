@@ -36,9 +36,9 @@ same_front text = by_size (ltb 1048576 (length text)) refl
 front_judged : (text : List ℕ) (most : ℕ) (said : Option Ruling) (out : List ℕ) → IsTextJudged (take 1048577 text) most said out
     → IsTextJudged text most said out
 front_judged text most said out h = record {
-  read = h.read;
+  to = h.to;
   wrongs = h.wrongs;
-  reads = subst (λ d. ReadsDriver d h.read h.wrongs) (same_front text) h.reads;
+  reads = subst (λ d. ReadsDriver d h.to h.wrongs) (same_front text) h.reads;
   told = h.told;
 }
 

@@ -1,3 +1,2 @@
 mod Fronts
-mod Lines
 mod Told

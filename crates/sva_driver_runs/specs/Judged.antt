@@ -1,17 +1,18 @@
 -- What comes of a text that is judged, and of one whose lines are taken one after another.
-use Rattle.std.specs.Prelude.{◌≡◌, ℕ, ◌+◌, List, [], ◌∷◌, ◌++◌, codes, decimal, length, Option, Some, None, Result, Ok, Err}
+use Rattle.std.specs.Prelude.{◌≡◌, ℕ, Bool, true, false, List, [], ◌∷◌, ◌++◌, codes, decimal, length, Option, Some, None, Result, Ok, Err}
 use Rattle.std.specs.Io.KnownBytes.{Appends}
 use Rattle.sva_reports.specs.declared.streams.DriveFault.{DriveFault}
 use Rattle.sva_reports.specs.declared.streams.DriveFault.TheVariants.{Write}
 use Rattle.sva_reports.specs.Streams.{AppendsPrefix}
-use Rattle.sva_open_wrongs.specs.Wrongs.{first_wrong}
 use Rattle.sva_open_wrongs.specs.declared.wrongs.Wrong.{Wrong}
-use Rattle.sva_judge.specs.declared.drivers.Line.{Line}
 use Rattle.sva_judge.specs.declared.verdicts.Verdict.{Verdict}
-use Rattle.sva_judge.specs.Choices.{next_in}
-use Rattle.sva_judge.specs.Spots.{Spot, start_of}
+use Rattle.sva_judge.specs.Spots.{Spot}
 use Rattle.sva_judge.specs.Verdicts.{IsJudged}
-use Rattle.sva_driver_texts.specs.Texts.{ReadsDriver, ReadsText, driver_of, line_choice, refused_at}
+use Rattle.sva_driver_texts.specs.Texts.{ReadsDriver, ReadsText, behind_first, driver_of, refused_at}
+use Rattle.sva_driver_texts.specs.declared.kept.Begun.{Begun}
+use Rattle.sva_driver_texts.specs.declared.kept.Begun.TheVariants as begun
+use Rattle.sva_driver_texts.specs.declared.kept.Halt.{Halt}
+use Rattle.sva_driver_texts.specs.declared.kept.Halt.TheVariants as halt
 use Rattle.sva_driver_texts.specs.declared.kept.Read.{Read}
 use Rattle.sva_driver_texts.specs.declared.kept.Text.{Text}
 use Rattle.sva_driver_reports.specs.Findings.{wrong_text}
@@ -28,17 +29,23 @@ pub record IsToldBy (text : Text) (most : ℕ) (said : Ruling) (out : List ℕ) 
   pub ruling : said ≡ ruling_of verdict
   pub report : out ≡ report_text text verdict
 
--- what is wrong with the text is told alone
-abbrev pub IsTold : Option Text → (most : ℕ) → (wrongs : List ℕ) → Option Ruling → (out : List ℕ) → Type 0
-IsTold None most wrongs None out = out ≡ wrongs
-IsTold (Some text) most wrongs (Some said) out = IsToldBy text most said out
-IsTold read most wrongs said out = ⊥
+-- something is wrong behind a line
+abbrev pub unsafe_at : (number : ℕ) → Wrong → List ℕ
+unsafe_at number found = codes "unsafe at line " ++ decimal number ++ codes ": " ++ wrong_text found ++ 10 ∷ []
+
+-- what is wrong with the text is told alone; and so is the first line before `race` behind which something is wrong:
+-- the driver is unsafe then
+abbrev pub IsTold : Begun → (most : ℕ) → (wrongs : List ℕ) → Option Ruling → (out : List ℕ) → Type 0
+IsTold begun.Faulted most wrongs said out = (said ≡ None) × (out ≡ wrongs)
+IsTold (begun.Leaks number found) most wrongs said out = (said ≡ Some ruling.Unsafe) × (out ≡ unsafe_at number found)
+IsTold (begun.Stands text) most wrongs (Some said) out = IsToldBy text most said out
+IsTold (begun.Stands text) most wrongs None out = ⊥
 
 pub record IsTextJudged (text : List ℕ) (most : ℕ) (said : Option Ruling) (out : List ℕ) : Type 0 where
-  pub read : Option Text
+  pub to : Begun
   pub wrongs : List ℕ
-  pub reads : ReadsDriver (driver_of text) read wrongs
-  pub told : IsTold read most wrongs said out
+  pub reads : ReadsDriver (driver_of text) to wrongs
+  pub told : IsTold to most wrongs said out
 
 -- ---- Line by line
 
@@ -46,11 +53,13 @@ pub record Ran : Type 0 where
   pub said : Option Ruling
   pub text : List ℕ
 
-abbrev pub unsafe_at : (number : ℕ) → Wrong → List ℕ
-unsafe_at number found = codes "unsafe at line " ++ decimal number ++ codes ": " ++ wrong_text found ++ 10 ∷ []
+-- no other order was looked at
+abbrev pub unsearched_text : (is_race : Bool) → List ℕ
+unsearched_text true = codes "; the orders behind race were not searched"
+unsearched_text false = []
 
-abbrev pub safe_each : (count : ℕ) → List ℕ
-safe_each count = codes "safe in each of " ++ events_count count ++ 10 ∷ []
+abbrev pub nothing_wrong : (count : ℕ) → (is_race : Bool) → List ℕ
+nothing_wrong count is_race = codes "nothing wrong in any of " ++ events_count count ++ unsearched_text is_race ++ 10 ∷ []
 
 -- a line isn't permitted where it stands; something is wrong behind one; nothing is behind any
 abbrev pub refused_run : Read → (place : ℕ) → Ran
@@ -59,25 +68,17 @@ refused_run read place = record { said = None; text = refused_at read place }
 abbrev pub unsafe_run : (number : ℕ) → Wrong → Ran
 unsafe_run number found = record { said = Some ruling.Unsafe; text = unsafe_at number found }
 
-abbrev pub safe_run : Read → Ran
-safe_run read = record { said = Some ruling.Safe; text = safe_each (length read.opening.lines.items) }
+abbrev pub right_run : Read → Ran
+right_run read = record { said = Some ruling.Right; text = nothing_wrong (length read.opening.lines.items) read.is_race }
 
--- up to the first moment at which something is wrong
-abbrev pub ran_to : (number : ℕ) → Option Wrong → (rest : Ran) → Ran
-ran_to number None rest = rest
-ran_to number (Some found) rest = unsafe_run number found
+abbrev pub ran_to : Read → Result Spot Halt → Ran
+ran_to read (Ok spot) = right_run read
+ran_to read (Err (halt.Refused place)) = refused_run read place
+ran_to read (Err (halt.Leaks number found)) = unsafe_run number found
 
-abbrev pub ran_by : Read → (place number : ℕ) → Option Spot → (rest : Spot → Ran) → Ran
-ran_by read place number None rest = refused_run read place
-ran_by read place number (Some next) rest = ran_to number (first_wrong next.world) (rest next)
-
-unfoldable pub ran_from : Read → (place : ℕ) → Spot → List Line → Ran
-ran_from read place spot [] = safe_run read
-ran_from read place spot (line ∷ lines) =
-    ran_by read place line.number (next_in read.opening spot (line_choice place)) (λ next. ran_from read (place + 1) next lines)
-
+-- all lines are taken, those behind `race` in the order in which they stand
 abbrev pub ran_of : Read → Ran
-ran_of read = ran_from read 0 (start_of read.opening) read.opening.lines.items
+ran_of read = ran_to read (behind_first read.opening (length read.opening.lines.items))
 
 abbrev pub IsRanBy : Option Read → (wrongs : List ℕ) → Option Ruling → (out : List ℕ) → Type 0
 IsRanBy None wrongs said out = (said ≡ None) × (out ≡ wrongs)

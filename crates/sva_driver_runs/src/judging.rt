@@ -1,15 +1,14 @@
 //! A text that is judged, and one whose lines are taken one after another.
 
 ghost use Rattle.std.specs.Prelude.{◌≡◌, ◌++◌, [], IfOk, OnOk};
-ghost use Rattle.sva_open_wrongs.specs.Wrongs.{first_wrong};
 ghost use Rattle.sva_judge.specs.Verdicts.{IsJudged};
 ghost use Rattle.sva_driver_runs.specs.Judged as judged;
 
 use std::alloc::{AllocError, Global};
 use sva_driver_reports::{Ruling, put_counted, put_report, put_wrong, ruling_of};
-use sva_driver_texts::{Read, Text, choose_line, put_refused, read_driver, read_text};
-use sva_judge::{Judging, Spot, Verdict, judge, start, take};
-use sva_open_wrongs::{Wrong, first_wrong};
+use sva_driver_texts::{Begun, Halt, Read, Text, put_refused, read_driver, read_text, take_lines};
+use sva_judge::{Judging, Verdict, judge};
+use sva_open_wrongs::Wrong;
 use sva_script_reading::put_number;
 use sva_search::Watch;
 
@@ -29,9 +28,9 @@ fn verdict_on<P: Watch>(
         before,
         said,
     } = text;
-    let judging = Judging { driver };
+    let judging = Judging::new(alloc, driver)?;
     let verdict = judge(alloc, &judging, most as usize, watch)?;
-    let Judging { driver } = judging;
+    let driver = judging.into_driver();
     Ok((
         Text {
             config,
@@ -59,27 +58,6 @@ fn judge_read<P: Watch>(
     Ok(ruling_of(&verdict))
 }
 
-/// Reads a driver, judges it and writes its report: at most so many moments are looked at. Where lines are wrong, that
-/// is written alone, and `None` given. The watch is told how far the search is.
-pub fn judge_text<P: Watch>(
-    alloc: Global,
-    most: u64,
-    text: &[u8],
-    out: &mut Vec<u8>,
-    watch: &mut P,
-) -> Result<Option<Ruling>, AllocError>
-    requires { out.old.items ≡ [] }
-    ensures { IfOk result (λ said. judged.IsTextJudged text.now most said out.new.items) }
-{
-    match read_driver(alloc, text, out)? {
-        None => Ok(None),
-        Some(read) => {
-            let said = judge_read(alloc, most, read, out, watch)?;
-            Ok(Some(said))
-        }
-    }
-}
-
 /// Appends that something is wrong behind a line.
 fn put_unsafe_at(out: &mut Vec<u8>, number: u64, wrong: Wrong) -> Result<(), AllocError>
     ensures { OnOk result (out.new.items ≡ out.old.items ++ judged.unsafe_at number wrong) }
@@ -91,41 +69,76 @@ fn put_unsafe_at(out: &mut Vec<u8>, number: u64, wrong: Wrong) -> Result<(), All
     out.extend_from_slice(b"\n")
 }
 
-/// Appends that nothing is wrong behind any of so many lines.
-fn put_safe_each(out: &mut Vec<u8>, count: usize) -> Result<(), AllocError>
-    ensures { OnOk result (out.new.items ≡ out.old.items ++ judged.safe_each count) }
+/// Says that a driver is unsafe behind a line.
+fn tell_leak(out: &mut Vec<u8>, number: u64, wrong: Wrong) -> Result<Option<Ruling>, AllocError>
+    ensures said { IfOk result (λ said. said ≡ (judged.unsafe_run number wrong).said) }
+    ensures text { OnOk result (out.new.items ≡ out.old.items ++ (judged.unsafe_run number wrong).text) }
 {
-    out.extend_from_slice(b"safe in each of ")?;
+    put_unsafe_at(out, number, wrong)?;
+    Ok(Some(Ruling::Unsafe))
+}
+
+/// Reads a driver, judges it and writes its report: at most so many moments are looked at. Where lines are wrong, that
+/// is written alone, and `None` given. Where something is wrong behind a line before `race`, the first such line is
+/// written alone, with what is wrong, and nothing is searched. The watch is told how far the search is.
+pub fn judge_text<P: Watch>(
+    alloc: Global,
+    most: u64,
+    text: &[u8],
+    out: &mut Vec<u8>,
+    watch: &mut P,
+) -> Result<Option<Ruling>, AllocError>
+    requires { out.old.items ≡ [] }
+    ensures { IfOk result (λ said. judged.IsTextJudged text.now most said out.new.items) }
+{
+    match read_driver(alloc, text, out)? {
+        Begun::Faulted => Ok(None),
+        Begun::Leaks { number, wrong } => tell_leak(out, number, wrong),
+        Begun::Stands { text } => {
+            let said = judge_read(alloc, most, text, out, watch)?;
+            Ok(Some(said))
+        }
+    }
+}
+
+/// Appends that nothing is wrong behind any of so many lines; and where there is a `race`, that no other order of those
+/// behind it was looked at.
+fn put_nothing_wrong(out: &mut Vec<u8>, count: usize, is_race: bool) -> Result<(), AllocError>
+    ensures { OnOk result (out.new.items ≡ out.old.items ++ judged.nothing_wrong count is_race) }
+{
+    out.extend_from_slice(b"nothing wrong in any of ")?;
     put_counted(out, count as u64, "event", "events")?;
+    out.extend_from_slice(unsearched_text(is_race).as_bytes())?;
     out.extend_from_slice(b"\n")
 }
 
-/// What is wrong first at a spot, if anything is.
-fn wrong_at(spot: &Spot) -> Option<Wrong>
-    ensures { result ≡ first_wrong spot.now.world }
+fn unsearched_text(is_race: bool) -> &'static str
+    ensures { result.now ≡ judged.unsearched_text is_race }
 {
-    first_wrong(&spot.world)
+    if is_race {
+        "; the orders behind race were not searched"
+    } else {
+        ""
+    }
 }
 
-/// Takes the lines one after another, up to the first moment that isn't safe.
+/// Takes the lines one after another, up to the first behind which something is wrong.
 fn run_lines(alloc: Global, read: &Read, out: &mut Vec<u8>) -> Result<Option<Ruling>, AllocError>
     ensures said { IfOk result (λ said. said ≡ (judged.ran_of read.now).said) }
     ensures text { OnOk result (out.new.items ≡ out.old.items ++ (judged.ran_of read.now).text) }
 {
-    let mut spot = start(alloc, &read.opening)?;
-    for place in 0..read.opening.lines.len() {
-        let taken = take(&read.opening, &mut spot, choose_line(place))?;
-        if !taken {
+    let count = read.opening.lines.len();
+    match take_lines(alloc, &read.opening, count)? {
+        Ok(_spot) => {
+            put_nothing_wrong(out, count, read.is_race)?;
+            Ok(Some(Ruling::Right))
+        }
+        Err(Halt::Refused { place }) => {
             put_refused(alloc, read, place, out)?;
-            return Ok(None);
+            Ok(None)
         }
-        if let Some(wrong) = wrong_at(&spot) {
-            put_unsafe_at(out, read.opening.lines[place].number, wrong)?;
-            return Ok(Some(Ruling::Unsafe));
-        }
+        Err(Halt::Leaks { number, wrong }) => tell_leak(out, number, wrong),
     }
-    put_safe_each(out, read.opening.lines.len())?;
-    Ok(Some(Ruling::Safe))
 }
 
 /// Reads a driver, and takes its lines one after another, in the order in which they stand. Where lines are wrong, or

@@ -1,60 +1,68 @@
--- The first lines, one after another.
-use Rattle.std.proofs.Common.{◌≡◌, ◌∙◌, ◌+◌, ap, arith, sym, ℕ, suc, zero, Bool, true, false, Option, Some, None}
-use Rattle.std.specs.Prelude.{Result, Ok, Err}
+-- Lines, one after another.
+use Rattle.std.proofs.Common.{◌≡◌, ◌∙◌, ◌+◌, ◌-◌, ◌<◌, ap, arith, sym, ℕ, suc, zero, Bool, true, false, Option, Some, None}
+use Rattle.std.specs.Prelude.{Result, Ok, Err, slice_get}
 use Rattle.sva_grammar.specs.Grammar.{◌>>=◌}
+use Rattle.sva_open_wrongs.specs.Wrongs.{first_wrong}
+use Rattle.sva_open_wrongs.specs.declared.wrongs.Wrong.{Wrong}
 use Rattle.sva_search.specs.Rules.{IsStep}
+use Rattle.sva_search.proofs.Steps.{none_refused, some_taken}
 use Rattle.sva_judge.specs.declared.drivers.Driver.{Driver}
 use Rattle.sva_judge.specs.Choices.{next_in}
 use Rattle.sva_judge.specs.Spots.{Spot, start_of}
-use Rattle.sva_driver_texts.specs.Texts.{behind_first, by_next, line_choice}
+use Rattle.sva_driver_texts.specs.declared.kept.Halt.{Halt}
+use Rattle.sva_driver_texts.specs.declared.kept.Halt.TheVariants as halt
+use Rattle.sva_driver_texts.specs.Texts.{behind_first, behind_next, by_next, line_choice, number_of, unless_wrong}
 
 pub none_first : (driver : Driver) (spot : Spot) → spot ≡ start_of driver → behind_first driver 0 ≡ Ok spot
 unfolding behind_first
 none_first driver spot is = ap Ok (sym is)
 
--- from where so many led, by what the next one comes to
-abbrev led_by : Driver → (place : ℕ) → Result Spot ℕ → Result Spot ℕ
-led_by driver place led = led >>= λ spot. by_next place (next_in driver spot (line_choice place))
-
-one_more : (driver : Driver) (place : ℕ) (spot : Spot) (next : Option Spot) → behind_first driver place ≡ Ok spot
-    → next_in driver spot (line_choice place) ≡ next → behind_first driver (suc place) ≡ by_next place next
+one_more : (driver : Driver) (place : ℕ) (spot : Spot) → behind_first driver place ≡ Ok spot
+    → behind_first driver (suc place) ≡ behind_next driver place spot
 unfolding behind_first
-one_more driver place spot next so_far is = ap (led_by driver place) so_far ∙ ap (by_next place) is
+one_more driver place spot so_far = ap (λ (led : Result Spot Halt). led >>= behind_next driver place) so_far
 
--- one that was taken
-took : (next : Option Spot) (place : ℕ) (done : Bool) (old new : Spot) → IsStep next done old new → done ≡ true → by_next place next ≡ Ok new
-took (Some spot) place done old new step is = ap Ok (sym step.1)
-took None place done old new step is = cc (sym step.0 ∙ is)
-
-pub first_next : (driver : Driver) (place : ℕ) (done : Bool) (old new : Spot) → behind_first driver place ≡ Ok old
-    → IsStep (next_in driver old (line_choice place)) done old new → done ≡ true → behind_first driver (place + 1) ≡ Ok new
-first_next driver place done old new so_far step is =
-    let same : place + 1 ≡ suc place = omega arith in
-    ap (behind_first driver) same
-    ∙ one_more driver place old (next_in driver old (line_choice place)) so_far (λ i. next_in driver old (line_choice place))
-    ∙ took (next_in driver old (line_choice place)) place done old new step is
-
--- one that isn't permitted
-stopped : (next : Option Spot) (place : ℕ) (done : Bool) (old new : Spot) → IsStep next done old new → done ≡ false → by_next place next ≡ Err place
-stopped (Some spot) place done old new step is = cc (sym step.0 ∙ is)
-stopped None place done old new step is = λ i. Err place
-
-stays : (driver : Driver) (first place : ℕ) (more : ℕ) → behind_first driver first ≡ Err place → behind_first driver (more + first) ≡ Err place
+-- behind one that ends it nothing comes
+stays : (driver : Driver) (first : ℕ) (end : Halt) (more : ℕ) → behind_first driver first ≡ Err end → behind_first driver (more + first) ≡ Err end
 unfolding behind_first
-stays driver first place zero is =
+stays driver first end zero is =
     let same : zero + first ≡ first = omega arith in
     ap (behind_first driver) same ∙ is
-stays driver first place (suc more) is =
+stays driver first end (suc more) is =
     let same : suc more + first ≡ suc (more + first) = omega arith in
-    ap (behind_first driver) same ∙ ap (led_by driver (more + first)) (stays driver first place more is)
+    ap (behind_first driver) same
+    ∙ ap (λ (led : Result Spot Halt). led >>= behind_next driver (more + first)) (stays driver first end more is)
 
-pub first_stop : (driver : Driver) (place count more : ℕ) (done : Bool) (old new : Spot) → behind_first driver place ≡ Ok old
-    → IsStep (next_in driver old (line_choice place)) done old new → done ≡ false → count ≡ more + (place + 1)
-    → behind_first driver count ≡ Err place
-first_stop driver place count more done old new so_far step is sum =
-    let same : place + 1 ≡ suc place = omega arith in
-    ap (behind_first driver) sum
-    ∙ stays driver (place + 1) place more
-    (ap (behind_first driver) same
-    ∙ one_more driver place old (next_in driver old (line_choice place)) so_far (λ i. next_in driver old (line_choice place))
-    ∙ stopped (next_in driver old (line_choice place)) place done old new step is)
+-- the line at a place is tried
+module _ (driver : Driver) (place : ℕ) (done : Bool) (old new : Spot) (so_far : behind_first driver place ≡ Ok old)
+    (step : IsStep (next_in driver old (line_choice place)) done old new) where
+  abbrev number : ℕ
+  number = number_of (slice_get driver.lines.items place)
+
+  opened : (next : Option Spot) → next_in driver old (line_choice place) ≡ next → behind_first driver (place + 1) ≡ by_next place number next
+  opened next is =
+      let same : place + 1 ≡ suc place = omega arith in
+      ap (behind_first driver) same ∙ one_more driver place old so_far ∙ ap (by_next place number) is
+
+  went : done ≡ true → behind_first driver (place + 1) ≡ unless_wrong number new (first_wrong new.world)
+  went goes = opened (Some new) (some_taken (next_in driver old (line_choice place)) done old new step goes)
+
+  pub first_next : done ≡ true → first_wrong new.world ≡ None → behind_first driver (place + 1) ≡ Ok new
+  first_next goes fine = went goes ∙ ap (unless_wrong number new) fine
+
+  ended : (count : ℕ) (end : Halt) → place < count → behind_first driver (place + 1) ≡ Err end → behind_first driver count ≡ Err end
+  ended count end inside is =
+      let sum : count ≡ (count - (place + 1)) + (place + 1) = omega (arith, inside) in
+      ap (behind_first driver) sum ∙ stays driver (place + 1) end (count - (place + 1)) is
+
+  -- it isn't permitted
+  pub first_stop : (count : ℕ) → place < count → done ≡ false → behind_first driver count ≡ Err (halt.Refused place)
+  first_stop count inside stops =
+      ended count (halt.Refused place) inside
+      (opened None (none_refused (next_in driver old (line_choice place)) done old new step stops).0)
+
+  -- something is wrong behind it
+  pub first_leak : (count : ℕ) (found : Wrong) → place < count → done ≡ true → first_wrong new.world ≡ Some found
+      → behind_first driver count ≡ Err (halt.Leaks number found)
+  first_leak count found inside goes is =
+      ended count (halt.Leaks number found) inside (went goes ∙ ap (unless_wrong number new) is)

@@ -1,5 +1,5 @@
 -- What can't be made of a budget, and why.
-use Rattle.std.specs.Prelude.{ℕ, ◌==◌, ◌&&◌, ◌||◌, not, nat_lt, Bool, true, false, List, length}
+use Rattle.std.specs.Prelude.{ℕ, ◌+◌, ◌==◌, ◌&&◌, ◌||◌, not, nat_lt, Bool, true, false, List, count_by, length}
 use Rattle.std.specs.List.{list_any}
 use Rattle.sva_open.specs.declared.acts.Act.TheVariants as act
 use Rattle.sva_open.specs.declared.acts.LocalAct.{LocalAct}
@@ -33,13 +33,25 @@ asks_at endpoint _ = false
 abbrev pub is_asked : List Line → (endpoint : ℕ) → Bool
 is_asked lines endpoint = list_any (λ (line : Line). asks_at endpoint line.saying) lines
 
+-- how many lines do
+abbrev pub asks_in : List Line → (endpoint : ℕ) → ℕ
+asks_in lines endpoint = count_by (λ (line : Line). asks_at endpoint line.saying) lines
+
+-- ---- What there is
+
+-- may it do something by itself?
+abbrev pub has_budget : Device → Bool
+has_budget device = nat_lt 0 device.budget.asks || nat_lt 0 device.budget.uses || nat_lt 0 device.budget.faults
+
+-- how many translations are asked for there, by itself and by lines
+abbrev pub asks_of : List Line → (endpoint : ℕ) → Device → ℕ
+asks_of lines endpoint device = device.budget.asks + asks_in lines endpoint
+
 -- ---- What stands in the way
 
 -- no PASID is ever on there, and each of the three needs one
 abbrev pub is_unstarted : List Line → (endpoint : ℕ) → Device → Bool
-is_unstarted lines endpoint device =
-    (nat_lt 0 device.budget.asks || nat_lt 0 device.budget.uses || nat_lt 0 device.budget.faults)
-    && not (is_started lines endpoint)
+is_unstarted lines endpoint device = has_budget device && not (is_started lines endpoint)
 
 -- without a page it neither asks nor faults by itself
 abbrev pub has_page : Device → Bool

@@ -14,6 +14,8 @@ use Rattle.sva_race_words.specs.Limits.{limits_text}
 use Rattle.sva_race_words.specs.declared.faults.RaceWanted.TheVariants as race
 use Rattle.sva_open.specs.World.{Open, opened}
 use Rattle.sva_open.specs.declared.settings.Conduct.{Conduct}
+use Rattle.sva_open_wrongs.specs.Wrongs.{first_wrong}
+use Rattle.sva_open_wrongs.specs.declared.wrongs.Wrong.{Wrong}
 use Rattle.sva_judge.specs.declared.choices.Choice.{Choice}
 use Rattle.sva_judge.specs.declared.choices.Doing.TheVariants as doing
 use Rattle.sva_judge.specs.declared.drivers.Driver.{Driver}
@@ -30,6 +32,10 @@ use Rattle.sva_driver_lines.specs.Readings.{Reading, read_of}
 use Rattle.sva_driver_texts.specs.Needs.{need_of}
 use Rattle.sva_driver_texts.specs.Pasids.{pasids_of}
 use Rattle.sva_driver_texts.specs.Plans.{device_seen, planned_from}
+use Rattle.sva_driver_texts.specs.declared.kept.Begun.{Begun}
+use Rattle.sva_driver_texts.specs.declared.kept.Begun.TheVariants as begun
+use Rattle.sva_driver_texts.specs.declared.kept.Halt.{Halt}
+use Rattle.sva_driver_texts.specs.declared.kept.Halt.TheVariants as halt
 use Rattle.sva_driver_texts.specs.declared.kept.Read.{Read}
 use Rattle.sva_driver_texts.specs.declared.kept.Said.{Said}
 use Rattle.sva_driver_texts.specs.declared.kept.Text.{Text}
@@ -89,14 +95,28 @@ pub record IsOpening (config : Config) (reading : Reading) (driver : Driver) : T
 abbrev pub line_choice : (place : ℕ) → Choice
 line_choice place = record { doing = doing.Line; at = 0; number = place }
 
-abbrev pub by_next : (place : ℕ) → Option Spot → Result Spot ℕ
-by_next place None = Err place
-by_next place (Some spot) = Ok spot
+-- the number of a line; 0 of none
+abbrev pub number_of : Option Kept → ℕ
+number_of None = 0
+number_of (Some line) = line.number
 
--- where so many lines lead, or which of them isn't permitted
-unfoldable pub behind_first : Driver → (count : ℕ) → Result Spot ℕ
+abbrev pub unless_wrong : (number : ℕ) → Spot → Option Wrong → Result Spot Halt
+unless_wrong number spot None = Ok spot
+unless_wrong number spot (Some found) = Err (halt.Leaks number found)
+
+-- behind a line, where it is permitted and nothing is wrong there
+abbrev pub by_next : (place number : ℕ) → Option Spot → Result Spot Halt
+by_next place number None = Err (halt.Refused place)
+by_next place number (Some spot) = unless_wrong number spot (first_wrong spot.world)
+
+abbrev pub behind_next : Driver → (place : ℕ) → Spot → Result Spot Halt
+behind_next driver place spot =
+    by_next place (number_of (slice_get driver.lines.items place)) (next_in driver spot (line_choice place))
+
+-- where so many lines lead; or the first of them that isn't permitted, or behind which something is wrong
+unfoldable pub behind_first : Driver → (count : ℕ) → Result Spot Halt
 behind_first driver zero = Ok (start_of driver)
-behind_first driver (suc place) = behind_first driver place >>= λ spot. by_next place (next_in driver spot (line_choice place))
+behind_first driver (suc place) = behind_first driver place >>= behind_next driver place
 
 -- the driver behind them
 pub record IsBehind (opening : Driver) (spot : Spot) (driver : Driver) : Type 0 where
@@ -188,18 +208,17 @@ abbrev pub refused_at : Read → (place : ℕ) → List ℕ
 refused_at read place =
     refused_text read.names (slice_get read.opening.lines.items place) (slice_get read.said.items place)
 
-abbrev pub StandsAt : Read → Result Spot ℕ → Option Text → (out : List ℕ) → Type 0
-StandsAt read (Ok spot) None out = ⊥
-StandsAt read (Ok spot) (Some text) out = IsText read text × (out ≡ [])
-StandsAt read (Err place) None out = out ≡ refused_at read place
-StandsAt read (Err place) (Some text) out = ⊥
+-- it stands; or a line isn't permitted, which is told alone; or something is wrong behind one, of which nothing is told yet
+abbrev pub StandsAt : Read → Result Spot Halt → Begun → (out : List ℕ) → Type 0
+StandsAt read (Ok spot) (begun.Stands text) out = IsText read text × (out ≡ [])
+StandsAt read (Err (halt.Refused place)) begun.Faulted out = out ≡ refused_at read place
+StandsAt read (Err (halt.Leaks number found)) to out = (to ≡ begun.Leaks number found) × (out ≡ [])
+StandsAt read led to out = ⊥
 
-abbrev pub StandsBy : Read → (is_race : Bool) → Option Text → (out : List ℕ) → Type 0
-StandsBy read true found out = StandsAt read (behind_first read.opening read.before) found out
-StandsBy read false None out = out ≡ race_missing read
-StandsBy read false (Some text) out = ⊥
+abbrev pub StandsBy : Read → (is_race : Bool) → Begun → (out : List ℕ) → Type 0
+StandsBy read true to out = StandsAt read (behind_first read.opening read.before) to out
+StandsBy read false to out = (to ≡ begun.Faulted) × (out ≡ race_missing read)
 
-abbrev pub ReadsDriver : Result DriverRead (List ℕ) → Option Text → (out : List ℕ) → Type 0
-ReadsDriver (Err said) None out = out ≡ said
-ReadsDriver (Err said) (Some text) out = ⊥
-ReadsDriver (Ok read) found out = (kept : Read) × IsRead read kept × StandsBy kept kept.is_race found out
+abbrev pub ReadsDriver : Result DriverRead (List ℕ) → Begun → (out : List ℕ) → Type 0
+ReadsDriver (Err said) to out = (to ≡ begun.Faulted) × (out ≡ said)
+ReadsDriver (Ok read) to out = (kept : Read) × IsRead read kept × StandsBy kept kept.is_race to out

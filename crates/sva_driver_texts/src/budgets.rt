@@ -72,12 +72,29 @@ fn is_asked(lines: &[Line], endpoint: usize) -> bool
     lines.iter().any(|line| asks_at(endpoint, &line.saying))
 }
 
+/// How many lines ask for a translation at an endpoint.
+pub fn asks_in(lines: &[Line], endpoint: usize) -> usize
+    ensures { result ≡ budgets.asks_in lines.now endpoint }
+{
+    lines
+        .iter()
+        .filter(|line| asks_at(endpoint, &line.saying))
+        .count()
+}
+
+/// Whether it may do something by itself.
+pub fn has_budget(device: &Device) -> bool
+    ensures { result ≡ budgets.has_budget device.now }
+{
+    let budget = device.budget;
+    0 < budget.asks || 0 < budget.uses || 0 < budget.faults
+}
+
 /// Whether nothing can be made, since no PASID is ever on.
 pub fn is_unstarted(lines: &[Line], endpoint: usize, device: &Device) -> bool
     ensures { result ≡ budgets.is_unstarted lines.now endpoint device.now }
 {
-    let budget = device.budget;
-    (0 < budget.asks || 0 < budget.uses || 0 < budget.faults) && !is_started(lines, endpoint)
+    has_budget(device) && !is_started(lines, endpoint)
 }
 
 fn has_page(device: &Device) -> bool

@@ -1,15 +1,18 @@
-//! The first lines of a driver, taken one after another.
+//! The lines of a driver, taken one after another.
 
-ghost use Rattle.std.specs.Prelude.{◌≡◌, IfOk};
+ghost use Rattle.std.specs.Prelude.{◌≡◌, IfOk, slice_get};
 ghost use Rattle.sva_search.specs.Rules.{IsStep};
+ghost use Rattle.sva_open_wrongs.specs.Wrongs.{first_wrong};
 ghost use Rattle.sva_judge.specs.Choices.{next_in};
 ghost use Rattle.sva_driver_texts.specs.Texts as texts;
 
+use crate::kept::Halt;
 use std::alloc::{AllocError, Global};
 use sva_judge::{Choice, Doing, Driver, Spot, start, take};
+use sva_open_wrongs::{Wrong, first_wrong};
 
 /// The choice of a line.
-pub fn choose_line(place: usize) -> Choice
+fn choose_line(place: usize) -> Choice
     ensures { result ≡ texts.line_choice place }
 {
     Choice {
@@ -27,19 +30,41 @@ fn take_line(driver: &Driver, spot: &mut Spot, place: usize) -> Result<bool, All
     take(driver, spot, choose_line(place))
 }
 
-/// Where so many lines lead; or which of them isn't permitted.
+/// What is wrong first at a spot, if anything is.
+fn wrong_at(spot: &Spot) -> Option<Wrong>
+    ensures { result ≡ first_wrong spot.now.world }
+{
+    first_wrong(&spot.world)
+}
+
+/// The number of the line at a place; 0 where there is none.
+fn number_at(driver: &Driver, place: usize) -> u64
+    ensures { result ≡ texts.number_of (slice_get driver.now.lines.items place) }
+{
+    match driver.lines.get(place) {
+        Some(line) => line.number,
+        None => 0,
+    }
+}
+
+/// Where so many lines lead, taken one after another: up to the first that isn't permitted where it stands, or behind
+/// which something is wrong.
 pub fn take_lines(
     alloc: Global,
     driver: &Driver,
     count: usize,
-) -> Result<Result<Spot, usize>, AllocError>
+) -> Result<Result<Spot, Halt>, AllocError>
     ensures { IfOk result (λ led. led ≡ texts.behind_first driver.now count) }
 {
     let mut spot = start(alloc, driver)?;
     for place in 0..count {
         let taken = take_line(driver, &mut spot, place)?;
         if !taken {
-            return Ok(Err(place));
+            return Ok(Err(Halt::Refused { place }));
+        }
+        if let Some(wrong) = wrong_at(&spot) {
+            let number = number_at(driver, place);
+            return Ok(Err(Halt::Leaks { number, wrong }));
         }
     }
     Ok(Ok(spot))

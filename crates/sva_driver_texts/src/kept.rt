@@ -1,6 +1,7 @@
 //! What is kept of a driver's text.
 
 use sva_judge::Driver;
+use sva_open_wrongs::Wrong;
 use sva_script::Names;
 use sva_step::Config;
 
@@ -32,6 +33,23 @@ pub struct Read {
     pub said: Vec<Said>,
 }
 
+/// Why lines that are taken one after another lead no further.
+#[derive(Clone, Copy, PartialEq, Eq)]
+pub enum Halt {
+    /// A line isn't permitted where it stands.
+    Refused {
+        /// Its place.
+        place: usize,
+    },
+    /// Behind a line something is wrong.
+    Leaks {
+        /// The number of the line in the text, from 1 on.
+        number: u64,
+        /// What is told of it.
+        wrong: Wrong,
+    },
+}
+
 /// A driver behind the lines before `race`.
 #[derive(Drop)]
 pub struct Text {
@@ -43,4 +61,23 @@ pub struct Text {
     pub before: usize,
     /// Of each line, what is told of it.
     pub said: Vec<Said>,
+}
+
+/// What the text of a driver comes to before it is judged.
+#[derive(Drop)]
+pub enum Begun {
+    /// Lines are wrong, or one before `race` isn't permitted where it stands: that was told.
+    Faulted,
+    /// Behind a line before `race` something is wrong.
+    Leaks {
+        /// The number of the line in the text, from 1 on.
+        number: u64,
+        /// What is told of it.
+        wrong: Wrong,
+    },
+    /// The driver stands behind the lines before `race`, and nothing is wrong behind any of them.
+    Stands {
+        /// The driver.
+        text: Text,
+    },
 }

@@ -10,8 +10,8 @@ mod pasids;
 mod plans;
 mod texts;
 
-pub use budgets::{is_pageless, is_unasked, is_unstarted};
-pub use first::{choose_line, take_lines};
-pub use kept::{Read, Said, Text};
+pub use budgets::{asks_in, has_budget, is_pageless, is_unasked, is_unstarted};
+pub use first::take_lines;
+pub use kept::{Begun, Halt, Read, Said, Text};
 pub use opening::opening_of;
 pub use texts::{put_refused, read_driver, read_text};

@@ -6,7 +6,7 @@ ghost use Rattle.sva_driver_texts.specs.Texts as texts;
 ghost use Rattle.sva_script_reading.specs.Begins.{lines_from};
 
 use crate::first::take_lines;
-use crate::kept::{Read, Said, Text};
+use crate::kept::{Begun, Halt, Read, Said, Text};
 use crate::needs::need_of;
 use crate::opening::opening_of;
 use std::alloc::{AllocError, Global};
@@ -219,34 +219,34 @@ fn text_of(read: Read, spot: Spot) -> Text
 }
 
 /// Takes the lines before `race`.
-fn take_first(alloc: Global, read: Read, out: &mut Vec<u8>) -> Result<Option<Text>, AllocError>
+fn take_first(alloc: Global, read: Read, out: &mut Vec<u8>) -> Result<Begun, AllocError>
     requires { out.old.items ≡ [] }
-    ensures { IfOk result (λ found. texts.StandsBy read read.is_race found out.new.items) }
+    ensures { IfOk result (λ begun. texts.StandsBy read read.is_race begun out.new.items) }
 {
     if !read.is_race {
         put_missing(&read, out)?;
-        return Ok(None);
+        return Ok(Begun::Faulted);
     }
     match take_lines(alloc, &read.opening, read.before)? {
-        Ok(spot) => Ok(Some(text_of(read, spot))),
-        Err(place) => {
+        Ok(spot) => Ok(Begun::Stands {
+            text: text_of(read, spot),
+        }),
+        Err(Halt::Refused { place }) => {
             put_refused(alloc, &read, place, out)?;
-            Ok(None)
+            Ok(Begun::Faulted)
         }
+        Err(Halt::Leaks { number, wrong }) => Ok(Begun::Leaks { number, wrong }),
     }
 }
 
-/// Reads a driver, and takes its lines before `race`; or gives `None`, with what is wrong in `out`.
-pub fn read_driver(
-    alloc: Global,
-    text: &[u8],
-    out: &mut Vec<u8>,
-) -> Result<Option<Text>, AllocError>
+/// Reads a driver, and takes its lines before `race`. Where its lines are wrong, or one isn't permitted where it stands,
+/// that is in `out`; nothing is else.
+pub fn read_driver(alloc: Global, text: &[u8], out: &mut Vec<u8>) -> Result<Begun, AllocError>
     requires { out.old.items ≡ [] }
-    ensures { IfOk result (λ found. texts.ReadsDriver (texts.driver_of text.now) found out.new.items) }
+    ensures { IfOk result (λ begun. texts.ReadsDriver (texts.driver_of text.now) begun out.new.items) }
 {
     match read_text(alloc, text, out)? {
-        None => Ok(None),
+        None => Ok(Begun::Faulted),
         Some(read) => take_first(alloc, read, out),
     }
 }

@@ -47,7 +47,9 @@ wanted_text wanted.Act = codes "an act"
 wanted_text wanted.NoRace = codes "no second race"
 wanted_text wanted.Earlier = codes "an act or race: settings stand before the first act"
 wanted_text wanted.NoAnswer = codes "no answer: a driver is judged, not compared"
+wanted_text wanted.Ahead = codes "another line: platform stands before the other settings"
 wanted_text wanted.OneLine = codes "one such line"
+wanted_text wanted.Platform = codes "vt-d or free"
 wanted_text wanted.Link = codes "free or posted"
 wanted_text wanted.Waits = codes "fence or plain"
 wanted_text wanted.Drain = codes "empty or arrived"
@@ -88,7 +90,12 @@ act_words =
     codes "quit" ∷ codes "pump" ∷ codes "deliver" ∷ codes "forget" ∷ []
 
 unfoldable pub setting_words : List (List ℕ)
-setting_words = codes "link" ∷ codes "waits" ∷ codes "drain" ∷ codes "caches" ∷ codes "stopped" ∷ []
+setting_words =
+    codes "platform" ∷ codes "link" ∷ codes "waits" ∷ codes "drain" ∷ codes "caches" ∷ codes "stopped" ∷ []
+
+-- the words that stand behind `platform`
+unfoldable pub platform_words : List (List ℕ)
+platform_words = codes "vt-d" ∷ codes "free" ∷ []
 
 -- the words that begin another line before `race`, and behind it
 unfoldable pub before_words : List (List ℕ)
@@ -118,6 +125,7 @@ near_wanted known word wanted.Before =
     or_else (near_among act_words word) (or_else (near_among setting_words word) (near_among before_words word))
 near_wanted known word wanted.Behind = or_else (near_among act_words word) (near_among behind_words word)
 near_wanted known word wanted.Act = near_among act_words word
+near_wanted known word wanted.Platform = near_among platform_words word
 near_wanted known word wanted.Kind = or_else (near_among kind_words word) (near_among more_kind_words word)
 near_wanted known word wanted.Descriptor = near_among descriptor_words word
 near_wanted known word wanted.Freed = near_among freed_words word

@@ -1,5 +1,5 @@
 -- What a platform is like, in words: each setting, also where it is the one that holds where nothing is said.
-use Rattle.std.specs.Prelude.{ℕ, if◌then◌else◌, Bool, List, ◌++◌, codes}
+use Rattle.std.specs.Prelude.{ℕ, ◌||◌, not, if◌then◌else◌, Bool, true, false, List, [], ◌∷◌, ◌++◌, codes}
 use Rattle.sva_open.specs.declared.settings.Settings.{Settings}
 use Rattle.sva_open.specs.declared.settings.Link.{Link}
 use Rattle.sva_open.specs.declared.settings.Link.TheVariants.{Free, Posted}
@@ -25,3 +25,44 @@ platform_text settings =
     ++ one_of settings.drain_empties (codes ", drain empty") (codes ", drain arrived")
     ++ one_of settings.has_caches (codes ", caches on") (codes ", caches off")
     ++ stopped_words settings.stopped
+
+-- ---- What leaves more open than the settings do, and so wasn't asked
+-- A link that keeps posted requests in order is what PCI Express has: that `link free` leaves more open isn't told.
+
+-- a status may come where no marker may: past page requests, and at a closed unit
+abbrev pub may_be_status : Stopped → Bool
+may_be_status Marker = true
+may_be_status Status = false
+may_be_status Known = false
+
+-- and what the host sees at once where no status may, but where nothing holds this back
+abbrev pub may_be_known : Link → Stopped → Bool
+may_be_known link Marker = true
+may_be_known Posted Status = true
+may_be_known Free Status = false
+may_be_known link Known = false
+
+-- what stands before a word: the first one begins the line
+abbrev pub mark : (is_begun : Bool) → List ℕ
+mark false = codes "not asked: "
+mark true = codes ", "
+
+abbrev pub other_text : (is_begun so : Bool) → (word : List ℕ) → List ℕ
+other_text is_begun so word = if so then mark is_begun ++ word else []
+
+abbrev pub others_end : (is_begun : Bool) → List ℕ
+others_end is_begun = if is_begun then 10 ∷ [] else []
+
+abbrev pub others_by : (waits drain caches status known : Bool) → List ℕ
+others_by waits drain caches status known =
+    other_text false waits (codes "waits plain")
+    ++ other_text waits drain (codes "drain arrived")
+    ++ other_text (waits || drain) caches (codes "caches on")
+    ++ other_text ((waits || drain) || caches) status (codes "stopped status")
+    ++ other_text (((waits || drain) || caches) || status) known (codes "stopped known")
+    ++ others_end ((((waits || drain) || caches) || status) || known)
+
+abbrev pub not_asked_text : Settings → List ℕ
+not_asked_text settings =
+    others_by settings.all_fence settings.drain_empties (not settings.has_caches)
+    (may_be_status settings.stopped) (may_be_known settings.link settings.stopped)

@@ -4,6 +4,7 @@ ghost use Rattle.std.specs.Prelude.{◌≡◌, ◌++◌, ◌∷◌, [], OnOk, So
 ghost use Rattle.std.specs.Prelude.{slice_get};
 ghost use Rattle.sva_driver_words.specs.Faults.{act_words, awaited_words, behind_words, before_words, descriptor_words};
 ghost use Rattle.sva_driver_words.specs.Faults.{fault_text, freed_words, hint_text, more_kind_words, near_wanted, no_more};
+ghost use Rattle.sva_driver_words.specs.Faults.{platform_words};
 ghost use Rattle.sva_driver_words.specs.Faults.{setting_words, submit_text, wanted_text, where_text};
 ghost use Rattle.sva_race_words.specs.ScriptFaults.{or_else};
 ghost use Rattle.sva_script.specs.Names.{near_name};
@@ -52,8 +53,12 @@ pub enum DriverWanted {
     Earlier,
     /// No answer: what comes of an order is judged.
     NoAnswer,
+    /// Another line: `platform` stands before the other settings.
+    Ahead,
     /// One line of this setting, of workers or of this endpoint: there is one already.
     OneLine,
+    /// What the platform is.
+    Platform,
     /// The order of links.
     Link,
     /// Which waits are fences.
@@ -179,7 +184,9 @@ fn words_of(wanted: &DriverWanted) -> &'static str
         DriverWanted::NoRace => "no second race",
         DriverWanted::Earlier => "an act or race: settings stand before the first act",
         DriverWanted::NoAnswer => "no answer: a driver is judged, not compared",
+        DriverWanted::Ahead => "another line: platform stands before the other settings",
         DriverWanted::OneLine => "one such line",
+        DriverWanted::Platform => "vt-d or free",
         DriverWanted::Link => "free or posted",
         DriverWanted::Waits => "fence or plain",
         DriverWanted::Drain => "empty or arrived",
@@ -221,7 +228,17 @@ const ACT_WORDS: [&[u8]; 25] = [
 ];
 
 /// The words that begin a setting.
-const SETTING_WORDS: [&[u8]; 5] = [b"link", b"waits", b"drain", b"caches", b"stopped"];
+const SETTING_WORDS: [&[u8]; 6] = [
+    b"platform",
+    b"link",
+    b"waits",
+    b"drain",
+    b"caches",
+    b"stopped",
+];
+
+/// The words that stand behind `platform`.
+const PLATFORM_WORDS: [&[u8]; 2] = [b"vt-d", b"free"];
 
 /// The words that begin another line before `race`.
 const BEFORE_WORDS: [&[u8]; 3] = [b"workers", b"device", b"race"];
@@ -251,6 +268,12 @@ fn near_setting(word: &[u8]) -> Option<&'static [u8]>
     ensures { option_map (λ near. near.now) result ≡ near_among setting_words word.now }
 {
     first_near(&SETTING_WORDS, word)
+}
+
+fn near_platform(word: &[u8]) -> Option<&'static [u8]>
+    ensures { option_map (λ near. near.now) result ≡ near_among platform_words word.now }
+{
+    first_near(&PLATFORM_WORDS, word)
 }
 
 fn near_line_before(word: &[u8]) -> Option<&'static [u8]>
@@ -344,6 +367,7 @@ fn near<'n>(wanted: &DriverWanted, names: &'n Names, word: &[u8]) -> Option<&'n 
         DriverWanted::Before => near_before(word),
         DriverWanted::Behind => near_behind(word),
         DriverWanted::Act => near_act(word),
+        DriverWanted::Platform => near_platform(word),
         DriverWanted::Kind => near_any_kind(word),
         DriverWanted::Descriptor => near_descriptor(word),
         DriverWanted::Freed => near_freed(word),

@@ -19,4 +19,4 @@ pub use pieces::{
     access_text, code_text, kind_text, last_text, put_counted, put_endpoint, put_older, put_one,
     put_page, put_pasid,
 };
-pub use platforms::put_platform;
+pub use platforms::{put_not_asked, put_platform};

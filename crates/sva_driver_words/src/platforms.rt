@@ -1,6 +1,6 @@
-//! What a platform is like, in words.
+//! What a platform is like, in words, and what it isn't.
 
-ghost use Rattle.std.specs.Prelude.{◌≡◌, ◌++◌, OnOk};
+ghost use Rattle.std.specs.Prelude.{◌≡◌, ◌++◌, ◌||◌, OnOk};
 ghost use Rattle.sva_driver_words.specs.Platforms as platforms;
 
 use std::alloc::AllocError;
@@ -45,5 +45,83 @@ pub fn put_platform(out: &mut Vec<u8>, settings: &Settings) -> Result<(), AllocE
     let caches = one_of(settings.has_caches, ", caches on", ", caches off");
     out.extend_from_slice(caches.as_bytes())?;
     out.extend_from_slice(stopped_words(settings.stopped).as_bytes())?;
+    Ok(())
+}
+
+/// Whether a status may come where what says now that a PASID has stopped may not.
+fn may_be_status(stopped: Stopped) -> bool
+    ensures { result ≡ platforms.may_be_status stopped }
+{
+    match stopped {
+        Stopped::Marker => true,
+        Stopped::Status | Stopped::Known => false,
+    }
+}
+
+/// Whether what the host sees at once may be there where what says now that a PASID has stopped may not.
+fn may_be_known(link: Link, stopped: Stopped) -> bool
+    ensures { result ≡ platforms.may_be_known link stopped }
+{
+    match stopped {
+        Stopped::Marker => true,
+        Stopped::Status => match link {
+            Link::Free => false,
+            Link::Posted => true,
+        },
+        Stopped::Known => false,
+    }
+}
+
+fn either(so: bool, other: bool) -> bool
+    ensures { result ≡ (so || other) }
+{
+    so || other
+}
+
+/// Appends a setting that wasn't asked, where it leaves more open than the one that was.
+fn put_other(
+    out: &mut Vec<u8>,
+    is_begun: bool,
+    so: bool,
+    word: &'static str,
+) -> Result<(), AllocError>
+    ensures { OnOk result (out.new.items ≡ out.old.items ++ platforms.other_text is_begun so word.now) }
+{
+    if !so {
+        return Ok(());
+    }
+    out.extend_from_slice(one_of(is_begun, ", ", "not asked: ").as_bytes())?;
+    out.extend_from_slice(word.as_bytes())
+}
+
+fn put_others_end(out: &mut Vec<u8>, is_begun: bool) -> Result<(), AllocError>
+    ensures { OnOk result (out.new.items ≡ out.old.items ++ platforms.others_end is_begun) }
+{
+    if !is_begun {
+        return Ok(());
+    }
+    out.extend_from_slice(b"\n")
+}
+
+/// Appends a line with what leaves more open than these settings do, and so wasn't asked, where there is such a thing:
+/// `not asked: waits plain, drain arrived, caches on, stopped status, stopped known`.
+pub fn put_not_asked(out: &mut Vec<u8>, settings: &Settings) -> Result<(), AllocError>
+    ensures { OnOk result (out.new.items ≡ out.old.items ++ platforms.not_asked_text settings.now) }
+{
+    let waits = settings.all_fence;
+    let drain = settings.drain_empties;
+    let caches = !settings.has_caches;
+    let status = may_be_status(settings.stopped);
+    let known = may_be_known(settings.link, settings.stopped);
+    let behind_drain = either(waits, drain);
+    let behind_caches = either(behind_drain, caches);
+    let behind_status = either(behind_caches, status);
+    let behind_known = either(behind_status, known);
+    put_other(out, false, waits, "waits plain")?;
+    put_other(out, waits, drain, "drain arrived")?;
+    put_other(out, behind_drain, caches, "caches on")?;
+    put_other(out, behind_caches, status, "stopped status")?;
+    put_other(out, behind_status, known, "stopped known")?;
+    put_others_end(out, behind_known)?;
     Ok(())
 }

@@ -82,34 +82,40 @@ mapped_at w f m la g = ap (place_at w) la ∙ ap (place_by w) g
 
 safe_place : (w : World) (e b q m age : ℕ) → Invariant w → is_active ((w.part e).stage b) ≡ true → w.mappings.space m ≡ (w.part e).space b
     → w.mappings.page m ≡ q → ((k x : ℕ) → (w.part e).stage b ≡ Invalidating k x → is_done ((w.part e).order_state k) ≡ false)
-    → IsSafe w.mappings e (w.part e) b m age → IsPresent w e b q m ⊎ (place w (w.mappings.frame m) ≡ Withheld)
+    → IsSafe w.mappings e (w.part e) b m age
+    → (w.mappings.latest (w.mappings.frame m) ≡ Some m) × (IsPresent w e b q m ⊎ (place w (w.mappings.frame m) ≡ Withheld))
 safe_place w e b q m age i a sp pg inv (inl h) =
-    let at = i.mapped.present_at m h in
-    inl (record {
-      live = i.mapped.bound_live e b (active_unreleased ((w.part e).stage b) a);
-      there = m;
-      maps = ap (λ s. w.mappings.at s q) (sym sp)
-          ∙ ap (w.mappings.at (w.mappings.space m)) (sym pg) ∙ at;
-      frame = refl;
-      write = refl;
-    })
-safe_place w e b q m age i a sp pg inv (inr h) = inr (go (w.mappings.state m) refl h)
+    let at = i.mapped.present_at m h in (
+      i.mapped.latest m h,
+      inl (record {
+        live = i.mapped.bound_live e b (active_unreleased ((w.part e).stage b) a);
+        there = m;
+        maps = ap (λ s. w.mappings.at s q) (sym sp)
+            ∙ ap (w.mappings.at (w.mappings.space m)) (sym pg) ∙ at;
+        frame = refl;
+        write = refl;
+      }),
+    )
+safe_place w e b q m age i a sp pg inv (inr h) = let x = go (w.mappings.state m) refl h in (x.0, inr x.1)
   where
-    go : (z : MappingState) → w.mappings.state m ≡ z → Pending (w.part e) b (w.mappings.page m) age (owed_of z e) → place w (w.mappings.frame m) ≡ Withheld
+    go : (z : MappingState) → w.mappings.state m ≡ z → Pending (w.part e) b (w.mappings.page m) age (owed_of z e)
+        → (w.mappings.latest (w.mappings.frame m) ≡ Some m) × (place w (w.mappings.frame m) ≡ Withheld)
     go Unmade g k = absurd k
     go Present g k = absurd k
     go (Gone v) g k =
         let there = (i.parts e).there b (unreleased_bound (w.part e) b (active_unreleased ((w.part e).stage b) a)) in
         let s = silent (w.part e) b (w.mappings.page m) age (v e) inv k in
-        withheld_at w (w.mappings.frame m) m e v (latest_of (i.mapped.passed m v e g there) s) g there s
+        let la = latest_of (i.mapped.passed m v e g there) s in
+        (la, withheld_at w (w.mappings.frame m) m e v la g there s)
       where
         latest_of : (w.mappings.latest (w.mappings.frame m) ≡ Some m) ⊎ (answered (w.part e) (v e) ≡ true) → answered (w.part e) (v e) ≡ false
             → w.mappings.latest (w.mappings.frame m) ≡ Some m
         latest_of (inl x) s = x
         latest_of (inr y) s = absurd (cc)
 
--- each usable translation is present or leads to a withheld frame
-pub usable : (w : World) (e b q m : ℕ) → Invariant w → Usable w e b q m → IsPresent w e b q m ⊎ (place w (w.mappings.frame m) ≡ Withheld)
+-- each usable translation leads to its frame by the last mapping of it, and is present or leads to a withheld frame
+pub usable : (w : World) (e b q m : ℕ) → Invariant w → Usable w e b q m
+    → (w.mappings.latest (w.mappings.frame m) ≡ Some m) × (IsPresent w e b q m ⊎ (place w (w.mappings.frame m) ≡ Withheld))
 usable w e b q m i (cached r k h) =
     let ow = (i.parts e).owners in
     safe_place w e ((w.part e).request_binding r) ((w.part e).request_page r) k (w.part e).uses i (ow.held r k h) (ow.held_space r k h) (ow.held_page r k h)

@@ -43,7 +43,7 @@ divided rule c steps =
 
 usable_now : (rule : PasidRule) (c : Config) (steps : List Step) (e b q m : ℕ) → Usable (world_after rule c steps) e b q m
     → IsPresent (world_after rule c steps) e b q m ⊎ IsWithheld rule c steps ((world_after rule c steps).mappings.frame m)
-usable_now rule c steps e b q m u = go (usable (world_after rule c steps) e b q m (always rule c steps) u)
+usable_now rule c steps e b q m u = go (usable (world_after rule c steps) e b q m (always rule c steps) u).1
   where
     go : IsPresent (world_after rule c steps) e b q m ⊎ (place (world_after rule c steps) ((world_after rule c steps).mappings.frame m) ≡ Withheld)
         → IsPresent (world_after rule c steps) e b q m ⊎ IsWithheld rule c steps ((world_after rule c steps).mappings.frame m)
@@ -55,6 +55,7 @@ always_agrees rule c steps fits =
     record {
       owner = λ e b q m u. owner (world_after rule c steps) e b q m (always rule c steps) u;
       usable = λ e b q m u. usable_now rule c steps e b q m u;
+      latest = λ e b q m u. (usable (world_after rule c steps) e b q m (always rule c steps) u).0;
       matched = λ e. matched (world_after rule c steps) e (always rule c steps);
       divided = divided rule c steps;
       distinct = λ e b d u v same. distinct (world_after rule c steps) e b d (always rule c steps) u v same;

@@ -33,6 +33,15 @@ AlwaysPresentOrWithheld =
     → IsPresent (world_after rule config steps) endpoint binding page mapping
     ⊎ IsWithheld rule config steps ((world_after rule config steps).mappings.frame mapping)
 
+-- and by the last mapping of its frame: what is usable doesn't lead to a frame that was given out again since, nor to one that is withheld for whom
+-- it was given to since
+abbrev pub AlwaysByTheLatest : Type 0
+AlwaysByTheLatest =
+    (rule : PasidRule) (config : Config) (steps : List Step) (endpoint binding page mapping : ℕ)
+    → Fits config
+    → Usable (world_after rule config steps) endpoint binding page mapping
+    → (world_after rule config steps).mappings.latest ((world_after rule config steps).mappings.frame mapping) ≡ Some mapping
+
 -- after every list of steps page requests, markers and responses stay with the binding that asked (PCI Express Base 5.0, section 10.4)
 abbrev pub AlwaysMatched : Type 0
 AlwaysMatched =

@@ -2,7 +2,8 @@
 #![tactic(auto)]
 
 ghost use Rattle.sva_model.specs.Claims.{AlwaysAgrees};
-ghost use Rattle.sva_laws.specs.Laws.{AlwaysOwned, AlwaysPresentOrWithheld, AlwaysMatched, AlwaysDivided, AlwaysAddsUp, AlwaysWithheldExactly};
+ghost use Rattle.sva_laws.specs.Laws.{AlwaysOwned, AlwaysPresentOrWithheld, AlwaysByTheLatest, AlwaysMatched};
+ghost use Rattle.sva_laws.specs.Laws.{AlwaysDivided, AlwaysAddsUp, AlwaysWithheldExactly};
 ghost use Rattle.sva_laws.specs.Laws.{FreeByTheLastAnswer, AlwaysTold, AlwaysToldOfRange, AlwaysGiven};
 ghost use Rattle.sva_laws.specs.LabelLaws.{AlwaysLabelled, AlwaysFound, AlwaysCarried, AlwaysFindsMappings};
 ghost use Rattle.sva_laws.specs.UnderWay.{AlwaysHoldsJobs, AlwaysUnderWay, NeverOccurring};
@@ -22,8 +23,8 @@ ghost use Rattle.sva_laws.specs.EndpointCauses.{AlwaysHasCause, AlwaysStays};
 ghost use Rattle.sva_laws.specs.UnitSteps.{AlwaysCountsResetDones, AlwaysChangesOrders, AlwaysVoidByReset, AlwaysNotesMarkers, AlwaysGivesCookies};
 
 /// The headline. After every list of steps, however late messages come in a permitted order: each translation that an
-/// endpoint may still use has an unreleased owner, and is the present one of its page or leads to a withheld frame; page
-/// requests and responses are matched to the binding that asked; each frame is at exactly one page of one live space, or
+/// endpoint may still use has an unreleased owner, is the present one of its page or leads to a withheld frame, and leads to
+/// its frame by the last mapping of that frame; page requests and responses are matched to the binding that asked; each frame is at exactly one page of one live space, or
 /// withheld, or free; it is withheld exactly while an endpoint that was bound at its unmapping hasn't answered; two
 /// unreleased bindings of an endpoint have two PASIDs; and, by the rule of one PASID for each space, any two have one
 /// PASID exactly where they have one space.
@@ -31,10 +32,12 @@ pub fn headline()
     ensures always { AlwaysAgrees }
 {}
 
-/// Usable translations: each has an unreleased owner, and is present or leads to a withheld frame.
+/// Usable translations: each has an unreleased owner, is present or leads to a withheld frame, and leads to its frame by the last
+/// mapping of that frame.
 pub fn translations()
     ensures owned { AlwaysOwned }
     ensures safe { AlwaysPresentOrWithheld }
+    ensures latest { AlwaysByTheLatest }
 {}
 
 /// Page requests, groups, jobs, markers and responses stand under the binding that asked; hands, groups and the job table

@@ -189,8 +189,8 @@ pub record IsMatched (part : Endpoint) : Type 0 where
       → (part.at_index (part.index group) ≡ Some group) × (part.filed_under group ≡ part.asker group)
   pub once : (group : ℕ) → part.responses group ≤ 1
 
--- The agreement: after these steps each usable translation has an unreleased owner and is present or leads to a withheld
--- frame; page requests and responses are matched; frames are divided; and two unreleased bindings of an endpoint have two
+-- The agreement: after these steps each usable translation has an unreleased owner, is present or leads to a withheld
+-- frame, and leads to its frame by the last mapping of it; page requests and responses are matched; frames are divided; and two unreleased bindings of an endpoint have two
 -- PASIDs, of whatever endpoints two where they have two spaces.
 pub record Agrees (rule : PasidRule) (config : Config) (steps : List Step) : Type 0 where
   pub owner :
@@ -202,6 +202,11 @@ pub record Agrees (rule : PasidRule) (config : Config) (steps : List Step) : Typ
       → Usable (world_after rule config steps) endpoint binding page mapping
       → IsPresent (world_after rule config steps) endpoint binding page mapping
       ⊎ IsWithheld rule config steps ((world_after rule config steps).mappings.frame mapping)
+  -- it leads to its frame by the last mapping of that frame: so where the frame is withheld, it isn't so for a later owner
+  pub latest :
+      (endpoint binding page mapping : ℕ)
+      → Usable (world_after rule config steps) endpoint binding page mapping
+      → (world_after rule config steps).mappings.latest ((world_after rule config steps).mappings.frame mapping) ≡ Some mapping
   pub matched : (endpoint : ℕ) → IsMatched ((world_after rule config steps).part endpoint)
   pub divided : IsDivided rule config steps
   pub distinct :

@@ -3,7 +3,7 @@ use Rattle.std.proofs.Common.{◌≡◌, ◌≤◌, ◌⊎◌, arith, inl, inr, 
 use Rattle.std.proofs.Common.{[], ◌∷◌, Option, Some, None, IfSome, Result, Ok, Err, OnOk}
 use Rattle.std.proofs.Common.{IfOk, true, false}
 use Rattle.std.specs.Io.KnownBytes.{Appends, Keeps}
-use Rattle.clap.specs.Words.{HasKind, IsAmong, Kinds, kind_of}
+use Rattle.clap.specs.Words.{HasKind, IsAmong, Kinds, Text, kind_of}
 use Rattle.clap.specs.declared.error.Error.{Error}
 use Rattle.clap.specs.declared.error.kind.ErrorKind.{ErrorKind}
 use Rattle.clap.specs.declared.error.kind.ErrorKind.TheVariants.{DisplayHelp, DisplayVersion, OutOfMemory}
@@ -21,10 +21,12 @@ use Rattle.sva_script_reports.specs.Scripts.{plain_of, test_of}
 use Rattle.sva_script_reports.specs.Shows.{show_of}
 use Rattle.sva_script_reports.specs.Whys.{whys_of}
 use Rattle.sva_script_traces.specs.Traces.{trace_of}
-use Rattle.sva_program.specs.Run.{HasCause, Makes, Reports, Rules, RunsTo, WhereKnown, explored_of, ran_of, ruled_of, status_of, style_of}
+use Rattle.sva_program.specs.Run.{HasCause, Makes, Reports, Rules, RunsTo, WhereKnown, explored_of, is_strict, ran_of, ruled_of, status_of, status_of_untried}
+use Rattle.sva_program.specs.Run.{style_of}
+use Rattle.sva_command.specs.Command.{Asks, AsksStrict}
 use Rattle.sva_command.specs.declared.command.Asked.{Asked}
 use Rattle.sva_driver_reports.specs.declared.reports.Ruling.{Ruling}
-use Rattle.sva_driver_reports.specs.declared.reports.Ruling.TheVariants.{Safe, Unsafe, Stuck, CutOff}
+use Rattle.sva_driver_reports.specs.declared.reports.Ruling.TheVariants.{Safe, Untried, Right, Unsafe, Stuck, CutOff}
 use Rattle.sva_command.specs.declared.command.Asked.TheVariants.{Chart, Check, Explore, Judge, Plain, Replay, Show, Storm, Test, Trace, Why}
 use Rattle.sva_program.specs.declared.run.Ending.{Ending}
 use Rattle.sva_race_reports.specs.declared.judging.Judged.{Judged}
@@ -112,56 +114,78 @@ caused_ruling reader writer found ended is h = subst (HasCause reader writer) (s
 
 -- ---- The status
 
-run_status : (found : Result Outcome DriveFault) (ended : Result Ending DriveFault) → ended ≡ ran_of found → status_of ended ≤ 2
-run_status found ended is = subst (λ e. status_of e ≤ 2) (sym is) (go found)
+run_status : (strict : Bool) (found : Result Outcome DriveFault) (ended : Result Ending DriveFault) → ended ≡ ran_of found → status_of strict ended ≤ 2
+run_status strict found ended is = subst (λ e. status_of strict e ≤ 2) (sym is) (go found)
   where
-    go : (found : Result Outcome DriveFault) → status_of (ran_of found) ≤ 2
+    go : (found : Result Outcome DriveFault) → status_of strict (ran_of found) ≤ 2
     go (Ok Done) = omega arith
     go (Ok Faulted) = omega arith
     go (Err fault) = omega arith
 
 -- of a command on steps
 pub steps_status : (asked : Asked) (input old new : Option (List ℕ)) (ended : Result Ending DriveFault)
-    → ((most : ℕ) (whys few_ends : Bool) → asked ≡ Explore most whys few_ends → ⊥) → ((run : Bool) (most : ℕ) → asked ≡ Judge run most → ⊥)
-    → Reports asked input old new ended → status_of ended ≤ 2
-steps_status Replay input old new ended other one h = run_status h.0 ended h.1
-steps_status Check input old new ended other one h = run_status h.0 ended h.1
-steps_status (Storm turns) input old new ended other one h = run_status h.0 ended h.1
-steps_status Plain input old new ended other one h = run_status h.0 ended h.1
-steps_status Test input old new ended other one h = run_status h.0 ended h.1
-steps_status Show input old new ended other one h = run_status h.0 ended h.1
-steps_status Why input old new ended other one h = run_status h.0 ended h.1
+    → ((most : ℕ) (whys few_ends : Bool) → asked ≡ Explore most whys few_ends → ⊥) → ((run : Bool) (most : ℕ) (strict : Bool) → asked ≡ Judge run most strict → ⊥)
+    → Reports asked input old new ended → status_of (is_strict asked) ended ≤ 2
+steps_status Replay input old new ended other one h = run_status false h.0 ended h.1
+steps_status Check input old new ended other one h = run_status false h.0 ended h.1
+steps_status (Storm turns) input old new ended other one h = run_status false h.0 ended h.1
+steps_status Plain input old new ended other one h = run_status false h.0 ended h.1
+steps_status Test input old new ended other one h = run_status false h.0 ended h.1
+steps_status Show input old new ended other one h = run_status false h.0 ended h.1
+steps_status Why input old new ended other one h = run_status false h.0 ended h.1
 steps_status (Explore most whys few_ends) input old new ended other one h = absurd (other most whys few_ends refl)
-steps_status (Judge run most) input old new ended other one h = absurd (one run most refl)
-steps_status (Chart svg) input old new ended other one h = run_status h.0 ended h.1
-steps_status (Trace live whys) input old new ended other one h = run_status h.0 ended h.1
+steps_status (Judge run most strict) input old new ended other one h = absurd (one run most strict refl)
+steps_status (Chart svg) input old new ended other one h = run_status false h.0 ended h.1
+steps_status (Trace live whys) input old new ended other one h = run_status false h.0 ended h.1
 
 -- one of the statuses of exploring
 abbrev IsOfExploring : ℕ → Type 0
 IsOfExploring status = (status ≡ 0) ⊎ (status ≡ 1) ⊎ (status ≡ 4) ⊎ (status ≡ 5)
 
 pub exploring_status : (most : ℕ) (whys few_ends : Bool) (input old new : Option (List ℕ)) (ended : Result Ending DriveFault)
-    → Reports (Explore most whys few_ends) input old new ended → IsOfExploring (status_of ended)
-exploring_status most whys few_ends input old new ended h = subst (λ e. IsOfExploring (status_of e)) (sym h.1) (go h.0)
+    → Reports (Explore most whys few_ends) input old new ended → IsOfExploring (status_of false ended)
+exploring_status most whys few_ends input old new ended h = subst (λ e. IsOfExploring (status_of false e)) (sym h.1) (go h.0)
   where
-    go : (found : Result (Option Judged) DriveFault) → IsOfExploring (status_of (explored_of found))
+    go : (found : Result (Option Judged) DriveFault) → IsOfExploring (status_of false (explored_of found))
     go (Ok None) = inr (inl refl)
     go (Ok (Some Holds)) = inl refl
     go (Ok (Some Fails)) = inr (inr (inl refl))
     go (Ok (Some Unknown)) = inr (inr (inr refl))
     go (Err fault) = inr (inl refl)
 
-pub ruling_status : (run : Bool) (most : ℕ) (input old new : Option (List ℕ)) (ended : Result Ending DriveFault)
-    → Reports (Judge run most) input old new ended → IsOfExploring (status_of ended)
-ruling_status run most input old new ended h = subst (λ e. IsOfExploring (status_of e)) (sym h.1) (go h.0)
+-- or, with `--strict`, that of a driver in which nothing was ever tried
+abbrev pub IsOfJudging : (strict : Bool) → ℕ → Type 0
+IsOfJudging strict status = (status ≡ 0) ⊎ (status ≡ 1) ⊎ (status ≡ 4) ⊎ (status ≡ 5) ⊎ ((status ≡ 8) × (strict ≡ true))
+
+untried_status : (strict : Bool) → IsOfJudging strict (status_of_untried strict)
+untried_status true = inr (inr (inr (inr (refl, refl))))
+untried_status false = inl refl
+
+pub ruling_status : (run : Bool) (most : ℕ) (strict : Bool) (input old new : Option (List ℕ)) (ended : Result Ending DriveFault)
+    → Reports (Judge run most strict) input old new ended → IsOfJudging strict (status_of strict ended)
+ruling_status run most strict input old new ended h = subst (λ e. IsOfJudging strict (status_of strict e)) (sym h.1) (go h.0)
   where
-    go : (found : Result (Option Ruling) DriveFault) → IsOfExploring (status_of (ruled_of found))
+    go : (found : Result (Option Ruling) DriveFault) → IsOfJudging strict (status_of strict (ruled_of found))
     go (Ok None) = inr (inl refl)
     go (Ok (Some Safe)) = inl refl
+    go (Ok (Some Untried)) = untried_status strict
+    go (Ok (Some Right)) = inl refl
     go (Ok (Some Unsafe)) = inr (inr (inl refl))
     go (Ok (Some Stuck)) = inr (inr (inl refl))
-    go (Ok (Some CutOff)) = inr (inr (inr refl))
+    go (Ok (Some CutOff)) = inr (inr (inr (inl refl)))
     go (Err fault) = inr (inl refl)
+
+-- where the words ask for it, that is `--strict` of theirs
+pub strictly : (run : Bool) (most : ℕ) (strict : Bool) (words : List Text) (status : ℕ) → Asks (Judge run most strict) words
+    → IsOfJudging strict status
+    → (status ≡ 0) ⊎ (status ≡ 1) ⊎ (status ≡ 4) ⊎ (status ≡ 5) ⊎ ((status ≡ 8) × AsksStrict words)
+strictly run most strict words status asks (inl done) = inl done
+strictly run most strict words status asks (inr (inl fault)) = inr (inl fault)
+strictly run most strict words status asks (inr (inr (inl failed))) = inr (inr (inl failed))
+strictly run most strict words status asks (inr (inr (inr (inl unknown)))) = inr (inr (inr (inl unknown)))
+strictly true most true words status asks (inr (inr (inr (inr (untried, is))))) = absurd (cc asks.1)
+strictly false most true words status asks (inr (inr (inr (inr (untried, is))))) = inr (inr (inr (inr (untried, (most, asks)))))
+strictly run most false words status asks (inr (inr (inr (inr (untried, is))))) = absurd (cc is)
 
 appends_nothing : (old : Option (List ℕ)) → Appends old old []
 appends_nothing None = tt
@@ -198,7 +222,7 @@ unwritten_by Why input old = lacking (unwritten_where Outcome _ input old (λ te
 unwritten_by (Chart svg) input old =
     lacking (unwritten_where Outcome _ input old (λ text. (show_of text, (refl, λ wrong. refl), unprinted (show_of text) old)))
 unwritten_by (Explore most whys few_ends) input old = (Err Memory, refl, unwritten_where (Option Judged) _ input old (λ text. nothing_of old []))
-unwritten_by (Judge run most) input old = (Err Memory, refl, unwritten_where (Option Ruling) _ input old (λ text. unruled run most text old))
+unwritten_by (Judge run most strict) input old = (Err Memory, refl, unwritten_where (Option Ruling) _ input old (λ text. unruled run most text old))
 unwritten_by (Trace live whys) None old = lacking tt
 unwritten_by (Trace live whys) (Some text) old = lacking (unprinted (trace_of (style_of live whys) text) old)
 

@@ -24,27 +24,38 @@ use Rattle.sva_race_reports.specs.declared.judging.Judged.TheVariants.{Holds, Fa
 use Rattle.sva_race_reports.specs.declared.searching.Wanted.{Wanted}
 use Rattle.sva_race_reports.specs.Explored.{Explores}
 use Rattle.sva_driver_reports.specs.declared.reports.Ruling.{Ruling}
-use Rattle.sva_driver_reports.specs.declared.reports.Ruling.TheVariants.{Safe, Unsafe, Stuck, CutOff}
+use Rattle.sva_driver_reports.specs.declared.reports.Ruling.TheVariants.{Safe, Untried, Right, Unsafe, Stuck, CutOff}
 use Rattle.sva_driver_runs.specs.Judged.{Judges, Runs}
 use Rattle.sva_command.specs.declared.command.Asked.{Asked}
 use Rattle.sva_command.specs.declared.command.Asked.TheVariants.{Replay, Check, Storm, Plain, Test, Show, Why, Chart, Explore, Judge, Trace}
 use Rattle.sva_program.specs.declared.run.Ending.{Ending}
 use Rattle.sva_program.specs.declared.run.Ending.TheVariants.{Explored, Ran, Ruled}
 
--- the status: 0 where the steps were run, all claims of a race hold, or a driver is safe; 1 for a line fault, a refused config and every
--- fault of a stream or of memory; 4 where a claim fails, or a driver isn't safe, or stuck; and 5 where no claim does and one is unknown, or
--- the search of a driver was cut off
-abbrev pub status_of : Result Ending DriveFault → ℕ
-status_of (Ok (Ran Done)) = 0
-status_of (Ok (Ran Faulted)) = 1
-status_of (Ok (Explored Holds)) = 0
-status_of (Ok (Explored Fails)) = 4
-status_of (Ok (Explored Unknown)) = 5
-status_of (Ok (Ruled Safe)) = 0
-status_of (Ok (Ruled Unsafe)) = 4
-status_of (Ok (Ruled Stuck)) = 4
-status_of (Ok (Ruled CutOff)) = 5
-status_of (Err fault) = 1
+-- `--strict` is of a driver that is judged
+abbrev pub is_strict : Asked → Bool
+is_strict (Judge run most strict) = strict
+is_strict asked = false
+
+-- where nothing was ever tried in a driver that is safe, the verdict says nothing
+abbrev pub status_of_untried : (strict : Bool) → ℕ
+status_of_untried strict = if strict then 8 else 0
+
+-- the status: 0 where the steps were run, all claims of a race hold, or a driver is safe or right; 1 for a line fault, a refused config and every
+-- fault of a stream or of memory; 4 where a claim fails, or a driver isn't safe, or stuck; 5 where no claim does and one is unknown, or
+-- the search of a driver was cut off; and, with `--strict`, 8 where nothing was ever tried in one
+abbrev pub status_of : (strict : Bool) → Result Ending DriveFault → ℕ
+status_of strict (Ok (Ran Done)) = 0
+status_of strict (Ok (Ran Faulted)) = 1
+status_of strict (Ok (Explored Holds)) = 0
+status_of strict (Ok (Explored Fails)) = 4
+status_of strict (Ok (Explored Unknown)) = 5
+status_of strict (Ok (Ruled Safe)) = 0
+status_of strict (Ok (Ruled Untried)) = status_of_untried strict
+status_of strict (Ok (Ruled Right)) = 0
+status_of strict (Ok (Ruled Unsafe)) = 4
+status_of strict (Ok (Ruled Stuck)) = 4
+status_of strict (Ok (Ruled CutOff)) = 5
+status_of strict (Err fault) = 1
 
 -- how a run of steps ends
 abbrev pub ran_of : Result Outcome DriveFault → Result Ending DriveFault
@@ -143,7 +154,7 @@ Reports Why input old new = RunsTo (λ found. WhereKnown (λ text. Prints (whys_
 Reports (Chart svg) input old new = RunsTo (λ found. WhereKnown (λ text. Charts text old new found) input old new found)
 Reports (Explore most whys few_ends) input old new =
     ExploresTo (λ found. WhereKnown (λ text. Explores text (wanted_of most whys few_ends) old new found) input old new found)
-Reports (Judge run most) input old new = RulesTo (λ found. WhereKnown (λ text. Rules run most text old new found) input old new found)
+Reports (Judge run most strict) input old new = RulesTo (λ found. WhereKnown (λ text. Rules run most text old new found) input old new found)
 Reports (Trace live whys) input old new = RunsTo (λ found. IfSome input (λ text. Prints (trace_of (style_of live whys) text) old new found))
 
 -- a text for the user: something is said, and where the value's own text is known and isn't empty, it is that one

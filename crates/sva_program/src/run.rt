@@ -3,9 +3,9 @@
 ghost use Rattle.std.specs.Prelude.{◌≡◌, ◌≢◌, ◌≤◌, ◌<◌, ◌⊎◌, List, ℕ, [], length, Option, OnOk, Result};
 ghost use Rattle.std.specs.Io.KnownBytes.{Appends};
 ghost use Rattle.std.specs.IoError.{error_kind};
-ghost use Rattle.sva_command.specs.Command.{Asks, AsksExplore, AsksJudge, AsksRun, AsksText, CallsHelp, CallsVersion, IsMistaken, texts};
-ghost use Rattle.sva_program.specs.Run.{HasCause, IsSaid, Reports, Rules, Says, WhereKnown, columns_of, complaint, explored_of, fault_line, ran_of, ruled_of};
-ghost use Rattle.sva_program.specs.Run.{status_of, style_of, unread_line, wanted_of};
+ghost use Rattle.sva_command.specs.Command.{Asks, AsksExplore, AsksJudge, AsksRun, AsksStrict, AsksText, CallsHelp, CallsVersion, IsMistaken, texts};
+ghost use Rattle.sva_program.specs.Run.{HasCause, IsSaid, Reports, Rules, Says, WhereKnown, columns_of, complaint, explored_of, fault_line, is_strict, ran_of, ruled_of};
+ghost use Rattle.sva_program.specs.Run.{status_of, status_of_untried, style_of, unread_line, wanted_of};
 ghost use Rattle.sva_reports.specs.Streams.{IsNew, Writes};
 
 use crate::storming::drive_storm;
@@ -41,6 +41,9 @@ const FAILED: u8 = 4;
 /// No claim of a race fails, and one is unknown; or the search of a driver was cut off.
 const UNKNOWN: u8 = 5;
 
+/// With `--strict`: in a driver nothing was ever tried, so that its verdict says nothing.
+const UNTRIED: u8 = 8;
+
 /// How a run ends where no stream failed and no memory lacked.
 #[derive(Clone, Copy, PartialEq, Eq)]
 pub enum Ending {
@@ -67,7 +70,7 @@ pub fn main_with<X: AllocGlobal + Threads + Wait + Sync, R: Read, W: Write, E: W
     requires reader { IsNew reader.old }
     requires writer { IsNew writer.old }
     requires errors { IsNew errors.old }
-    ensures run { (asked : Asked) → Asks asked (texts words.now) → (ended : Result Ending DriveFault) × (result ≡ status_of ended)
+    ensures run { (asked : Asked) → Asks asked (texts words.now) → (ended : Result Ending DriveFault) × (result ≡ status_of (is_strict asked) ended)
         × Reports asked (R.remaining reader.old.inner) (W.contents writer.old.inner) (W.contents writer.new.inner) ended
         × HasCause reader.new writer.new ended
         × Says E.contents errors.old errors.new (complaint ended)
@@ -89,12 +92,13 @@ pub fn main_with<X: AllocGlobal + Threads + Wait + Sync, R: Read, W: Write, E: W
     ensures explored { AsksExplore (texts words.now)
         → (result ≡ DONE) ⊎ (result ≡ FAULT) ⊎ (result ≡ FAILED) ⊎ (result ≡ UNKNOWN) }
     ensures judged { AsksJudge (texts words.now)
-        → (result ≡ DONE) ⊎ (result ≡ FAULT) ⊎ (result ≡ FAILED) ⊎ (result ≡ UNKNOWN) }
+        → (result ≡ DONE) ⊎ (result ≡ FAULT) ⊎ (result ≡ FAILED) ⊎ (result ≡ UNKNOWN)
+        ⊎ ((result ≡ UNTRIED) × AsksStrict (texts words.now)) }
 {
     match parse(rt.alloc(), words) {
         Ok(asked) => {
             let ended = perform(rt, asked, reader, writer, watch);
-            finish(ended, errors)
+            finish(is_strict(asked), ended, errors)
         }
         Err(error) => answer(rt.alloc(), error.kind(), &error, writer, errors),
     }
@@ -130,8 +134,18 @@ fn perform<X: AllocGlobal + Threads + Wait + Sync, R: Read, W: Write, P: Watch>(
             let wanted = wanted_of(most, whys, few_ends);
             explored(explore(rt.alloc(), wanted, reader, writer, watch))
         }
-        Asked::Judge { run, most } => ruled(rule(rt.alloc(), run, most, reader, writer, watch)),
+        Asked::Judge { run, most, .. } => ruled(rule(rt.alloc(), run, most, reader, writer, watch)),
         Asked::Trace { live, whys } => ran(trace(rt.alloc(), style_of(live, whys), reader, writer)),
+    }
+}
+
+/// Whether a verdict that says nothing has a status of its own.
+fn is_strict(asked: Asked) -> bool
+    ensures { result ≡ is_strict asked }
+{
+    match asked {
+        Asked::Judge { strict, .. } => strict,
+        _ => false,
     }
 }
 
@@ -237,7 +251,7 @@ pub fn unread<E: Write>(error: &io::Error, errors: &mut Told<E>) -> u8
         → (result ≡ MISTAKE) × Says E.contents errors.old errors.new unread_line }
 {
     match error.kind() {
-        IoErrorKind::OutOfMemory => finish(Err(DriveFault::Memory), errors),
+        IoErrorKind::OutOfMemory => faulted(DriveFault::Memory, errors),
         _ => {
             say(
                 "error: a word of the command line isn't UTF-8 text\n",
@@ -248,10 +262,17 @@ pub fn unread<E: Write>(error: &io::Error, errors: &mut Told<E>) -> u8
     }
 }
 
+/// The status of a driver in which nothing was ever tried.
+fn untried(strict: bool) -> u8
+    ensures { result ≡ status_of_untried strict }
+{
+    if strict { UNTRIED } else { DONE }
+}
+
 /// The status of a run that ended so. A fault is told to `errors`.
-fn finish<E: Write>(ended: Result<Ending, DriveFault>, errors: &mut Told<E>) -> u8
+fn finish<E: Write>(strict: bool, ended: Result<Ending, DriveFault>, errors: &mut Told<E>) -> u8
     requires { IsNew errors.old }
-    ensures status { result ≡ status_of ended }
+    ensures status { result ≡ status_of strict ended }
     ensures said { Says E.contents errors.old errors.new (complaint ended) }
     ensures silent { OnOk ended (errors.new ≡ errors.old) }
 {
@@ -262,6 +283,8 @@ fn finish<E: Write>(ended: Result<Ending, DriveFault>, errors: &mut Told<E>) -> 
         Ok(Ending::Explored(Judged::Fails)) => FAILED,
         Ok(Ending::Explored(Judged::Unknown)) => UNKNOWN,
         Ok(Ending::Ruled(Ruling::Safe)) => DONE,
+        Ok(Ending::Ruled(Ruling::Untried)) => untried(strict),
+        Ok(Ending::Ruled(Ruling::Right)) => DONE,
         Ok(Ending::Ruled(Ruling::Unsafe)) => FAILED,
         Ok(Ending::Ruled(Ruling::Stuck)) => FAILED,
         Ok(Ending::Ruled(Ruling::CutOff)) => UNKNOWN,
@@ -327,13 +350,13 @@ fn answer<T: Display, W: Write, E: Write>(
     ensures status { result ≤ MISTAKE }
 {
     match kind {
-        ErrorKind::OutOfMemory => finish(Err(DriveFault::Memory), errors),
+        ErrorKind::OutOfMemory => faulted(DriveFault::Memory, errors),
         ErrorKind::DisplayHelp | ErrorKind::DisplayVersion => match show(alloc, error, writer) {
             Ok(()) => DONE,
-            Err(fault) => finish(Err(fault), errors),
+            Err(fault) => faulted(fault, errors),
         },
         _ => match show(alloc, error, errors) {
-            Err(DriveFault::Memory) => finish(Err(DriveFault::Memory), errors),
+            Err(DriveFault::Memory) => faulted(DriveFault::Memory, errors),
             _ => MISTAKE,
         },
     }

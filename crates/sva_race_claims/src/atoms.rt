@@ -4,8 +4,9 @@ ghost use Rattle.std.specs.Prelude.{◌≡◌, ◌+◌, ◌<◌, ◌≤◌, ◌^
 ghost use Rattle.sva_grammar.specs.Grammar.{number};
 ghost use Rattle.sva_script.specs.Expect.{expected_of};
 ghost use Rattle.sva_script_reading.specs.Begins.{joined_words};
-ghost use Rattle.sva_race_claims.specs.Conditions.{answer_judged, atom_of, done_of, endpoint_if, is_not, is_of};
-ghost use Rattle.sva_race_claims.specs.Conditions.{judged, literal_of, look_at, nots, place_of, times_by, times_of};
+ghost use Rattle.sva_race_claims.specs.Conditions.{answer_judged, atom_of, done_of, endpoint_if, endpoint_place};
+ghost use Rattle.sva_race_claims.specs.Conditions.{is_not, is_of, judged, literal_of, look_at, nots, place_of};
+ghost use Rattle.sva_race_claims.specs.Conditions.{times_by, times_of};
 ghost use Rattle.sva_race_claims.specs.Conditions.{usable_of, would_of};
 ghost use Rattle.sva_race_claims.specs.Seen.{atom_seen, has_name, line_seen, literal_seen};
 ghost use Rattle.sva_race_claims.specs.Seen.AtomSaid.{WouldSaid};
@@ -71,13 +72,23 @@ fn look_at<'a>(alloc: Global, frame: &'a [u8]) -> Result<Vec<&'a [u8]>, AllocErr
     Ok(words)
 }
 
-/// The endpoint of an atom `usable F E`, whose words begin at `at`; none where it has no such word.
+/// Which of its words is the endpoint of an atom `usable F E` or `usable F at E`: the one behind `at`, if that stands
+/// behind F.
+fn endpoint_place(words: &[&[u8]]) -> usize
+    ensures place { result ≡ endpoint_place (map (λ word. word.now) words.now) }
+    ensures bounds { 2 ≤ result × result ≤ 3 }
+{
+    if is(word_at(words, 2), b"at") { 3 } else { 2 }
+}
+
+/// The endpoint of an atom `usable F E` or `usable F at E`, whose words begin at `at`; none where F is the last word.
 fn endpoint_if(endpoints: u64, words: &[&[u8]], at: usize) -> Result<Option<u64>, RaceWrong>
     requires { at + length words.now + 3 < 2 ^ 64 }
     ensures { result ≡ endpoint_if endpoints at (map (λ word. word.now) words.now) }
 {
     if 2 < count_of(words) {
-        match endpoint_in(endpoints, at + 2, word_at(words, 2)) {
+        let place = endpoint_place(words);
+        match endpoint_in(endpoints, at + place, word_at(words, place)) {
             Ok(endpoint) => Ok(Some(endpoint)),
             Err(wrong) => Err(wrong),
         }
@@ -86,7 +97,7 @@ fn endpoint_if(endpoints: u64, words: &[&[u8]], at: usize) -> Result<Option<u64>
     }
 }
 
-/// An atom `usable F` or `usable F E`, whose words begin at `at`.
+/// An atom `usable F`, `usable F E` or `usable F at E`, whose words begin at `at`.
 fn read_usable(
     alloc: Global,
     config: Config,
@@ -107,7 +118,7 @@ fn read_usable(
     judge_step(names, look.as_slice(), at, &mut desk)?;
     judge_frame(config.frames, lines, at + 1, word_at(words, 1)).map_err(RaceStop::Wrong)?;
     let endpoint = endpoint_if(config.endpoints, words, at).map_err(RaceStop::Wrong)?;
-    judge_end(words, at, 3).map_err(RaceStop::Wrong)?;
+    judge_end(words, at, endpoint_place(words) + 1).map_err(RaceStop::Wrong)?;
     match joined(alloc, look.as_slice()) {
         Ok(look) => Ok(Atom::Usable { endpoint, look }),
         Err(_) => Err(RaceStop::Memory),

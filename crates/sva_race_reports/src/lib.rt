@@ -13,4 +13,4 @@ mod witnesses;
 
 pub use exploring::explore;
 pub use judging::Judged;
-pub use searching::{Wanted, explore_text};
+pub use searching::{Explored, Wanted, explore_text, explore_to};

@@ -1,2 +1,4 @@
 mod Walks
 mod Tellings
+mod Limits
+mod Slots

@@ -1,20 +1,20 @@
 -- What is written of several texts.
-use Rattle.std.proofs.Common.{◌≡◌, ◌∙◌, ◌++◌, ℕ, Bool, List, Option, Ok, ap, append_assoc, subst, sym}
+use Rattle.std.proofs.Common.{◌≡◌, ◌∙◌, ◌++◌, ℕ, List, Option, Ok, ap, append_assoc, subst, sym}
 use Rattle.std.specs.Global.{Global}
 use Rattle.std.specs.Prelude.{OnOk, Result, String, Vec, Err}
 use Rattle.std.specs.declared.alloc.AllocError.{AllocError}
 use Rattle.sva_reports.specs.declared.streams.DriveFault.{DriveFault}
 use Rattle.sva_reports.specs.declared.streams.DriveFault.TheVariants.{Write}
 use Rattle.sva_reports.specs.Streams.{AppendsProperPrefix}
-use Rattle.sva_several.specs.declared.searching.Search.{Search}
+use Rattle.sva_several.specs.declared.driving.Wanted.{Wanted}
 use Rattle.sva_several.specs.Told.{IsReport, TellsAll}
 
 -- a part of it was
-pub told_part : (search : Search) (is_part : Bool) (names : List (String Global)) (texts : List (Vec ℕ Global)) (old new : Option (List ℕ)) (out : List ℕ)
-    (status : ℕ) (fault : DriveFault) → IsReport search is_part names texts out status → fault ≡ Write → AppendsProperPrefix old new out
-    → TellsAll search is_part names texts old new (Err fault)
-told_part search is_part names texts old new out status fault reports is part =
-    subst (λ f. TellsAll search is_part names texts old new (Err f)) (sym is) (out, status, reports, (part.0, part.1, part.2, part.3))
+pub told_part : (wanted : Wanted) (names : List (String Global)) (texts : List (Vec ℕ Global)) (old new : Option (List ℕ)) (out : List ℕ)
+    (status : ℕ) (fault : DriveFault) → IsReport wanted names texts out status → fault ≡ Write → AppendsProperPrefix old new out
+    → TellsAll wanted names texts old new (Err fault)
+told_part wanted names texts old new out status fault reports is part =
+    subst (λ f. TellsAll wanted names texts old new (Err f)) (sym is) (out, status, reports, (part.0, part.1, part.2, part.3))
 
 -- a line of four pieces was written, if the last one was
 pub four_pieces : {A : Type 0} (result : Result A AllocError) (old first second third new one two three four : List ℕ) → first ≡ old ++ one

@@ -62,20 +62,30 @@ some all verdict word = if count verdict all == 0 then [] else many (codes ", ")
 abbrev pub races_text : List (Result Said AllocError) → List ℕ
 races_text all =
     many [] all (Judged judged.Holds) (codes " hold") ++ many (codes ", ") all (Judged judged.Fails) (codes " fail")
-    ++ many (codes ", ") all (Judged judged.Unknown) (codes " unknown")
+    ++ many (codes ", ") all (Judged judged.Unknown) (codes " unknown") ++ some all Wrong (codes " wrong")
+
+-- of how many drivers the verdict is open, and in how many nothing was ever tried
+abbrev pub open_text : List (Result Said AllocError) → List ℕ
+open_text all = some all (Ruled ruling.CutOff) (codes " cut off") ++ some all (Ruled ruling.Untried) (codes " untried")
 
 abbrev pub drivers_text : List (Result Said AllocError) → List ℕ
 drivers_text all =
     many [] all (Ruled ruling.Safe) (codes " safe") ++ many (codes ", ") all (Ruled ruling.Unsafe) (codes " unsafe")
-    ++ many (codes ", ") all (Ruled ruling.Stuck) (codes " stuck") ++ some all (Ruled ruling.CutOff) (codes " cut off")
+    ++ many (codes ", ") all (Ruled ruling.Stuck) (codes " stuck") ++ open_text all ++ some all Wrong (codes " wrong")
+
+-- lines that were taken one after another: lead to nothing wrong, or to something, or aren't run
+abbrev pub runs_text : List (Result Said AllocError) → List ℕ
+runs_text all =
+    many [] all (Ruled ruling.Right) (codes " right") ++ many (codes ", ") all (Ruled ruling.Unsafe) (codes " wrong")
+    ++ some all Wrong (codes " not run")
 
 abbrev pub kinds_text : Search → List (Result Said AllocError) → List ℕ
 kinds_text (Races most) all = races_text all
-kinds_text (Drivers most) all = drivers_text all
-kinds_text Lines all = drivers_text all
+kinds_text (Drivers most strict) all = drivers_text all
+kinds_text Lines all = runs_text all
 
 abbrev pub totals_text : Search → List (Result Said AllocError) → List ℕ
-totals_text search all = kinds_text search all ++ some all Wrong (codes " wrong") ++ 10 ∷ []
+totals_text search all = kinds_text search all ++ 10 ∷ []
 
 -- of a part there is no last line: so the lines of all parts are those of all files
 abbrev pub totals_if : Search → (is_part : Bool) → List (Result Said AllocError) → List ℕ

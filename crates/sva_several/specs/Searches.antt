@@ -1,11 +1,13 @@
 -- What is said of a text among several is what a search of it alone says.
 use Rattle.std.specs.Global.{Global}
-use Rattle.std.specs.Prelude.{◌≡◌, ℕ, Vec, List, true, false, IfOk, Option, Some, None, Result}
+use Rattle.std.specs.Prelude.{◌≡◌, ℕ, Vec, List, Bool, true, false, IfOk, Option, Some, None, Result, option_map}
 use Rattle.std.specs.declared.alloc.AllocError.{AllocError}
 use Rattle.sva_race_reports.specs.declared.judging.Judged as the
+use Rattle.sva_race_reports.specs.declared.searching.Explored.{Explored}
 use Rattle.sva_race_reports.specs.declared.searching.Wanted.{Wanted}
-use Rattle.sva_race_reports.specs.Explored.{ExploresText}
+use Rattle.sva_race_reports.specs.Explored.{ExploresText, ExploresTo}
 use Rattle.sva_driver_reports.specs.declared.reports.Ruling.{Ruling}
+use Rattle.sva_driver_reports.specs.declared.reports.Ruling.TheVariants.{CutOff}
 use Rattle.sva_driver_runs.specs.Judged.{IsTextJudged, IsTextRun}
 use Rattle.sva_several.specs.declared.searching.Said.{Said}
 use Rattle.sva_several.specs.declared.searching.Search.{Search}
@@ -38,9 +40,38 @@ IsRun text said = (found : Option Ruling) × (said.verdict ≡ ruled found) × I
 
 abbrev pub IsSaid : Search → (text : List ℕ) → Said → Type 0
 IsSaid (Races most) text said = IsExplored most text said
-IsSaid (Drivers most) text said = IsJudged most text said
+IsSaid (Drivers most strict) text said = IsJudged most text said
 IsSaid Lines text said = IsRun text said
 
 -- where memory didn't lack
 abbrev pub IsFound : Search → Vec ℕ Global → Result Said AllocError → Type 0
 IsFound search text found = IfOk found (IsSaid search text.items)
+
+-- ---- What a search says, and whether it came to its end: then one of more moments says the same
+
+-- a text that is wrong isn't searched
+abbrev pub is_whole : Option Explored → Bool
+is_whole None = true
+is_whole (Some found) = found.is_whole
+
+abbrev pub is_ended : Option Ruling → Bool
+is_ended (Some CutOff) = false
+is_ended found = true
+
+abbrev pub TriesRace : (most : ℕ) → (text : List ℕ) → Said → (is_ended : Bool) → Type 0
+TriesRace most text said ended =
+    (found : Option Explored) × (said.verdict ≡ judged (option_map (λ found. found.judged) found)) × (ended ≡ is_whole found)
+    × ExploresTo text (line_of most) said.text.items found
+
+abbrev pub TriesDriver : (most : ℕ) → (text : List ℕ) → Said → (is_ended : Bool) → Type 0
+TriesDriver most text said ended =
+    (found : Option Ruling) × (said.verdict ≡ ruled found) × (ended ≡ is_ended found) × IsTextJudged text most found said.text.items
+
+-- lines are taken without a limit
+abbrev pub TriesLines : (text : List ℕ) → Said → (is_ended : Bool) → Type 0
+TriesLines text said ended = IsRun text said × (ended ≡ true)
+
+abbrev pub Tries : Search → (text : List ℕ) → Said → (is_ended : Bool) → Type 0
+Tries (Races most) text said ended = TriesRace most text said ended
+Tries (Drivers most strict) text said ended = TriesDriver most text said ended
+Tries Lines text said ended = TriesLines text said ended

@@ -1,9 +1,11 @@
 -- What is said of several texts: of how many each verdict, and the status.
-use Rattle.std.specs.Prelude.{ℕ, ◌+◌, ◌||◌, nat_lt, if◌then◌else◌, Bool, true, false, List, [], ◌∷◌, Result, Ok, Err}
+use Rattle.std.specs.Prelude.{ℕ, ◌+◌, ◌||◌, ◌&&◌, nat_lt, if◌then◌else◌, Bool, true, false, List, [], ◌∷◌, Result, Ok, Err}
 use Rattle.std.specs.declared.alloc.AllocError.{AllocError}
 use Rattle.sva_race_reports.specs.declared.judging.Judged.TheVariants as judged
 use Rattle.sva_driver_reports.specs.declared.reports.Ruling.TheVariants as ruling
 use Rattle.sva_several.specs.declared.searching.Said.{Said}
+use Rattle.sva_several.specs.declared.searching.Search.{Search}
+use Rattle.sva_several.specs.declared.searching.Search.TheVariants.{Drivers, Lines, Races}
 use Rattle.sva_several.specs.declared.verdicts.Verdict.{Verdict}
 use Rattle.sva_several.specs.declared.verdicts.Verdict.TheVariants.{Judged, Ruled, Wrong}
 
@@ -17,6 +19,8 @@ is_same (Judged judged.Holds) (Judged judged.Holds) = true
 is_same (Judged judged.Fails) (Judged judged.Fails) = true
 is_same (Judged judged.Unknown) (Judged judged.Unknown) = true
 is_same (Ruled ruling.Safe) (Ruled ruling.Safe) = true
+is_same (Ruled ruling.Untried) (Ruled ruling.Untried) = true
+is_same (Ruled ruling.Right) (Ruled ruling.Right) = true
 is_same (Ruled ruling.Unsafe) (Ruled ruling.Unsafe) = true
 is_same (Ruled ruling.Stuck) (Ruled ruling.Stuck) = true
 is_same (Ruled ruling.CutOff) (Ruled ruling.CutOff) = true
@@ -40,6 +44,16 @@ is_one_bad all = is_there (Judged judged.Fails) all || is_there (Ruled ruling.Un
 abbrev pub is_one_open : List (Result Said AllocError) → Bool
 is_one_open all = is_there (Judged judged.Unknown) all || is_there (Ruled ruling.CutOff) all
 
--- one is wrong, else one fails or isn't safe, else one isn't known
-abbrev pub status_of : List (Result Said AllocError) → ℕ
-status_of all = if is_there Wrong all then 1 else if is_one_bad all then 4 else if is_one_open all then 5 else 0
+-- a verdict that says nothing has a status of its own
+abbrev pub is_strict : Search → Bool
+is_strict (Drivers most strict) = strict
+is_strict (Races most) = false
+is_strict Lines = false
+
+abbrev pub is_one_untried : Search → List (Result Said AllocError) → Bool
+is_one_untried search all = is_strict search && is_there (Ruled ruling.Untried) all
+
+-- one is wrong, else one fails or isn't safe, else one isn't known, else, if that is told, in one nothing was ever tried
+abbrev pub status_of : Search → List (Result Said AllocError) → ℕ
+status_of search all =
+    if is_there Wrong all then 1 else if is_one_bad all then 4 else if is_one_open all then 5 else if is_one_untried search all then 8 else 0

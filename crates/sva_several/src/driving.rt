@@ -6,50 +6,61 @@ ghost use Rattle.sva_several.specs.Told.{IsReport, TellsAll};
 
 use crate::metering::Meter;
 use crate::reporting::report;
-use crate::searching::{Said, Search, search_all};
+use crate::searching::{Said, Search};
 use crate::verdicts::status_of;
+use crate::working::search_all;
 use std::alloc::{AllocError, Global};
 use std::io::Write;
 use std::thread::Threads;
 use sva_reports::{DriveFault, Told, write_all};
 
+/// What is wanted of several texts.
+#[derive(Clone, Copy, PartialEq, Eq)]
+pub struct Wanted {
+    /// What is done with each.
+    pub search: Search,
+    /// How many are searched at once at most. 0 is as 1.
+    pub jobs: u64,
+    /// Whether they are a part of a list.
+    pub is_part: bool,
+}
+
 /// The report of texts that were searched, and the status.
 fn report_all<X: Threads + Sync, M: Meter>(
     rt: &X,
     alloc: Global,
-    search: Search,
-    is_part: bool,
+    wanted: Wanted,
     names: &[String],
     texts: &[Vec<u8>],
     meter: &M,
 ) -> Result<(Vec<u8>, u8), AllocError>
-    ensures { IfOk result (λ made. IsReport search is_part names.now texts.now made.0.items made.1) }
+    ensures { IfOk result (λ made. IsReport wanted names.now texts.now made.0.items made.1) }
 {
-    let found = search_all(rt, alloc, search, texts, meter);
+    let search = wanted.search;
+    let found = search_all(rt, alloc, search, wanted.jobs, texts, meter);
     meter.end();
     let all = found?;
-    let out = report(alloc, search, is_part, names, all.as_slice())?;
-    Ok((out, status_of(all.as_slice())))
+    let out = report(alloc, search, wanted.is_part, names, all.as_slice())?;
+    Ok((out, status_of(search, all.as_slice())))
 }
 
-/// Searches texts side by side, and writes of each, behind the name of its file, what is said of it, and last, unless they
-/// are a part of a list, how many there are of each verdict. The status is given. After `Write` a prefix of that was
-/// written, after `Memory` nothing.
+/// Searches texts, some at once, and writes of each, behind the name of its file, what is said of it, and last, unless they
+/// are a part of a list, how many there are of each verdict. The status is given. How many are searched at once says nothing
+/// else of them. After `Write` a prefix of that was written, after `Memory` nothing.
 pub fn tell_all<X: Threads + Sync, W: Write, M: Meter>(
     rt: &X,
     alloc: Global,
-    search: Search,
-    is_part: bool,
+    wanted: Wanted,
     names: &[String],
     texts: &[Vec<u8>],
     writer: &mut Told<W>,
     meter: &M,
 ) -> Result<u8, DriveFault>
     requires { IsNew writer.old }
-    ensures told { TellsAll search is_part names.now texts.now (W.contents writer.old.inner) (W.contents writer.new.inner) result }
+    ensures told { TellsAll wanted names.now texts.now (W.contents writer.old.inner) (W.contents writer.new.inner) result }
     ensures tells { Tells writer.old writer.new result }
 {
-    match report_all(rt, alloc, search, is_part, names, texts, meter) {
+    match report_all(rt, alloc, wanted, names, texts, meter) {
         Ok((out, status)) => match write_all(writer, out.as_slice()) {
             Ok(()) => Ok(status),
             Err(fault) => Err(fault),

@@ -79,23 +79,44 @@ fn put_some(
     }
 }
 
-/// Appends how many races hold, fail and are unknown.
+/// Appends how many races hold, fail and are unknown, and how many texts are wrong.
 fn put_races(out: &mut Vec<u8>, all: &[Result<Said, AllocError>]) -> Result<(), AllocError>
     ensures { OnOk result (out.new.items ≡ out.old.items ++ lines.races_text all.now) }
 {
     put_many(out, "", all, Verdict::Judged(Judged::Holds), " hold")?;
     put_many(out, ", ", all, Verdict::Judged(Judged::Fails), " fail")?;
-    put_many(out, ", ", all, Verdict::Judged(Judged::Unknown), " unknown")
+    put_many(out, ", ", all, Verdict::Judged(Judged::Unknown), " unknown")?;
+    put_some(out, all, Verdict::Wrong, " wrong")
 }
 
-/// Appends how many drivers are safe, unsafe and stuck, and of how many that isn't known.
+/// Appends of how many drivers the verdict is open, or says nothing.
+fn put_open(out: &mut Vec<u8>, all: &[Result<Said, AllocError>]) -> Result<(), AllocError>
+    ensures { OnOk result (out.new.items ≡ out.old.items ++ lines.open_text all.now) }
+{
+    put_some(out, all, Verdict::Ruled(Ruling::CutOff), " cut off")?;
+    put_some(out, all, Verdict::Ruled(Ruling::Untried), " untried")
+}
+
+/// Appends how many drivers are safe, unsafe and stuck, of how many that isn't known, in how many nothing was ever tried, and
+/// how many texts are wrong.
 fn put_drivers(out: &mut Vec<u8>, all: &[Result<Said, AllocError>]) -> Result<(), AllocError>
     ensures { OnOk result (out.new.items ≡ out.old.items ++ lines.drivers_text all.now) }
 {
     put_many(out, "", all, Verdict::Ruled(Ruling::Safe), " safe")?;
     put_many(out, ", ", all, Verdict::Ruled(Ruling::Unsafe), " unsafe")?;
     put_many(out, ", ", all, Verdict::Ruled(Ruling::Stuck), " stuck")?;
-    put_some(out, all, Verdict::Ruled(Ruling::CutOff), " cut off")
+    put_open(out, all)?;
+    put_some(out, all, Verdict::Wrong, " wrong")
+}
+
+/// Appends of how many drivers the lines, taken one after another, lead to nothing wrong, of how many they lead to something,
+/// and how many aren't run.
+fn put_runs(out: &mut Vec<u8>, all: &[Result<Said, AllocError>]) -> Result<(), AllocError>
+    ensures { OnOk result (out.new.items ≡ out.old.items ++ lines.runs_text all.now) }
+{
+    put_many(out, "", all, Verdict::Ruled(Ruling::Right), " right")?;
+    put_many(out, ", ", all, Verdict::Ruled(Ruling::Unsafe), " wrong")?;
+    put_some(out, all, Verdict::Wrong, " not run")
 }
 
 /// Appends how many there are of each verdict.
@@ -108,7 +129,8 @@ fn put_kinds(
 {
     match search {
         Search::Races { .. } => put_races(out, all),
-        Search::Drivers { .. } | Search::Lines => put_drivers(out, all),
+        Search::Drivers { .. } => put_drivers(out, all),
+        Search::Lines => put_runs(out, all),
     }
 }
 
@@ -121,7 +143,6 @@ fn put_totals(
     ensures { OnOk result (out.new.items ≡ out.old.items ++ lines.totals_text search all.now) }
 {
     put_kinds(out, search, all)?;
-    put_some(out, all, Verdict::Wrong, " wrong")?;
     out.extend_from_slice(b"\n")
 }
 

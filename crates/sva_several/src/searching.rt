@@ -1,17 +1,13 @@
-//! One text that is searched, and several side by side.
+//! One text that is searched.
 
-ghost use Rattle.std.specs.Prelude.{◌≡◌, IfOk};
-ghost use Rattle.std.specs.List.{AllZip};
+ghost use Rattle.std.specs.Prelude.{◌≡◌, IfOk, option_map};
 ghost use Rattle.sva_several.specs.Searches as searches;
 
-use crate::metering::Meter;
 use crate::verdicts::Verdict;
-use rayon::prelude::*;
 use std::alloc::{AllocError, Global};
-use std::thread::Threads;
 use sva_driver_reports::Ruling;
 use sva_driver_runs::{judge_text, run_text};
-use sva_race_reports::{Judged, Wanted, explore_text};
+use sva_race_reports::{Explored, Wanted, explore_to};
 use sva_search::Unwatched;
 
 /// What the texts are, and what is done with each.
@@ -26,6 +22,8 @@ pub enum Search {
     Drivers {
         /// How many moments of each are looked at at most.
         most: u64,
+        /// Does a verdict that says nothing, of a driver in which nothing was ever tried, have a status of its own?
+        strict: bool,
     },
     /// The lines of drivers are taken one after another.
     Lines,
@@ -40,13 +38,32 @@ pub struct Said {
     pub text: Vec<u8>,
 }
 
+/// What a search of a text came to.
+#[derive(Drop)]
+pub(crate) struct Tried {
+    /// What is said of it.
+    pub said: Said,
+    /// Wasn't it cut off? Then a search of more moments says the same.
+    pub is_whole: bool,
+}
+
 /// What is said of a race.
-fn judged(found: Option<Judged>) -> Verdict
-    ensures { result ≡ searches.judged found }
+fn judged(found: Option<Explored>) -> Verdict
+    ensures { result ≡ searches.judged (option_map (λ found. found.judged) found) }
 {
     match found {
-        Some(judged) => Verdict::Judged(judged),
+        Some(found) => Verdict::Judged(found.judged),
         None => Verdict::Wrong,
+    }
+}
+
+/// Whether the search of a race came to its end. A text that is wrong isn't searched.
+fn is_whole(found: Option<Explored>) -> bool
+    ensures { result ≡ searches.is_whole found }
+{
+    match found {
+        Some(found) => found.is_whole,
+        None => true,
     }
 }
 
@@ -57,6 +74,16 @@ fn ruled(found: Option<Ruling>) -> Verdict
     match found {
         Some(ruling) => Verdict::Ruled(ruling),
         None => Verdict::Wrong,
+    }
+}
+
+/// Whether the search of a driver wasn't cut off.
+fn is_ended(found: Option<Ruling>) -> bool
+    ensures { result ≡ searches.is_ended found }
+{
+    match found {
+        Some(Ruling::CutOff) => false,
+        _ => true,
     }
 }
 
@@ -73,74 +100,57 @@ fn line_of(most: u64) -> Wanted
 }
 
 /// Explores a race.
-fn explore_one(alloc: Global, most: u64, text: &[u8]) -> Result<Said, AllocError>
-    ensures { IfOk result (searches.IsExplored most text.now) }
+fn explore_one(alloc: Global, most: u64, text: &[u8]) -> Result<Tried, AllocError>
+    ensures { IfOk result (λ tried. searches.TriesRace most text.now tried.said tried.is_whole) }
 {
     let mut out = Vec::new(alloc);
-    let found = explore_text(alloc, line_of(most), text, &mut out, &mut Unwatched)?;
-    Ok(Said {
-        verdict: judged(found),
-        text: out,
+    let found = explore_to(alloc, line_of(most), text, &mut out, &mut Unwatched)?;
+    Ok(Tried {
+        said: Said {
+            verdict: judged(found),
+            text: out,
+        },
+        is_whole: is_whole(found),
     })
 }
 
 /// Judges a driver.
-fn judge_one(alloc: Global, most: u64, text: &[u8]) -> Result<Said, AllocError>
-    ensures { IfOk result (searches.IsJudged most text.now) }
+fn judge_one(alloc: Global, most: u64, text: &[u8]) -> Result<Tried, AllocError>
+    ensures { IfOk result (λ tried. searches.TriesDriver most text.now tried.said tried.is_whole) }
 {
     let mut out = Vec::new(alloc);
     let found = judge_text(alloc, most, text, &mut out, &mut Unwatched)?;
-    Ok(Said {
-        verdict: ruled(found),
-        text: out,
+    Ok(Tried {
+        said: Said {
+            verdict: ruled(found),
+            text: out,
+        },
+        is_whole: is_ended(found),
     })
 }
 
 /// Takes the lines of a driver.
-fn run_one(alloc: Global, text: &[u8]) -> Result<Said, AllocError>
-    ensures { IfOk result (searches.IsRun text.now) }
+fn run_one(alloc: Global, text: &[u8]) -> Result<Tried, AllocError>
+    ensures { IfOk result (λ tried. searches.TriesLines text.now tried.said tried.is_whole) }
 {
     let mut out = Vec::new(alloc);
     let found = run_text(alloc, text, &mut out)?;
-    Ok(Said {
-        verdict: ruled(found),
-        text: out,
+    Ok(Tried {
+        said: Said {
+            verdict: ruled(found),
+            text: out,
+        },
+        is_whole: true,
     })
 }
 
 /// Searches a text.
-fn search_one(alloc: Global, search: Search, text: &[u8]) -> Result<Said, AllocError>
-    ensures { IfOk result (searches.IsSaid search text.now) }
+pub(crate) fn search_one(alloc: Global, search: Search, text: &[u8]) -> Result<Tried, AllocError>
+    ensures { IfOk result (λ tried. searches.Tries search text.now tried.said tried.is_whole) }
 {
     match search {
         Search::Races { most } => explore_one(alloc, most, text),
-        Search::Drivers { most } => judge_one(alloc, most, text),
+        Search::Drivers { most, .. } => judge_one(alloc, most, text),
         Search::Lines => run_one(alloc, text),
     }
-}
-
-/// Searches texts side by side, on as many threads as there are processors, and says of each what a search of it alone
-/// says. Of one for whose search memory lacked its error stands there, and the others go on. The meter counts those
-/// that were searched.
-pub(crate) fn search_all<X: Threads + Sync, M: Meter>(
-    rt: &X,
-    alloc: Global,
-    search: Search,
-    texts: &[Vec<u8>],
-    meter: &M,
-) -> Result<Vec<Result<Said, AllocError>>, AllocError>
-    ensures { IfOk result (λ all. AllZip (searches.IsFound search) texts.now all.items) }
-{
-    texts
-        .par_iter()
-        .map(
-            |text: &Vec<u8>| -> Result<Said, AllocError>
-                ensures { searches.IsFound search text.now result }
-            {
-                let found = search_one(alloc, search, text.as_slice());
-                meter.count();
-                found
-            },
-        )
-        .collect(rt, alloc)
 }

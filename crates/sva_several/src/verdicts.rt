@@ -3,7 +3,7 @@
 ghost use Rattle.std.specs.Prelude.{◌≡◌, ◌≤◌, length};
 ghost use Rattle.sva_several.specs.Verdicts as verdicts;
 
-use crate::searching::Said;
+use crate::searching::{Said, Search};
 use std::alloc::AllocError;
 use sva_driver_reports::Ruling;
 use sva_race_reports::Judged;
@@ -38,6 +38,8 @@ fn is_same(one: Verdict, other: Verdict) -> bool
         | (Verdict::Judged(Judged::Fails), Verdict::Judged(Judged::Fails))
         | (Verdict::Judged(Judged::Unknown), Verdict::Judged(Judged::Unknown))
         | (Verdict::Ruled(Ruling::Safe), Verdict::Ruled(Ruling::Safe))
+        | (Verdict::Ruled(Ruling::Untried), Verdict::Ruled(Ruling::Untried))
+        | (Verdict::Ruled(Ruling::Right), Verdict::Ruled(Ruling::Right))
         | (Verdict::Ruled(Ruling::Unsafe), Verdict::Ruled(Ruling::Unsafe))
         | (Verdict::Ruled(Ruling::Stuck), Verdict::Ruled(Ruling::Stuck))
         | (Verdict::Ruled(Ruling::CutOff), Verdict::Ruled(Ruling::CutOff))
@@ -81,9 +83,27 @@ fn is_one_open(all: &[Result<Said, AllocError>]) -> bool
         || count(all, Verdict::Ruled(Ruling::CutOff)) > 0
 }
 
-/// The status: 1 where one is wrong, else 4 where one fails or isn't safe, else 5 where one isn't known, else 0.
-pub(crate) fn status_of(all: &[Result<Said, AllocError>]) -> u8
-    ensures { result ≡ verdicts.status_of all.now }
+/// Whether a verdict that says nothing has a status of its own.
+fn is_strict(search: Search) -> bool
+    ensures { result ≡ verdicts.is_strict search }
+{
+    match search {
+        Search::Drivers { strict, .. } => strict,
+        Search::Races { .. } | Search::Lines => false,
+    }
+}
+
+/// Whether nothing is said of one of them, where that has a status of its own.
+fn is_one_untried(search: Search, all: &[Result<Said, AllocError>]) -> bool
+    ensures { result ≡ verdicts.is_one_untried search all.now }
+{
+    is_strict(search) && count(all, Verdict::Ruled(Ruling::Untried)) > 0
+}
+
+/// The status: 1 where one is wrong, else 4 where one fails or isn't safe, else 5 where one isn't known, else, if that is
+/// told, 8 where nothing was ever tried in one, else 0.
+pub(crate) fn status_of(search: Search, all: &[Result<Said, AllocError>]) -> u8
+    ensures { result ≡ verdicts.status_of search all.now }
 {
     if count(all, Verdict::Wrong) > 0 {
         1
@@ -91,6 +111,8 @@ pub(crate) fn status_of(all: &[Result<Said, AllocError>]) -> u8
         4
     } else if is_one_open(all) {
         5
+    } else if is_one_untried(search, all) {
+        8
     } else {
         0
     }

@@ -30,7 +30,8 @@ class Maker:
 
     def settings(self):
         pairs = ('link posted', 'waits plain', 'drain arrived', 'caches on', None)
-        found = [s for s in pairs if s and self.chance(0.35)]
+        found = [f'platform {self.one("vt-d", "vt-d", "free")}'] if self.chance(0.2) else []
+        found += [s for s in pairs if s and self.chance(0.35)]
         return found + ([self.one('stopped status', 'stopped known')] if self.chance(0.5) else [])
 
     def devices(self):
@@ -147,8 +148,8 @@ class Maker:
                 after = search.taken(driver, world, line.words, line, 0)
                 if not search.findings(after):
                     world, lines = after, lines + [act]
-                elif self.chance(0.003):
-                    return lines + [act]
+                elif self.chance(0.02):         # what stands behind it is no matter
+                    return lines + [act] + [self.host() for _ in range(self.one(0, 0, 0, 1, 2))]
             elif self.chance(0.001):
                 return lines + [act]
             if len(lines) > 16:
@@ -196,7 +197,7 @@ def make_mutant(rng):
     lines = [x for x in lines if x]
     m = Maker(rng)
     m.ends = int(lines[0].split()[1])
-    head, rest = lines[:1], [x for x in lines[1:] if x.split()[0] not in Settings.pairs]
+    head, rest = lines[:1], [x for x in lines[1:] if x.split()[0] not in ('platform', *Settings.pairs)]
     old = [x for x in lines[1:] if x not in rest]
     settings = old if m.chance(0.6) else m.settings()
     for _ in range(m.one(0, 1, 1, 2, 3, 4)):
@@ -326,4 +327,6 @@ def make_long_list(rng):
         x.try_act(x.act())
     for _ in range(4):
         x.try_act(x.act(), last=True)
+    if x.m.chance(0.3):
+        x.lines.insert(rng.randrange(len(x.lines) + 1), 'race')
     return '\n'.join(x.m.head + x.lines) + '\n'

@@ -1,5 +1,7 @@
 """Wrong readings of the rules of drivers, each of which has to be found by chance."""
 
+import reading
+import report
 import search
 import world
 from trying import Reading
@@ -74,6 +76,36 @@ def groups_by_index(old):
     return fault
 
 
+def sets_nothing(old):
+    return lambda settings, name: None
+
+
+def by_itself_alone(old):
+    """Lines that ask at an endpoint don't count."""
+    def ask_not_made(driver, e):
+        kept, driver.lines = driver.lines, []
+        found, driver.lines = old(driver, e), kept
+        return found
+    return ask_not_made
+
+
+def leaks_refused(old):
+    """A line before `race` behind which something is wrong is told as one that isn't permitted."""
+    def before_race(driver):
+        moment, ended = old(driver)
+        return moment, ended and ('not', ended[1], ended[2])
+    return before_race
+
+
+def order_of_threads(old):
+    """`--run` takes thread by thread."""
+    return lambda driver, lines: old(driver, sorted(lines, key=lambda line: driver.threads.index(line.thread)))
+
+
+def never_shows(what):
+    return lambda old: lambda moment: (each for each in old(moment) if each[0] != what)
+
+
 OF_DRIVERS = [
     Reading('a freed frame may be used', search, 'findings', without_rank(0)),
     Reading('a frozen frame may be written', search, 'findings', without_rank(1)),
@@ -94,4 +126,12 @@ OF_DRIVERS = [
     Reading('nobody has to act', search, 'followers', needs_no_duty),
     Reading('no endpoint awaits its groups', world, 'may_quit', quits_at_once),
     Reading('an entry for another space is no new owner', world, 'set_entry', first_owner_stays),
+    Reading('a platform sets nothing', reading, 'set_platform', sets_nothing),
+    Reading('each platform was asked for', report, 'not_asked', lambda old: lambda settings: []),
+    Reading('no ask by a line is one', report, 'ask_not_made', by_itself_alone),
+    Reading('a leak before `race` is a line that isn\'t permitted', search, 'before_race', leaks_refused),
+    Reading('`--run` takes the lines thread by thread', search, 'one_by_one', order_of_threads),
+    Reading('no use is ever told', search, 'shows', never_shows('use')),
+    Reading('no page request is ever told', search, 'shows', never_shows('page request')),
+    Reading('no translation leads to a frame', search, 'shows', never_shows('frame')),
 ]

@@ -65,6 +65,8 @@ class Driver:
         if first == 'config':
             self.ports, self.frames = int(words[1]), int(words[2])
             self.devices = {e: Device() for e in range(self.ports)}
+        elif first == 'platform':
+            set_platform(self.settings, words[1])
         elif first in Settings.pairs:
             setattr(self.settings, first, words[1])
         elif first == 'race':
@@ -125,6 +127,12 @@ class Driver:
         new.pte, new.pos = {}, (0,) * len(self.threads)
         new.freed_spaces, new.locks, new.undone = (), frozenset(), frozenset()
         return new
+
+
+def set_platform(settings, name):
+    """Each setting but `stopped`, which is the device's."""
+    for pair, word in zip(('link', 'waits', 'drain', 'caches'), Settings.platforms[name]):
+        setattr(settings, pair, word)
 
 
 def numbers(words):

@@ -16,12 +16,12 @@ import search
 import trying
 from make import make_any, make_long_list
 from reading import Driver, need
-from report import below_safe
+from report import UNTRIED, behind_race, below_safe, count, is_tried
 
 MOST = 300          # moments that the program looks at; of one text in twelve 2400
 MOST_LISTS = 3000   # lists of events that are gone one by one
-NAMES = {'wrong': 'an act not permitted', 'run not': 'run not permitted'}
-STATUSES = {'safe': 0, 'unsafe': 4, 'stuck': 4, 'cut': 5, 'wrong': 1}
+NAMES = {'wrong': 'an act not permitted', 'leak': 'unsafe before race', 'run not': 'run not permitted'}
+STATUSES = {'safe': 0, 'unsafe': 4, 'leak': 4, 'stuck': 4, 'cut': 5, 'wrong': 1, 'right': 0}
 
 
 def most_of(text):
@@ -31,7 +31,7 @@ def most_of(text):
 def ask_program(program, text, *options):
     """The report, or its status where that isn't the one of its first line."""
     done = subprocess.run([program, 'judge', *options], input=text, capture_output=True, text=True, check=False)
-    if '--run' in options or done.returncode == STATUSES.get(told(done.stdout)[0]):
+    if done.returncode == STATUSES.get(told(done.stdout)[0]):
         return done.stdout
     return f'status {done.returncode}\n{done.stdout}'
 
@@ -39,7 +39,10 @@ def ask_program(program, text, *options):
 def told(report):
     """(kind, number, text) of the first line of a report."""
     first = report.split('\n')[0]
-    for kind, pattern in (('safe', r'safe in all (\d+) moments?()$'), ('unsafe', r'unsafe in (\d+) events?: (.*)$'),
+    for kind, pattern in (('safe', rf'safe in all (\d+) moments?((?:{UNTRIED})?)$'),
+                          ('unsafe', r'unsafe in (\d+) events?: (.*)$'),
+                          ('leak', r'unsafe at line (\d+): (.*)$'),
+                          ('right', r'nothing wrong in any of (\d+) events?(.*)$'),
                           ('stuck', r'stuck in (\d+) events?: (.*), waits for ever$'),
                           ('cut', r'cut off at \d+ moments?: safe in each list of fewer than (\d+) events?()$'),
                           ('wrong', r'line (\d+): (.*)$')):
@@ -53,35 +56,40 @@ def compare(text, report):
     """What differs, or None; and the kind of the verdict."""
     driver = Driver(text)
     kind, number, rest = told(report)
-    world, wrong = search.before_race(driver)
-    if wrong:
-        return compare_wrong(wrong, kind, number, rest), kind
-    verdict, events, texts, counts = search.search(driver, world, 2 * most_of(text))
+    world, ended = search.before_race(driver)
+    if ended:
+        return compare_ended(ended, report), kind
+    shown = set()
+    verdict, events, texts, counts = search.search(driver, world, 2 * most_of(text), shown=shown)
     if verdict == 'cut' or kind == 'cut':
         return compare_cut(verdict, events, kind, number, counts), 'cut off'
-    lists = search.search(driver, world, MOST_LISTS, merges=False)
+    shown_in_lists = set()
+    lists = search.search(driver, world, MOST_LISTS, merges=False, shown=shown_in_lists)
     if lists[0] != 'cut' and (lists[0] != verdict or verdict != 'safe' and lists[1] != events):
         return f'the lists of events, one by one, come to something else: {lists[:3]}', kind
+    if lists[0] == 'safe' and shown_in_lists != shown:
+        return f'the lists of events, one by one, show something else: {shown_in_lists ^ shown}', kind
     if kind != verdict:
         return f'kind: program {kind} {number} {rest}, model {verdict} {events} {texts}', kind
     if kind == 'safe':
-        if report.split('\n')[1:-1] != below_safe(driver):
-            return f'below safe: {report.split(chr(10))[1:-1]}, model {below_safe(driver)}', kind
+        if (rest == '') != is_tried(shown):
+            return f'program {rest}, model {sorted(shown)}', kind
+        if report.split('\n')[1:-1] != below_safe(driver, shown):
+            return f'below safe: {report.split(chr(10))[1:-1]}, model {below_safe(driver, shown)}', kind
         return None if number >= events else f'moments: program {number}, model {events}', kind
     if number != events:
         return f'{kind}: program {number}, model {events} events', kind
     return replay(driver, world, report, kind, rest), kind
 
 
-def compare_wrong(wrong, kind, number, rest):
-    line, reason = wrong
-    verb = line.words[0]
-    if reason == 'unsafe before':
-        wanted = 'an act that is permitted now'
-        ok = kind == 'wrong' and (number, wanted in rest) == (line.number, True)
+def compare_ended(ended, report):
+    """A line that isn't permitted where it stands, or behind which something is wrong, is told alone."""
+    kind, line, texts = ended
+    if kind == 'unsafe':
+        wanted = [f'unsafe at line {line.number}: {text}\n' for text in texts]
     else:
-        ok = (kind, number, rest) == ('wrong', line.number, f"'{verb}': wanted an act that is permitted now: {reason}")
-    return None if ok else f'before race: program {kind} {number} {rest}, model {line.number} {reason}'
+        wanted = [f"line {line.number}: '{line.words[0]}': wanted an act that is permitted now: {texts[0]}\n"]
+    return None if report in wanted else f'line by line: program {report!r}, model {wanted}'
 
 
 def compare_cut(verdict, events, kind, number, counts):
@@ -174,16 +182,11 @@ def plain(act):
 
 def compare_run(text, report):
     driver = Driver(text)
-    kind, number, texts = search.run(driver)
-    first = report.split('\n')[0]
-    if kind == 'safe':
-        ok = first == f'safe in each of {number} event' + 's' * (number != 1)
-    elif kind == 'unsafe':
-        ok = first in [f'unsafe at line {number}: {t}' for t in texts]
-    else:
-        verb = next(x for x in driver.lines if x.number == number).words[0]
-        ok = first == f"line {number}: '{verb}': wanted an act that is permitted now: {texts[0]}"
-    return None if ok else f'run: program {first}, model {kind} {number} {texts}', kind
+    _, ended = search.one_by_one(driver, driver.lines)
+    if ended:
+        return compare_ended(ended, report), ended[0]
+    wanted = f'nothing wrong in any of {count(len(driver.lines), "event")}{behind_race(driver)}\n'
+    return None if report == wanted else f'run: program {report!r}, model {wanted!r}', 'right'
 
 
 def tried(program, text, is_list):

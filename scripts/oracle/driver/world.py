@@ -15,6 +15,7 @@ class Settings:
     """The first word of each is the one that holds where the line is missing."""
     pairs = {'link': ('free', 'posted'), 'waits': ('fence', 'plain'), 'drain': ('empty', 'arrived'),
              'caches': ('off', 'on'), 'stopped': ('marker', 'status', 'known')}
+    platforms = {'vt-d': ('posted', 'plain', 'arrived', 'on'), 'free': ('free', 'fence', 'empty', 'off')}
 
     def __init__(self):
         for name, words in self.pairs.items():

@@ -33,10 +33,11 @@ def true_atom(rng, moment, answers, texts):
         answer = rng.choice(answers)
         return "times %d %s" % (rng.randint(1, answers.count(answer)), vague(rng, answer))
     if chance < 0.55:
-        usable = [frame for frame in range(moment.host.frames) for at in range(len(moment.host.units))
+        usable = [(frame, at) for frame in range(moment.host.frames) for at in range(len(moment.host.units))
                   if moment.is_usable(frame, at)]
         if usable:
-            return "usable %d" % rng.choice(usable)
+            frame, at = rng.choice(usable)
+            return rng.choice(["usable %d" % frame, "usable %d %d" % (frame, at), "usable %d at %d" % (frame, at)])
     if chance < 0.7 and moment.host.messages:
         step = ("deliver", rng.choice(list(moment.host.messages)))
         return "%s => %s" % (text_of(step), moment.host.copy().step(step))

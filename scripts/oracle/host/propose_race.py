@@ -184,7 +184,7 @@ class RaceProposer(Proposer):
             return "times %d %s" % (rng.choice([0, 1, 1, 1, 2, 2, 3]), self.answer_of(kind))
         if chance < 0.75:
             frame = self.name_for("F") if rng.random() < 0.5 else None
-            at = " %d" % rng.randrange(len(self.host.units)) if rng.random() < 0.5 else ""
+            at = rng.choice([" %d", " at %d"]) % rng.randrange(len(self.host.units)) if rng.random() < 0.5 else ""
             return "usable " + (frame or str(rng.randrange(self.host.frames))) + at
         kind = rng.choice(list(ANSWERS_OF) + ["look", "look", "advance", "bearer", "quit", "evict", "ask"])
         return self.words(kind) + " => " + self.answer_of(kind)

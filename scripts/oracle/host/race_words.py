@@ -122,7 +122,7 @@ def read_atom(words):
     if words[0] == "times":
         return ("times", int(words[1]), read_answer(words[2:]))
     if words[0] == "usable":
-        return ("usable", read_word(words[1], "F"), int(words[2]) if len(words) > 2 else None)
+        return ("usable", read_word(words[1], "F"), int(words[-1]) if len(words) > 2 else None)
     if words[1] == "is":
         return ("is", words[0], read_answer(words[2:]))
     arrow = words.index("=>")

@@ -60,7 +60,7 @@ def wanted(told):
         line, findings = told.leak
         return {"unsafe at line %d: %s" % (line, finding) for finding in findings}, "given away early"
     events = len(told.lines) - 1
-    return {"safe in each of %d event%s" % (events, "s" * (events != 1))}, "safe"
+    return {"nothing wrong in any of %d event%s" % (events, "s" * (events != 1))}, "right"
 
 
 def up_to(lines, first):

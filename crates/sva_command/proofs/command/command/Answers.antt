@@ -1,7 +1,7 @@
 use Rattle.std.proofs.Common.{ap, codes, ◌∙◌}
 use Rattle.std.proofs.lemmas.Result.{IfOk-weaker}
 use Rattle.clap.specs.Words.{App, Text, new_app, with_rule, with_subcommand}
-use Rattle.sva_command.specs.Command.{flag_rule, most_rule, turns_rule}
+use Rattle.sva_command.specs.Command.{flag_rule, judge_app, most_rule, turns_rule}
 use Rattle.sva_command.proofs.command.command.Goals as goal
 
 -- a program with a command more, that takes no arguments
@@ -28,7 +28,7 @@ returns c =
     ∙ ap (λ (a : App). with_subcommand a
     (with_rule (with_rule (with_rule (new_app (codes "explore")) most_rule) (flag_rule (codes "why"))) (flag_rule (codes "ends"))).top) charting_is in
     let judging_is = c.in_ok-judging.ensures
-    ∙ ap (λ (a : App). with_subcommand a (with_rule (with_rule (new_app (codes "judge")) most_rule) (flag_rule (codes "run"))).top) exploring_is in
+    ∙ ap (λ (a : App). with_subcommand a judge_app.top) exploring_is in
     IfOk-weaker c.with_trace.result _ _ (λ r added. added
     ∙ ap (λ (a : App). with_subcommand a (with_rule (with_rule (new_app (codes "trace")) (flag_rule (codes "live"))) (flag_rule (codes "why"))).top)
     judging_is) c.with_trace.ensures

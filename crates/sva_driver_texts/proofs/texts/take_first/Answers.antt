@@ -1,5 +1,6 @@
-use Rattle.std.proofs.Common.{◌≡◌, ◌∙◌, rules, sym, true, false}
-use Rattle.sva_driver_texts.proofs.Stands.{missing, refused, stands}
+use Rattle.std.proofs.Common.{◌≡◌, ◌∙◌, ap, rules, sym, true, false}
+use Rattle.std.specs.Prelude.{Err}
+use Rattle.sva_driver_texts.proofs.Stands.{leaks, missing, refused, stands}
 use Rattle.sva_driver_texts.proofs.texts.take_first.Goals as goal
 
 pub returns-then-not-read : goal.returns-then-not-read
@@ -22,8 +23,13 @@ returns-in-Ok c =
     })
     c.requires
 
-pub returns-in_ok-put_refused-in-Err : goal.returns-in_ok-put_refused-in-Err
-returns-in_ok-put_refused-in-Err c =
+pub returns-in-Err-Refused : goal.returns-in-Err-Refused
+returns-in-Err-Refused c =
     let has : c.args.read.is_race ≡ true = search rules in
-    refused c.args.read c.in-Err.place c.args.out.now.items c.put_refused.new.out.items has (sym c.in-Err.is ∙ c.in_ok-spot.ensures) c.requires
-    c.in_ok-put_refused-in-Err.ensures
+    refused c.args.read c.in-Err-Refused.place c.args.out.now.items c.put_refused.new.out.items has (ap Err (sym c.in-Err-Refused.field-0-is) ∙ sym c.in-Err-Refused.is ∙ c.in_ok-spot.ensures)
+    c.requires c.in_ok-put_refused-in-Err-Refused.ensures
+
+pub returns : goal.returns
+returns c =
+    let has : c.args.read.is_race ≡ true = search rules in
+    leaks c.args.read c.in-Err-Leaks.number c.in-Err-Leaks.wrong c.args.out.now.items has (ap Err (sym c.in-Err-Leaks.field-0-is) ∙ sym c.in-Err-Leaks.is ∙ c.in_ok-spot.ensures) c.requires

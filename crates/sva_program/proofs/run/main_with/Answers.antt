@@ -3,11 +3,11 @@ use Rattle.clap.specs.Words.{HasKind, kind_of}
 use Rattle.sva_reports.specs.declared.streams.DriveFault.TheVariants.{Memory}
 use Rattle.sva_command.specs.Command.{Asks, faults_of, texts}
 use Rattle.sva_command.specs.declared.command.Asked.TheVariants.{Explore, Judge}
-use Rattle.sva_program.specs.Run.{Reports}
-use Rattle.sva_program.proofs.RunLemmas.{among_faults, asked_text, exploring_status, only_memory, ruling_status, steps_status, unwritten}
+use Rattle.sva_program.specs.Run.{Reports, is_strict, status_of}
+use Rattle.sva_program.proofs.RunLemmas.{IsOfJudging, among_faults, asked_text, exploring_status, only_memory, ruling_status, steps_status}
+use Rattle.sva_program.proofs.RunLemmas.{strictly, unwritten}
 use Rattle.sva_command.proofs.CallLemmas.{help_unmistaken, no_command_asks, no_command_taken, version_unmistaken}
-use Rattle.sva_command.proofs.LineLemmas.{takes}
-use Rattle.sva_command.proofs.TellLemmas.{one_alone}
+use Rattle.sva_command.proofs.TellLemmas.{one_alone, takes}
 use Rattle.sva_program.proofs.run.main_with.Goals as goal
 
 pub returns-in-Ok-clause-run : goal.returns-in-Ok-clause-run
@@ -15,7 +15,7 @@ returns-in-Ok-clause-run g c asked asks =
     let ran = c.perform-ended in
     let alone = one_alone asked c.in-Ok.asked (texts c.args.words.now) asks c.in-Ok.ensures.asked in (
       ran.result,
-      c.finish.ensures.status,
+      c.finish.ensures.status ∙ ap (λ strict. status_of strict ran.result) (c.is_strict.ensures ∙ ap is_strict (sym alone)),
       subst (λ a. Reports a (g.R.Read.remaining c.args.reader.now.inner) (g.W.Write.contents c.args.writer.now.inner)
           (g.W.Write.contents ran.new.writer.inner) ran.result) (sym alone) ran.ensures.report,
       ran.ensures.cause,
@@ -29,16 +29,18 @@ returns-in-Ok-clause-no_command g c few done = no_command_taken c.args.words.now
 pub returns-in-Ok-clause-status : goal.returns-in-Ok-clause-status
 returns-in-Ok-clause-status g c other one =
     let ran = c.perform-ended in
-    subst (λ status. status ≤ 2) (sym c.finish.ensures.status)
+    subst (λ status. status ≤ 2) (sym (c.finish.ensures.status ∙ ap (λ strict. status_of strict ran.result) c.is_strict.ensures))
     (steps_status c.in-Ok.asked _ _ _ ran.result
     (λ most whys few_ends is. other (most, whys, few_ends, subst (λ a. Asks a (texts c.args.words.now)) is c.in-Ok.ensures.asked))
-    (λ run most is. one (run, most, subst (λ a. Asks a (texts c.args.words.now)) is c.in-Ok.ensures.asked)) ran.ensures.report)
+    (λ run most strict is. one (run, most, strict, subst (λ a. Asks a (texts c.args.words.now)) is c.in-Ok.ensures.asked)) ran.ensures.report)
 
 pub returns-in-Ok-clause-explored : goal.returns-in-Ok-clause-explored
 returns-in-Ok-clause-explored g c (most, whys, few_ends, asks) =
     let ran = c.perform-ended in
     let alone = one_alone (Explore most whys few_ends) c.in-Ok.asked (texts c.args.words.now) asks c.in-Ok.ensures.asked in
-    subst (λ status. (status ≡ 0) ⊎ (status ≡ 1) ⊎ (status ≡ 4) ⊎ (status ≡ 5)) (sym c.finish.ensures.status)
+    let strict = c.is_strict.ensures ∙ ap is_strict (sym alone) in
+    subst (λ status. (status ≡ 0) ⊎ (status ≡ 1) ⊎ (status ≡ 4) ⊎ (status ≡ 5))
+    (sym (c.finish.ensures.status ∙ ap (λ strict. status_of strict ran.result) strict))
     (exploring_status most whys few_ends _ _ _ ran.result
     (subst (λ a. Reports a (g.R.Read.remaining c.args.reader.now.inner) (g.W.Write.contents c.args.writer.now.inner)
     (g.W.Write.contents ran.new.writer.inner) ran.result) (sym alone) ran.ensures.report))
@@ -50,18 +52,19 @@ returns-in-Err-clause-explored g c (most, whys, few_ends, asks) =
     inr (inl memory.0)
 
 pub returns-in-Ok-clause-judged : goal.returns-in-Ok-clause-judged
-returns-in-Ok-clause-judged g c (run, most, asks) =
+returns-in-Ok-clause-judged g c (run, most, strict, asks) =
     let ran = c.perform-ended in
-    let alone = one_alone (Judge run most) c.in-Ok.asked (texts c.args.words.now) asks c.in-Ok.ensures.asked in
-    subst (λ status. (status ≡ 0) ⊎ (status ≡ 1) ⊎ (status ≡ 4) ⊎ (status ≡ 5)) (sym c.finish.ensures.status)
-    (ruling_status run most _ _ _ ran.result
+    let alone = one_alone (Judge run most strict) c.in-Ok.asked (texts c.args.words.now) asks c.in-Ok.ensures.asked in
+    let is = c.is_strict.ensures ∙ ap is_strict (sym alone) in
+    strictly run most strict _ _ asks (subst (IsOfJudging strict) (sym (c.finish.ensures.status ∙ ap (λ strict. status_of strict ran.result) is))
+    (ruling_status run most strict _ _ _ ran.result
     (subst (λ a. Reports a (g.R.Read.remaining c.args.reader.now.inner) (g.W.Write.contents c.args.writer.now.inner)
-    (g.W.Write.contents ran.new.writer.inner) ran.result) (sym alone) ran.ensures.report))
+    (g.W.Write.contents ran.new.writer.inner) ran.result) (sym alone) ran.ensures.report)))
 
 pub returns-in-Err-clause-judged : goal.returns-in-Err-clause-judged
-returns-in-Err-clause-judged g c (run, most, asks) =
+returns-in-Err-clause-judged g c (run, most, strict, asks) =
     let fails : HasKind (faults_of (texts c.args.words.now)) c.in-Err.error = search rules in
-    let memory = c.answer.ensures.memory (c.kind.ensures ∙ only_memory _ c.in-Err.error (takes (Judge run most) _ asks) fails) in
+    let memory = c.answer.ensures.memory (c.kind.ensures ∙ only_memory _ c.in-Err.error (takes (Judge run most strict) _ asks) fails) in
     inr (inl memory.0)
 
 pub returns-in-Err-clause-run : goal.returns-in-Err-clause-run

@@ -1,0 +1,5 @@
+pub mod Enough
+pub mod Gathered
+pub mod Safety
+pub mod Shown
+pub mod Usable

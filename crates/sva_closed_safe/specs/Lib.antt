@@ -1,0 +1,3 @@
+pub mod AsOpen
+pub mod Beside
+pub mod Shown

@@ -1,7 +1,7 @@
 -- What a call leaves in its caller's hands: a buffer, the length that it would need, and a status.
 use Rattle.std.specs.Prelude.{◌≡◌, ◌⊎◌, ℕ, ◌++◌, nat_le, if◌then◌else◌, List, drop, length, take}
-use Rattle.sva_reports.specs.declared.streams.Outcome.{Outcome}
-use Rattle.sva_reports.specs.declared.streams.Outcome.TheVariants.{Done, Faulted}
+use Rattle.sva_streams.specs.declared.streams.Outcome.{Outcome}
+use Rattle.sva_streams.specs.declared.streams.Outcome.TheVariants.{Done, Faulted}
 use Rattle.sva_reports.specs.Report.{check_of, check_outcome_of, outcome_of, report_of}
 use Rattle.sva_script_reading.specs.Said.{Said}
 use Rattle.sva_c.specs.declared.statuses.TheConstants.{DONE, FAULTED, NO_MEMORY, TOO_SMALL}

@@ -7,7 +7,7 @@ ghost use Rattle.sva_c.specs.Searches.{explored_status, ruled_status};
 use crate::statuses::{CUT_OFF, DONE, FAILS, FAULTED, NO_MEMORY, TOO_SMALL};
 use sva_driver_reports::Ruling;
 use sva_race_reports::Judged;
-use sva_reports::Outcome;
+use sva_streams::Outcome;
 
 /// Puts as much of a report into a buffer as fits, and tells how long it is. The status is `ended`, that of the run, or
 /// `TOO_SMALL` where the report doesn't fit.

@@ -3,8 +3,8 @@
 ghost use Rattle.std.specs.Prelude.{◌≡◌, ◌⊎◌, ◌<◌, ◌≤◌, [], IfOk, IfSome, OnOk};
 ghost use Rattle.std.specs.Io.KnownBytes.{IsAtEnd};
 ghost use Rattle.sva_charts.specs.Charts.{Charts, IsChart};
-ghost use Rattle.sva_reports.specs.declared.reading.TheConstants.{MOST_TURNS};
-ghost use Rattle.sva_reports.specs.Streams.{IsNew, Tells};
+ghost use Rattle.sva_streams.specs.declared.reading.TheConstants.{MOST_TURNS};
+ghost use Rattle.sva_streams.specs.Streams.{IsNew, Tells};
 ghost use Rattle.sva_script_reports.specs.Shows.{show_of};
 
 use crate::collecting::{Rows, collect};
@@ -13,7 +13,7 @@ use crate::picture::put_picture;
 use crate::places::Places;
 use std::alloc::{AllocError, Global};
 use std::io::{Read, Write};
-use sva_reports::{DriveFault, MOST_TURNS, Outcome, Told, read_all, write_all};
+use sva_streams::{DriveFault, MOST_TURNS, Outcome, Told, read_all, write_all};
 
 /// How a chart is drawn.
 #[derive(Clone, Copy, PartialEq, Eq)]

@@ -139,13 +139,14 @@ fn collect_step(
     ensures { StepsShow run.old number (map (λ word. word.now) desk.old.words.items) out.old.items out.new.items run.new result }
 {
     let words = desk.words.as_slice();
+    let mut taken = Taken::new();
     match run.take(
         alloc,
         number,
         words,
         &mut desk.plain,
         &mut desk.expected,
-        &mut desk.taken,
+        &mut taken,
     ) {
         Ok(came) => {
             keep(
@@ -154,7 +155,7 @@ fn collect_step(
                 came,
                 number,
                 desk.plain.as_slice(),
-                &desk.taken,
+                &taken,
             )?;
             Ok(true)
         }

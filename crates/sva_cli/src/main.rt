@@ -3,7 +3,7 @@
 
 mod files;
 
-ghost use Rattle.sva_reports.specs.Streams.{IsNew};
+ghost use Rattle.sva_streams.specs.Streams.{IsNew};
 
 use crate::files::{Files, Several, Unread, files_in, open, read_files, unreadable};
 use std::alloc::AllocError;
@@ -14,7 +14,7 @@ use std::rt::{Env, Files as FileSystem};
 use std::sync::Wait;
 use std::thread::{Threads, available_parallelism};
 use sva_program::{Told, Watch, faulted, main_with, unread};
-use sva_reports::{DriveFault, write_all};
+use sva_streams::{DriveFault, write_all};
 use sva_several::{Meter, Searched, tell_all};
 use sva_terminal::Progress;
 

@@ -8,8 +8,8 @@ use Rattle.sva_open.specs.declared.acts.Act.TheVariants as act
 use Rattle.sva_open.specs.declared.acts.LocalAct.{LocalAct}
 use Rattle.sva_open.specs.declared.acts.LocalAct.TheVariants as local
 use Rattle.sva_open.specs.declared.descriptors.Descriptor.{Descriptor}
-use Rattle.sva_judge.specs.declared.drivers.Saying.{Saying}
-use Rattle.sva_judge.specs.declared.drivers.Saying.TheVariants as saying
+use Rattle.sva_driver_terms.specs.declared.drivers.Saying.{Saying}
+use Rattle.sva_driver_terms.specs.declared.drivers.Saying.TheVariants as saying
 use Rattle.sva_open_names.specs.declared.naming.Named.{Named}
 use Rattle.sva_open_names.specs.declared.naming.Named.TheVariants as named
 use Rattle.sva_race_words.specs.Words.{word_at}

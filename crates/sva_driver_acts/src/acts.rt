@@ -9,7 +9,7 @@ use sva_driver_words::{
     DriverWanted, DriverWrong, access_at, endpoint_at, fails_at, frame_at, index_at, judge_end,
     page_at, pasid_at, says, space_at,
 };
-use sva_judge::Saying;
+use sva_driver_terms::Saying;
 use sva_open::{Act, LocalAct};
 use sva_race_words::word_at;
 use sva_step::Config;

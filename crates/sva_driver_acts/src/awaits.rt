@@ -11,7 +11,7 @@ use crate::kept::LineRead;
 use sva_driver_words::{
     DriverWanted, DriverWrong, endpoint_at, has_word, judge_end, lacking, pasid_at, says,
 };
-use sva_judge::Saying;
+use sva_driver_terms::Saying;
 use sva_open::{Act, Descriptor, LocalAct};
 use sva_race_words::word_at;
 use sva_step::Config;

@@ -11,7 +11,7 @@ use sva_driver_words::{
     DriverStop, DriverWanted, DriverWrong, SubmitWanted, endpoint_at, has_word, lacking, order_at,
     page_by, pasid_at, says,
 };
-use sva_judge::Saying;
+use sva_driver_terms::Saying;
 use sva_open::{Act, Descriptor, LocalAct, Scope};
 use sva_race_words::{count_of, piece_len, words_at, words_from};
 use sva_step::Config;

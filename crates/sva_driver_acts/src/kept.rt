@@ -1,6 +1,6 @@
 //! What is kept of lines that were read.
 
-use sva_judge::Saying;
+use sva_driver_terms::Saying;
 
 /// A line of an act.
 #[derive(Drop)]

@@ -8,7 +8,7 @@ use sva_driver_words::{
     DriverWanted, DriverWrong, asked_at, endpoint_at, has_word, index_at, judge_end, kind_at,
     last_at, older_at, page_at, pasid_at, says,
 };
-use sva_judge::Saying;
+use sva_driver_terms::Saying;
 use sva_open::{Act, LocalAct};
 use sva_open_names::Named;
 use sva_step::Config;

@@ -17,7 +17,7 @@ use crate::kept::LineRead;
 use crate::others::{deliver_line, end_line, fault_line, finish_line, forget_line};
 use std::alloc::Global;
 use sva_driver_words::{DriverStop, DriverWanted, DriverWrong, judge_end, lacking};
-use sva_judge::Saying;
+use sva_driver_terms::Saying;
 use sva_race_words::word_at;
 use sva_script::is_name;
 use sva_step::Config;

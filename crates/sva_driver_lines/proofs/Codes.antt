@@ -3,7 +3,7 @@ use Rattle.std.proofs.Common.{◌≡◌, ◌∙◌, ◌<◌, ◌≤◌, ◌+◌,
 use Rattle.std.specs.Prelude.{Ok, Err}
 use Rattle.std.proofs.lemmas.List.{drop_all, drop_more}
 use Rattle.sva_grammar.specs.Grammar.{◌>>=◌}
-use Rattle.sva_judge.specs.declared.drivers.Workers.{Workers}
+use Rattle.sva_driver_terms.specs.declared.drivers.Workers.{Workers}
 use Rattle.sva_driver_lines.specs.Devices.{codes_from, with_code, workers_of}
 use Rattle.sva_driver_words.specs.Faults.{lacking}
 use Rattle.sva_driver_words.specs.Fields.{has_word}

@@ -7,8 +7,8 @@ use Rattle.sva_grammar.specs.Grammar.{◌>>=◌}
 use Rattle.sva_open.specs.declared.settings.Settings.{Settings}
 use Rattle.sva_open.specs.declared.settings.Link.TheVariants.{Free, Posted}
 use Rattle.sva_open.specs.declared.settings.Stopped.TheVariants.{Marker, Status, Known}
-use Rattle.sva_judge.specs.declared.drivers.Budget.{Budget}
-use Rattle.sva_judge.specs.declared.drivers.Workers.{Workers}
+use Rattle.sva_driver_terms.specs.declared.drivers.Budget.{Budget}
+use Rattle.sva_driver_terms.specs.declared.drivers.Workers.{Workers}
 use Rattle.sva_driver_acts.specs.Taking.{Fails, appended}
 use Rattle.sva_driver_words.specs.Faults.{lacking, no_more}
 use Rattle.sva_driver_words.specs.Fields.{count_at, has_word, page_at, says}

@@ -11,7 +11,7 @@ use Rattle.sva_script.specs.Lines.{Parts, parts_of, script_words, step_begins}
 use Rattle.sva_script.specs.Names.{Known, is_name}
 use Rattle.sva_script_reading.specs.Begins.{Line, joined_words}
 use Rattle.sva_open.specs.declared.settings.Settings.{Settings}
-use Rattle.sva_judge.specs.declared.drivers.Workers.{Workers}
+use Rattle.sva_driver_terms.specs.declared.drivers.Workers.{Workers}
 use Rattle.sva_race_words.specs.Words.{word_at}
 use Rattle.sva_race_words.specs.declared.faults.RaceWanted.TheVariants as race
 use Rattle.sva_driver_acts.specs.Awaits.{LineSaid, is_named, last_from}

@@ -9,7 +9,7 @@ ghost use Rattle.sva_driver_words.specs.Fields.{page_at};
 use crate::kept::DeviceRead;
 use std::alloc::{AllocError, Global};
 use sva_driver_words::{DriverStop, DriverWanted, DriverWrong, count_at, lacking, page_at, says};
-use sva_judge::Budget;
+use sva_driver_terms::Budget;
 
 /// A budget with what a word counts.
 fn counted(budget: Budget, count: u64, words: &[&[u8]], at: usize) -> Result<Budget, DriverWrong>

@@ -1,6 +1,6 @@
 //! What is kept of endpoints.
 
-use sva_judge::Budget;
+use sva_driver_terms::Budget;
 
 /// What an endpoint was told.
 #[derive(Drop)]

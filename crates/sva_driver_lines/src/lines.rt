@@ -22,7 +22,7 @@ use std::alloc::{AllocError, Global};
 use sva_driver_words::{
     DriverStop, DriverWanted, DriverWrong, endpoint_at, has_word, judge_end, lacking, says,
 };
-use sva_judge::Saying;
+use sva_driver_terms::Saying;
 use sva_race_words::{RaceWanted, count_of, word_at};
 use sva_script::{Names, Wanted, is_name, name_in, parts_of, split};
 use sva_script_reading::Lines;

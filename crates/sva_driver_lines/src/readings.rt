@@ -18,7 +18,7 @@ use std::alloc::{AllocError, Global};
 use std::marker::Model;
 use sva_driver_acts::{LineRead, read_saying};
 use sva_driver_words::{DriverStop, DriverWrong, put_fault};
-use sva_judge::{Budget, Saying, Workers};
+use sva_driver_terms::{Budget, Saying, Workers};
 use sva_open::{Link, Settings, Stopped};
 use sva_race_words::{joined, word_at};
 use sva_script::Names;

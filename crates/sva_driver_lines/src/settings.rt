@@ -4,7 +4,7 @@ ghost use Rattle.std.specs.Prelude.{◌≡◌, map};
 ghost use Rattle.sva_driver_lines.specs.Devices as devices;
 
 use sva_driver_words::{DriverWanted, DriverWrong, has_word, judge_end, lacking, says};
-use sva_judge::Workers;
+use sva_driver_terms::Workers;
 use sva_open::{Link, Settings, Stopped};
 use sva_words::is;
 

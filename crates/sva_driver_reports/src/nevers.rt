@@ -8,7 +8,8 @@ use crate::fronts::put_if;
 use std::alloc::AllocError;
 use sva_driver_texts::Text;
 use sva_driver_words::{put_endpoint, put_one};
-use sva_judge::{Budget, Device, Fact, Line, Looked, Saying};
+use sva_judge::{Fact, Looked};
+use sva_driver_terms::{Budget, Device, Line, Saying};
 use sva_open::{Act, LocalAct};
 use sva_open_names::Named;
 

@@ -9,7 +9,8 @@ use crate::witness::put_line_who;
 use std::alloc::AllocError;
 use sva_driver_texts::{Text, is_pageless, is_unasked, is_unstarted};
 use sva_driver_words::{put_counted, put_endpoint, put_one};
-use sva_judge::{Device, Line, Spot};
+use sva_judge::Spot;
+use sva_driver_terms::{Device, Line};
 use sva_open::{Conduct, Group, Part, Row};
 
 /// Appends what can't be made of a budget, and why.

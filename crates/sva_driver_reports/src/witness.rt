@@ -8,7 +8,8 @@ use std::alloc::{AllocError, Global};
 use std::marker::Model;
 use sva_driver_texts::{Said, Text};
 use sva_driver_words::put_endpoint;
-use sva_judge::{Choice, Doing, Line, Saying, Spot, act_of, take};
+use sva_judge::{Choice, Doing, Spot, act_of, take};
+use sva_driver_terms::{Line, Saying};
 use sva_open::{Act, LocalAct, Part};
 use sva_script_reading::put_number;
 

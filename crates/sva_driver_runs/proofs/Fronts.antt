@@ -6,9 +6,9 @@ use Rattle.std.proofs.lemmas.Bool.{lt-ltb, ltb-false, ltb-true}
 use Rattle.std.proofs.lemmas.List.{length-take, take_all}
 use Rattle.std.specs.Io.KnownBytes.{Appends}
 use Rattle.sva_grammar.specs.Grammar.{lines_of}
-use Rattle.sva_reports.specs.declared.streams.DriveFault.{DriveFault}
-use Rattle.sva_reports.specs.declared.streams.DriveFault.TheVariants.{Read, Write, Memory}
-use Rattle.sva_reports.specs.Streams.{AppendsProperPrefix}
+use Rattle.sva_streams.specs.declared.streams.DriveFault.{DriveFault}
+use Rattle.sva_streams.specs.declared.streams.DriveFault.TheVariants.{Read, Write, Memory}
+use Rattle.sva_streams.specs.Streams.{AppendsProperPrefix}
 use Rattle.sva_script_reading.specs.Begins.{config_in, lines_from}
 use Rattle.sva_driver_texts.specs.Texts.{ReadsDriver, ReadsText, driver_behind, driver_of, too_large}
 use Rattle.sva_driver_reports.specs.declared.reports.Ruling.{Ruling}

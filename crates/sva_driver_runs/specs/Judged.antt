@@ -1,9 +1,9 @@
 -- What comes of a text that is judged, and of one whose lines are taken one after another.
 use Rattle.std.specs.Prelude.{◌≡◌, ℕ, Bool, true, false, List, [], ◌∷◌, ◌++◌, codes, decimal, length, Option, Some, None, Result, Ok, Err}
 use Rattle.std.specs.Io.KnownBytes.{Appends}
-use Rattle.sva_reports.specs.declared.streams.DriveFault.{DriveFault}
-use Rattle.sva_reports.specs.declared.streams.DriveFault.TheVariants.{Write}
-use Rattle.sva_reports.specs.Streams.{AppendsPrefix}
+use Rattle.sva_streams.specs.declared.streams.DriveFault.{DriveFault}
+use Rattle.sva_streams.specs.declared.streams.DriveFault.TheVariants.{Write}
+use Rattle.sva_streams.specs.Streams.{AppendsPrefix}
 use Rattle.sva_open_wrongs.specs.declared.wrongs.Wrong.{Wrong}
 use Rattle.sva_judge.specs.declared.verdicts.Verdict.{Verdict}
 use Rattle.sva_judge.specs.Spots.{Spot}

@@ -2,15 +2,15 @@
 
 ghost use Rattle.std.specs.Prelude.{◌≡◌, ◌⊎◌, ◌≤◌, IfSome, OnOk};
 ghost use Rattle.std.specs.Io.KnownBytes.{IsAtEnd};
-ghost use Rattle.sva_reports.specs.declared.reading.TheConstants.{MOST_TURNS};
-ghost use Rattle.sva_reports.specs.Streams.{IsNew, Tells};
+ghost use Rattle.sva_streams.specs.declared.reading.TheConstants.{MOST_TURNS};
+ghost use Rattle.sva_streams.specs.Streams.{IsNew, Tells};
 ghost use Rattle.sva_driver_runs.specs.Judged.{Judges, Runs};
 
 use crate::judging::{judge_text, run_text};
 use std::alloc::Global;
 use std::io::{Read, Write};
 use sva_driver_reports::Ruling;
-use sva_reports::{DriveFault, Told, read_all, write_all};
+use sva_streams::{DriveFault, Told, read_all, write_all};
 use sva_search::Watch;
 
 /// Reads a driver to its end, and writes what comes of judging it, as `judge_text` has it. After `Write` a prefix of the

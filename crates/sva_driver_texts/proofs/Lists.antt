@@ -4,7 +4,7 @@ use Rattle.std.specs.Prelude.{flat_map}
 use Rattle.std.proofs.lemmas.List.{drop_all, drop_more, map_push}
 use Rattle.sva_driver_acts.specs.Awaits.{LineSaid, line_seen}
 use Rattle.sva_driver_acts.specs.declared.kept.LineRead.{LineRead}
-use Rattle.sva_judge.specs.declared.drivers.Device.{Device}
+use Rattle.sva_driver_terms.specs.declared.drivers.Device.{Device}
 use Rattle.sva_driver_lines.specs.declared.kept.DeviceRead.{DeviceRead}
 use Rattle.sva_driver_lines.specs.Devices as devices
 use Rattle.sva_driver_texts.specs.Pasids.{higher, highest_by, pasid_at}

@@ -5,7 +5,7 @@ use Rattle.sva_step.specs.declared.limits.Config.{Config}
 use Rattle.sva_open.specs.World.{Open, opened}
 use Rattle.sva_open.specs.declared.settings.Conduct.{Conduct}
 use Rattle.sva_open.specs.declared.settings.Settings.{Settings}
-use Rattle.sva_judge.specs.declared.drivers.Driver.{Driver}
+use Rattle.sva_driver_terms.specs.declared.drivers.Driver.{Driver}
 use Rattle.sva_driver_lines.specs.declared.kept.DeviceRead.{DeviceRead}
 use Rattle.sva_driver_lines.specs.Devices.{device_seen}
 use Rattle.sva_driver_lines.specs.Readings.{Reading}

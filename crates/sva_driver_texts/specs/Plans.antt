@@ -5,10 +5,10 @@ use Rattle.std.specs.Option.{unwrap_or}
 use Rattle.sva_open.specs.declared.acts.Act.TheVariants as act
 use Rattle.sva_open.specs.declared.acts.LocalAct.{LocalAct}
 use Rattle.sva_open.specs.declared.acts.LocalAct.TheVariants as local
-use Rattle.sva_judge.specs.declared.drivers.Budget.{Budget}
-use Rattle.sva_judge.specs.declared.drivers.Device.{Device}
-use Rattle.sva_judge.specs.declared.drivers.Fault.{Fault}
-use Rattle.sva_judge.specs.declared.drivers.Page.{Page}
+use Rattle.sva_driver_terms.specs.declared.drivers.Budget.{Budget}
+use Rattle.sva_driver_terms.specs.declared.drivers.Device.{Device}
+use Rattle.sva_driver_terms.specs.declared.drivers.Fault.{Fault}
+use Rattle.sva_driver_terms.specs.declared.drivers.Page.{Page}
 use Rattle.sva_driver_acts.specs.Awaits.{LineSaid}
 use Rattle.sva_driver_acts.specs.Sayings.{SayingSaid}
 use Rattle.sva_driver_acts.specs.Sayings.SayingSaid.{DoesSaid}

@@ -4,7 +4,8 @@ use Rattle.std.specs.Prelude.{Option, Some, None, Result, Ok, Err, codes}
 use Rattle.std.specs.Option.{unwrap_or}
 use Rattle.sva_step.specs.declared.limits.Config.{Config}
 use Rattle.sva_grammar.specs.Grammar.{◌>>=◌, is_too_large}
-use Rattle.sva_reports.specs.Report.{ended, is_fit}
+use Rattle.sva_grammar.specs.Configs.{is_fit}
+use Rattle.sva_grammar.specs.Replies.{ended}
 use Rattle.sva_script.specs.Lines.{parts_of, script_words}
 use Rattle.sva_script.specs.Names.{Known}
 use Rattle.sva_script_reading.specs.Begins.{Line, config_in, lines_from, noted}
@@ -18,9 +19,9 @@ use Rattle.sva_open_wrongs.specs.Wrongs.{first_wrong}
 use Rattle.sva_open_wrongs.specs.declared.wrongs.Wrong.{Wrong}
 use Rattle.sva_judge.specs.declared.choices.Choice.{Choice}
 use Rattle.sva_judge.specs.declared.choices.Doing.TheVariants as doing
-use Rattle.sva_judge.specs.declared.drivers.Driver.{Driver}
-use Rattle.sva_judge.specs.declared.drivers.Line.{Line as Kept}
-use Rattle.sva_judge.specs.declared.drivers.Workers.{Workers}
+use Rattle.sva_driver_terms.specs.declared.drivers.Driver.{Driver}
+use Rattle.sva_driver_terms.specs.declared.drivers.Line.{Line as Kept}
+use Rattle.sva_driver_terms.specs.declared.drivers.Workers.{Workers}
 use Rattle.sva_judge.specs.Choices.{next_in}
 use Rattle.sva_judge.specs.Spots.{Spot, start_of}
 use Rattle.sva_driver_words.specs.Faults.{fault_text}

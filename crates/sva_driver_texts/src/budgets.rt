@@ -3,7 +3,7 @@
 ghost use Rattle.std.specs.Prelude.{◌≡◌};
 ghost use Rattle.sva_driver_texts.specs.Budgets as budgets;
 
-use sva_judge::{Device, Line, Saying};
+use sva_driver_terms::{Device, Line, Saying};
 use sva_open::{Act, LocalAct};
 
 fn is_start(act: &LocalAct) -> bool

@@ -8,7 +8,8 @@ ghost use Rattle.sva_driver_texts.specs.Texts as texts;
 
 use crate::kept::Halt;
 use std::alloc::{AllocError, Global};
-use sva_judge::{Choice, Doing, Driver, Spot, start, take};
+use sva_judge::{Choice, Doing, Spot, start, take};
+use sva_driver_terms::Driver;
 use sva_open_wrongs::{Wrong, first_wrong};
 
 /// The choice of a line.

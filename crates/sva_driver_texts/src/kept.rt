@@ -1,6 +1,6 @@
 //! What is kept of a driver's text.
 
-use sva_judge::Driver;
+use sva_driver_terms::Driver;
 use sva_open_wrongs::Wrong;
 use sva_script::Names;
 use sva_step::Config;

@@ -13,7 +13,7 @@ use crate::plans::all_planned;
 use std::alloc::{AllocError, Global};
 use sva_driver_acts::LineRead;
 use sva_driver_lines::{DeviceRead, Reading};
-use sva_judge::{Driver, Line, Workers};
+use sva_driver_terms::{Driver, Line, Workers};
 use sva_open::{Conduct, Open, Settings};
 use sva_step::Config;
 

@@ -6,7 +6,7 @@ ghost use Rattle.sva_driver_acts.specs.Sayings.{saying_seen};
 ghost use Rattle.sva_driver_texts.specs.Pasids as seen;
 
 use sva_driver_acts::LineRead;
-use sva_judge::Saying;
+use sva_driver_terms::Saying;
 use sva_open::{Act, LocalAct};
 
 /// No PASID is as high: they are 1 to 32.

@@ -11,7 +11,7 @@ ghost use Rattle.sva_driver_texts.specs.Plans as plans;
 use std::alloc::{AllocError, Global};
 use sva_driver_acts::LineRead;
 use sva_driver_lines::DeviceRead;
-use sva_judge::{Device, Fault, Page, Saying};
+use sva_driver_terms::{Device, Fault, Page, Saying};
 use sva_open::{Act, LocalAct};
 
 /// Whether a list has a number.

@@ -8,3 +8,4 @@ pub mod NameLemmas
 pub mod SizeLemmas
 pub mod SingleLemmas
 pub mod LetterLemmas
+pub mod ConfigLemmas

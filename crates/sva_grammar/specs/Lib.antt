@@ -3,3 +3,5 @@ pub mod Grammar
 pub mod Laws
 pub mod Places
 pub mod Letters
+pub mod Replies
+pub mod Configs

@@ -11,7 +11,7 @@ mod shared;
 mod token_calls;
 
 ghost use Rattle.std.specs.Prelude.{◌≡◌, ◌+◌};
-ghost use Rattle.sva_reports.specs.Streams.{IsNew};
+ghost use Rattle.sva_streams.specs.Streams.{IsNew};
 
 use crate::shared::take_shared;
 use std::alloc::{AllocError, Global};
@@ -22,7 +22,7 @@ use std::sync::Wait;
 use sva_core::{World, run};
 use sva_frames::Counts;
 use sva_grammar::{ParseFault, parse};
-use sva_reports::{DriveFault, Told, read_all, write_all};
+use sva_streams::{DriveFault, Told, read_all, write_all};
 use sva_step::{Answer, Config, Refusal, Step};
 
 /// The report was made.

@@ -7,12 +7,12 @@ use Rattle.clap.specs.Words.{HasKind, IsAmong, Kinds, Text, kind_of}
 use Rattle.clap.specs.declared.error.Error.{Error}
 use Rattle.clap.specs.declared.error.kind.ErrorKind.{ErrorKind}
 use Rattle.clap.specs.declared.error.kind.ErrorKind.TheVariants.{DisplayHelp, DisplayVersion, OutOfMemory}
-use Rattle.sva_reports.specs.Streams.{AppendsPrefix, Stream, Writes}
-use Rattle.sva_reports.specs.declared.reading.TheConstants.{MOST_TURNS}
-use Rattle.sva_reports.specs.declared.streams.DriveFault.{DriveFault}
-use Rattle.sva_reports.specs.declared.streams.DriveFault.TheVariants.{Read, Write, Memory}
-use Rattle.sva_reports.specs.declared.streams.Outcome.{Outcome}
-use Rattle.sva_reports.specs.declared.streams.Outcome.TheVariants.{Done, Faulted}
+use Rattle.sva_streams.specs.Streams.{AppendsPrefix, Stream, Writes}
+use Rattle.sva_streams.specs.declared.reading.TheConstants.{MOST_TURNS}
+use Rattle.sva_streams.specs.declared.streams.DriveFault.{DriveFault}
+use Rattle.sva_streams.specs.declared.streams.DriveFault.TheVariants.{Read, Write, Memory}
+use Rattle.sva_streams.specs.declared.streams.Outcome.{Outcome}
+use Rattle.sva_streams.specs.declared.streams.Outcome.TheVariants.{Done, Faulted}
 use Rattle.sva_reports.specs.Report.{check_of, report_of}
 use Rattle.sva_scenario.proofs.StormLemmas.{lacking_of}
 use Rattle.sva_script_reading.specs.Said.{Prints}

@@ -1,8 +1,8 @@
 -- A text is said: all of it where no call failed, and else a prefix of it.
 use Rattle.std.proofs.Common.{arith, append-nil, ◌≡◌, ◌+◌, ℕ, List, [], Option, Result, Ok, Err, OnOk, IfErr}
 use Rattle.std.specs.Io.KnownBytes.{Appends}
-use Rattle.sva_reports.specs.Streams.{AppendsProperPrefix, Stream}
-use Rattle.sva_reports.specs.declared.streams.DriveFault.{DriveFault}
+use Rattle.sva_streams.specs.Streams.{AppendsProperPrefix, Stream}
+use Rattle.sva_streams.specs.declared.streams.DriveFault.{DriveFault}
 use Rattle.sva_program.specs.Run.{Says}
 
 pub says : {T : Type 0} (contents : T → Option (List ℕ)) (old new : Stream T) (text : List ℕ) (r : Result (Unit {0}) DriveFault)

@@ -4,12 +4,12 @@ use Rattle.std.specs.Prelude.{Result, Ok, Err}
 use Rattle.std.specs.Io.KnownBytes.{Appends, Keeps}
 use Rattle.sva_reports.specs.Report.{check_of, check_outcome_of, outcome_of, report_of}
 use Rattle.sva_scenario.specs.Storms.{StormsOf}
-use Rattle.sva_reports.specs.Streams.{AppendsPrefix, Stream, Writes}
-use Rattle.sva_reports.specs.declared.reading.TheConstants.{MOST_TURNS}
-use Rattle.sva_reports.specs.declared.streams.DriveFault.{DriveFault}
-use Rattle.sva_reports.specs.declared.streams.DriveFault.TheVariants.{Read, Write, Memory}
-use Rattle.sva_reports.specs.declared.streams.Outcome.{Outcome}
-use Rattle.sva_reports.specs.declared.streams.Outcome.TheVariants.{Done, Faulted}
+use Rattle.sva_streams.specs.Streams.{AppendsPrefix, Stream, Writes}
+use Rattle.sva_streams.specs.declared.reading.TheConstants.{MOST_TURNS}
+use Rattle.sva_streams.specs.declared.streams.DriveFault.{DriveFault}
+use Rattle.sva_streams.specs.declared.streams.DriveFault.TheVariants.{Read, Write, Memory}
+use Rattle.sva_streams.specs.declared.streams.Outcome.{Outcome}
+use Rattle.sva_streams.specs.declared.streams.Outcome.TheVariants.{Done, Faulted}
 use Rattle.sva_charts.specs.Charts.{Charts}
 use Rattle.sva_script_traces.specs.declared.rows.Columns.{Columns}
 use Rattle.sva_script_traces.specs.declared.rows.Columns.TheVariants.{Padded, Tabbed}

@@ -6,7 +6,7 @@ ghost use Rattle.std.specs.IoError.{error_kind};
 ghost use Rattle.sva_command.specs.Command.{Asks, AsksExplore, AsksJudge, AsksRun, AsksStrict, AsksText, CallsHelp, CallsVersion, IsMistaken, texts};
 ghost use Rattle.sva_program.specs.Run.{HasCause, IsSaid, Reports, Rules, Says, WhereKnown, columns_of, complaint, explored_of, fault_line, is_strict, ran_of, ruled_of};
 ghost use Rattle.sva_program.specs.Run.{status_of, status_of_untried, style_of, unread_line, wanted_of};
-ghost use Rattle.sva_reports.specs.Streams.{IsNew, Writes};
+ghost use Rattle.sva_streams.specs.Streams.{IsNew, Writes};
 
 use crate::storming::drive_storm;
 use clap::error::ErrorKind;

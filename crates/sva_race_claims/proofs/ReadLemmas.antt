@@ -6,7 +6,7 @@ use Rattle.std.specs.List.{list_any, position}
 use Rattle.std.proofs.lemmas.List.{map_push}
 use Rattle.sva_grammar.specs.Grammar.{◌>>=◌}
 use Rattle.sva_script.proofs.PartLemmas.{position_map}
-use Rattle.sva_race_parts.specs.declared.races.Line.{Line}
+use Rattle.sva_race_terms.specs.declared.races.Line.{Line}
 use Rattle.sva_race_words.specs.declared.faults.RaceStop.{RaceStop}
 use Rattle.sva_race_words.specs.declared.faults.RaceStop.TheVariants as stop
 use Rattle.sva_race_words.specs.declared.faults.RaceWrong.{RaceWrong}

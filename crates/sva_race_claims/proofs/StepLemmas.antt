@@ -7,8 +7,8 @@ use Rattle.sva_script.specs.declared.faults.Wanted.TheVariants as wants
 use Rattle.sva_script.specs.declared.faults.Wrong.{Wrong}
 use Rattle.sva_script.specs.Lines.{parts_of}
 use Rattle.sva_script.specs.Names.{Known}
-use Rattle.sva_script_runs.specs.Lines.{LineRead, Reads, line_read}
-use Rattle.sva_script_runs.specs.Messages.{link_of}
+use Rattle.sva_script_reading.specs.Lines.{LineRead, Reads, line_read}
+use Rattle.sva_script_reading.specs.Messages.{link_of}
 use Rattle.sva_race_words.specs.declared.faults.RaceWanted.TheVariants as wanted
 use Rattle.sva_race_words.specs.Faults.{as_script, lacking}
 use Rattle.sva_race_words.specs.Words.{word_at}

@@ -16,7 +16,7 @@ use crate::possible::{has_name, judge_frame, judge_refusal};
 use crate::steps::{endpoint_in, is_step, judge_step};
 use std::alloc::{AllocError, Global};
 use sva_grammar::number_in;
-use sva_race::{Atom, Line, Literal};
+use sva_race_terms::{Atom, Line, Literal};
 use sva_race_words::{
     RaceStop, RaceWanted, RaceWrong, count_of, joined, judge_end, stop_at, word_at, words_from,
     wrong_at,

@@ -8,7 +8,7 @@ ghost use Rattle.sva_race_claims.specs.Taking.{Adds, Gives};
 
 use crate::atoms::read_literal;
 use std::alloc::{AllocError, Global};
-use sva_race::{Claiming, Line, Literal};
+use sva_race_terms::{Claiming, Line, Literal};
 use sva_race_words::{RaceStop, piece_len, word_at, words_at, words_from};
 use sva_script::Names;
 use sva_step::Config;

@@ -10,7 +10,7 @@ ghost use Rattle.sva_race_claims.specs.Possible as possible;
 ghost use Rattle.sva_race_claims.specs.Seen.{has_name, line_seen};
 
 use sva_grammar::{Cause, number_in};
-use sva_race::Line;
+use sva_race_terms::Line;
 use sva_race_words::{RaceWanted, RaceWrong, word_at, wrong_at};
 use sva_script::name_and_nth;
 use sva_step::Refusal;

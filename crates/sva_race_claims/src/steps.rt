@@ -9,8 +9,7 @@ ghost use Rattle.sva_race_claims.specs.Steps.{endpoint_in, is_of_line, is_step, 
 use sva_grammar::number_in;
 use sva_race_words::{RaceStop, RaceWanted, RaceWrong, stop_at, word_at, wrong_at};
 use sva_script::{Field, Names, Stop, Wanted, Wrong, is_name, places_of};
-use sva_script_reading::Desk;
-use sva_script_runs::read_line;
+use sva_script_reading::{Desk, NothingInFlight, read_line};
 
 /// An endpoint that the config has.
 pub fn endpoint_in(endpoints: u64, at: usize, word: &[u8]) -> Result<u64, RaceWrong>
@@ -78,7 +77,13 @@ pub fn judge_step(
     if !is_step(word_at(step, 0)) {
         return Err(stop_at(at, RaceWanted::Script(Wanted::Step)));
     }
-    match read_line(names, None, step, &mut desk.plain, &mut desk.expected) {
+    match read_line(
+        names,
+        &NothingInFlight,
+        step,
+        &mut desk.plain,
+        &mut desk.expected,
+    ) {
         Ok(_) => Ok(()),
         Err(Stop::Wrong(found)) => place_stop(at, found),
         Err(Stop::Memory) => Err(RaceStop::Memory),

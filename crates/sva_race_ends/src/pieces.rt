@@ -8,7 +8,7 @@ ghost use Rattle.sva_address_spaces.specs.Steps.{is_mapped_place, is_withheld_pl
 ghost use Rattle.sva_labels.specs.Finding.{is_free};
 ghost use Rattle.sva_lines.specs.Pieces.{rows};
 ghost use Rattle.sva_race.specs.Moments.{is_next, was_taken};
-ghost use Rattle.sva_script_reading.specs.Begins.{counts_at};
+ghost use Rattle.sva_reports.specs.Counts.{counts_at};
 ghost use Rattle.sva_race_ends.specs.Ends.{end_text, named_piece, nameless_piece, piece, piece_by};
 
 use std::alloc::{AllocError, Global};

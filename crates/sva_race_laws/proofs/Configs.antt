@@ -10,7 +10,7 @@ use Rattle.sva_grammar.specs.declared.faults.Cause.TheVariants.{NoConfig}
 use Rattle.sva_grammar.specs.Grammar.{config_counts, config_of, config_read, has_words, is_too_large, number, word}
 use Rattle.sva_grammar.specs.Grammar.{words_of}
 use Rattle.sva_grammar.specs.Laws.{HasConfigLine}
-use Rattle.sva_reports.specs.Report.{is_fit}
+use Rattle.sva_grammar.specs.Configs.{is_fit}
 use Rattle.sva_script.specs.Lines.{script_words}
 use Rattle.sva_script_reading.specs.Begins.{Line, config_at, config_in, joined_words, lines_from}
 use Rattle.sva_script_reading.specs.Faults.{Fault}

@@ -14,7 +14,7 @@ use Rattle.sva_grammar.specs.Grammar.{said_lines, scenario_of, script_of, step_o
 use Rattle.sva_grammar.specs.Grammar.{steps_of, words_of}
 use Rattle.sva_grammar.specs.Laws.{HasConfigLine, HasLine, script_text, step_words, text_of}
 use Rattle.sva_grammar.proofs.LawLemmas.{scripts_are_read}
-use Rattle.sva_reports.specs.Report.{ended}
+use Rattle.sva_grammar.specs.Replies.{ended}
 use Rattle.sva_script_reading.specs.Begins.{Line}
 use Rattle.sva_script_laws.proofs.Keeping.{both, one, small_read}
 use Rattle.sva_script_laws.proofs.Written.{Clean, lines_written, not_skipped, skipped, written}

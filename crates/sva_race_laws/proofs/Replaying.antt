@@ -4,9 +4,12 @@ use Rattle.sva_step.specs.declared.limits.Config.{Config}
 use Rattle.sva_model.specs.Wire.{Wire}
 use Rattle.sva_labels.specs.Host.{first_wire, replies_of}
 use Rattle.sva_grammar.specs.Grammar.{lines_of}
-use Rattle.sva_reports.specs.Report.{ended, is_fit, reply_text, report_by}
+use Rattle.sva_reports.specs.Report.{report_by}
+use Rattle.sva_grammar.specs.Configs.{is_fit}
+use Rattle.sva_grammar.specs.Replies.{ended, reply_text}
 use Rattle.sva_reports.proofs.ScriptLemmas.{configs_are_tested}
-use Rattle.sva_script_reading.specs.Begins.{counts_at, lines_from}
+use Rattle.sva_script_reading.specs.Begins.{lines_from}
+use Rattle.sva_reports.specs.Counts.{counts_at}
 use Rattle.sva_script_laws.proofs.Following.{numbered}
 use Rattle.sva_script_laws.proofs.Replaying.{reported}
 use Rattle.sva_script_laws.proofs.Written.{Clean, lines_clean}

@@ -5,17 +5,17 @@ use Rattle.std.proofs.Common.{Option, Some, None, IfSome}
 use Rattle.std.specs.Global.{Global}
 use Rattle.std.specs.Prelude.{Vec, nat_lt, slice_get}
 use Rattle.sva_step.specs.declared.steps.Step.{Step}
-use Rattle.sva_reports.specs.Report.{ended}
+use Rattle.sva_grammar.specs.Replies.{ended}
 use Rattle.sva_script_traces.specs.Traces.{NoEnd}
 use Rattle.sva_script_traces.proofs.TraceLemmas.{no_end-both}
 use Rattle.sva_script_laws.proofs.AnswerTexts.{number_behind}
 use Rattle.sva_script_laws.proofs.PlainWords.{joined_line}
 use Rattle.sva_script_laws.proofs.Written.{Clean, written}
-use Rattle.sva_race_parts.specs.declared.choices.Act.{Act}
-use Rattle.sva_race_parts.specs.declared.choices.Act.TheVariants as act
-use Rattle.sva_race_parts.specs.declared.choices.Choice.{Choice}
-use Rattle.sva_race_parts.specs.declared.races.Line.{Line}
-use Rattle.sva_race_parts.specs.declared.races.Race.{Race}
+use Rattle.sva_race_terms.specs.declared.choices.Act.{Act}
+use Rattle.sva_race_terms.specs.declared.choices.Act.TheVariants as act
+use Rattle.sva_race_terms.specs.declared.choices.Choice.{Choice}
+use Rattle.sva_race_terms.specs.declared.races.Line.{Line}
+use Rattle.sva_race_terms.specs.declared.races.Race.{Race}
 use Rattle.sva_race.specs.Acts.{next_in}
 use Rattle.sva_race.specs.Moments.{Moment, start_of}
 use Rattle.sva_race.specs.Moves.{step_and, step_before, step_of, steps_before, steps_from}

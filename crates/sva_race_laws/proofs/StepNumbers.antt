@@ -23,8 +23,8 @@ use Rattle.sva_grammar.proofs.VectorLemmas.{vectors_are_hexadecimal}
 use Rattle.sva_script.specs.declared.faults.Wrong.{Wrong}
 use Rattle.sva_script.specs.Lines.{parts_of, script_words}
 use Rattle.sva_script.specs.Names.{Known}
-use Rattle.sva_script_runs.specs.Lines.{LineRead, Plain, line_read}
-use Rattle.sva_script_runs.specs.Messages.{link_of}
+use Rattle.sva_script_reading.specs.Lines.{LineRead, Plain, line_read}
+use Rattle.sva_script_reading.specs.Messages.{link_of}
 use Rattle.sva_script_laws.proofs.StepLines.{step_is}
 use Rattle.sva_script_laws.proofs.StepWords.{part}
 use Rattle.sva_script_laws.proofs.Written.{step_line_read}

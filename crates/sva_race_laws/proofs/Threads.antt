@@ -9,11 +9,11 @@ use Rattle.sva_script.specs.Lines.{Parts, parts_of, script_words, step_begins}
 use Rattle.sva_script.specs.Names.{Known, is_name}
 use Rattle.sva_script_reading.specs.Begins.{Line, faults_from}
 use Rattle.sva_script_reading.specs.Said.{faults_text}
-use Rattle.sva_script_runs.specs.Lines.{is_end}
+use Rattle.sva_script_reading.specs.Lines.{is_end}
 use Rattle.sva_script_laws.proofs.Following.{CleanLines}
 use Rattle.sva_script_laws.proofs.Written.{Clean}
 use Rattle.sva_script_traces.specs.Traces.{NoEnd}
-use Rattle.sva_race_parts.specs.declared.claims.Claiming.{Claiming}
+use Rattle.sva_race_terms.specs.declared.claims.Claiming.{Claiming}
 use Rattle.sva_race_words.specs.declared.faults.RaceWanted.{RaceWanted}
 use Rattle.sva_race_words.specs.declared.faults.RaceWrong.{RaceWrong}
 use Rattle.sva_race_words.specs.Faults.{lacking, no_more}

@@ -3,11 +3,12 @@ use Rattle.std.specs.Prelude.{◌≡◌, ℕ, false, List, ◌++◌, flat_map, S
 use Rattle.sva_step.specs.declared.steps.Step.{Step}
 use Rattle.sva_labels.specs.Host.{first_wire, replies_of}
 use Rattle.sva_grammar.specs.Grammar.{is_too_large, scenario_of}
-use Rattle.sva_reports.specs.Report.{ended, reply_text, report_of}
-use Rattle.sva_script_reading.specs.Begins.{counts_at}
+use Rattle.sva_reports.specs.Report.{report_of}
+use Rattle.sva_grammar.specs.Replies.{ended, reply_text}
+use Rattle.sva_reports.specs.Counts.{counts_at}
 use Rattle.sva_search.specs.Rules.{LeadsTo}
-use Rattle.sva_race_parts.specs.declared.choices.Choice.{Choice}
-use Rattle.sva_race_parts.specs.declared.races.Race.{Race}
+use Rattle.sva_race_terms.specs.declared.choices.Choice.{Choice}
+use Rattle.sva_race_terms.specs.declared.races.Race.{Race}
 use Rattle.sva_race.specs.Moments.{Moment, start_of}
 use Rattle.sva_race.specs.Moves.{steps_before, steps_from}
 use Rattle.sva_race.specs.Rules.{rules_of}

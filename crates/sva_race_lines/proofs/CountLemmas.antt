@@ -4,8 +4,8 @@ use Rattle.std.specs.Global.{Global}
 use Rattle.std.specs.Prelude.{Vec}
 use Rattle.std.proofs.lemmas.List.{flat_map_more, take_all, take_more}
 use Rattle.std.proofs.lemmas.List.Folds.{flat_map-map}
-use Rattle.sva_race_parts.specs.declared.claims.Claim.{Claim}
-use Rattle.sva_race_parts.specs.declared.claims.Literal.{Literal}
+use Rattle.sva_race_terms.specs.declared.claims.Claim.{Claim}
+use Rattle.sva_race_terms.specs.declared.claims.Literal.{Literal}
 use Rattle.sva_race_claims.specs.Seen.{atom_seen, condition_seen, literal_seen, literals_seen}
 use Rattle.sva_race_lines.specs.Devices.{CountSaid, counts_in, counts_of_condition, counts_of_literals}
 use Rattle.sva_race_lines.specs.Readings.{claim_seen, counts_of}

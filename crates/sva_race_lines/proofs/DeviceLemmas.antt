@@ -5,7 +5,7 @@ use Rattle.std.specs.Prelude.{slice_index_or, slice_set}
 use Rattle.std.proofs.lemmas.List.{drop_all, drop_more, map_push, replicate_more, take_all, take_more}
 use denote.Ref.{Bor}
 use Rattle.sva_script.specs.Lines.{script_words}
-use Rattle.sva_race_parts.specs.declared.races.Line.{Line}
+use Rattle.sva_race_terms.specs.declared.races.Line.{Line}
 use Rattle.sva_race_words.specs.Words.{word_at}
 use Rattle.sva_race_words.proofs.Lists.{said}
 use Rattle.sva_race_claims.specs.Seen.{line_seen}

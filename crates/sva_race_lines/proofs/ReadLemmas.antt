@@ -8,7 +8,7 @@ use denote.Ref.{Bor}
 use Rattle.sva_grammar.specs.Grammar.{◌>>=◌, verdict}
 use Rattle.sva_script.specs.declared.faults.Wanted.TheVariants as script
 use Rattle.sva_script.specs.declared.places.Field.TheVariants as place
-use Rattle.sva_race_parts.specs.declared.races.Verdicts.{Verdicts}
+use Rattle.sva_race_terms.specs.declared.races.Verdicts.{Verdicts}
 use Rattle.sva_race_words.specs.declared.faults.RaceWanted.TheVariants as wanted
 use Rattle.sva_race_words.specs.declared.faults.RaceWrong.{RaceWrong}
 use Rattle.sva_race_words.specs.Faults.{lacking}

@@ -9,7 +9,7 @@ use Rattle.sva_script_reading.specs.Begins.{Line, faults_at, faults_from, noted}
 use Rattle.sva_script_reading.specs.Reading.{ReadsLine}
 use Rattle.sva_script_reading.specs.Said.{faults_text}
 use Rattle.sva_script_reading.proofs.FaultLemmas.{faults_both}
-use Rattle.sva_script_runs.specs.Lines.{is_end}
+use Rattle.sva_script_reading.specs.Lines.{is_end}
 use Rattle.sva_script.specs.declared.faults.Wanted.TheVariants as script
 use Rattle.sva_race_words.specs.declared.faults.RaceWanted.TheVariants as wanted
 use Rattle.sva_race_words.specs.declared.faults.RaceWrong.{RaceWrong}

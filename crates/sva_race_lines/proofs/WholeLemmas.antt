@@ -5,7 +5,7 @@ use Rattle.std.specs.Prelude.{IfOk, Option, Some, None, Result, Ok, Err}
 use Rattle.std.specs.declared.alloc.AllocError.{AllocError}
 use Rattle.sva_step.specs.declared.limits.Config.{Config}
 use Rattle.sva_grammar.specs.Grammar.{is_too_large}
-use Rattle.sva_reports.specs.Report.{is_fit}
+use Rattle.sva_grammar.specs.Configs.{is_fit}
 use Rattle.sva_script_reading.specs.Begins.{Line, config_in, lines_from}
 use Rattle.sva_script_reading.specs.Faults.{Fault}
 use Rattle.sva_script_reading.specs.Faults as scripts

@@ -4,7 +4,7 @@ ghost use Rattle.std.specs.Prelude.{◌≡◌, ◌+◌, [], IfOk, map};
 ghost use Rattle.sva_race_lines.specs.Texts.{before_race, is_race, line_before, names_from, with_before, with_script};
 ghost use Rattle.sva_script.specs.Lines.{parts_of};
 ghost use Rattle.sva_script_reading.specs.Begins.{lines_from};
-ghost use Rattle.sva_script_runs.specs.Lines.{are_end, is_end};
+ghost use Rattle.sva_script_reading.specs.Lines.{are_end, is_end};
 
 use crate::readings::Reading;
 use std::alloc::{AllocError, Global};

@@ -7,7 +7,7 @@ ghost use Rattle.sva_race_lines.specs.Taking.{Takes};
 
 use crate::readings::Reading;
 use std::alloc::Global;
-use sva_race::{Claim, Claiming};
+use sva_race_terms::{Claim, Claiming};
 use sva_race_claims::{claiming_of, is_of_ends};
 use sva_race_words::{RaceStop, RaceWanted, stop_at, word_at, words_from};
 use sva_script::Names;

@@ -5,7 +5,7 @@ ghost use Rattle.sva_race_claims.specs.Seen.{atom_seen, condition_seen, literals
 ghost use Rattle.sva_race_lines.specs.Devices.{count_seen, counts_in, counts_of_condition, counts_of_literals};
 
 use std::alloc::{AllocError, Global};
-use sva_race::{Atom, Claim, Count, Literal};
+use sva_race_terms::{Atom, Claim, Count, Literal};
 
 /// Appends the answer that an atom counts, if it counts one.
 fn add_atom(alloc: Global, counts: &mut Vec<Count>, atom: &Atom) -> Result<(), AllocError>

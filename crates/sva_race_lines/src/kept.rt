@@ -1,6 +1,6 @@
 //! A race with what its report tells.
 
-use sva_race::Race;
+use sva_race_terms::Race;
 
 /// What is asked by a claim, as its line has it.
 #[derive(Drop)]

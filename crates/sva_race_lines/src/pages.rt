@@ -10,7 +10,7 @@ ghost use Rattle.sva_race_lines.specs.Devices.{page_place, with_page};
 
 use crate::devices::{DeviceLine, page_of};
 use std::alloc::{AllocError, Global};
-use sva_race::{Device, Line};
+use sva_race_terms::{Device, Line};
 use sva_race_words::word_at;
 use sva_script::{Field, places_of, split};
 

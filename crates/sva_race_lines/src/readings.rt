@@ -16,7 +16,7 @@ use crate::devices::DeviceLine;
 use crate::kept::Asked;
 use std::alloc::{AllocError, Global};
 use std::marker::Model;
-use sva_race::{Claim, Line, Literal, Verdicts};
+use sva_race_terms::{Claim, Line, Literal, Verdicts};
 use sva_race_claims::{is_of_ends, read_condition};
 use sva_race_words::{RaceStop, RaceWrong, actor_of, joined, put_fault, role_of};
 use sva_script::Names;

@@ -11,7 +11,7 @@ use crate::kept::Text;
 use crate::pages::{devices_of, named_pages, silent_of};
 use crate::readings::Reading;
 use std::alloc::{AllocError, Global};
-use sva_race::{Race, Verdicts};
+use sva_race_terms::{Race, Verdicts};
 use sva_race_words::put_limits;
 use sva_script::Names;
 use sva_script_reading::{Desk, Lines, is_too_large, take_config};

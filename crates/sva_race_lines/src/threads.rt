@@ -11,7 +11,7 @@ use crate::devices::read_device;
 use crate::readings::Reading;
 use std::alloc::{AllocError, Global};
 use sva_grammar::verdict_in;
-use sva_race::Verdicts;
+use sva_race_terms::Verdicts;
 use sva_race_claims::{endpoint_in, judge_name, judge_step};
 use sva_race_words::{
     RaceStop, RaceWanted, RaceWrong, count_of, judge_end, stop_at, word_at, words_from, wrong_at,

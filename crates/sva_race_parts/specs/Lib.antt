@@ -1,5 +1,4 @@
 pub mod Answers
-pub mod Claiming
 pub mod Counts
 pub mod Devices
 pub mod Latest

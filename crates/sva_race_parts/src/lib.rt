@@ -1,35 +1,28 @@
-//! What a race is, and what of it knows no moment: the names of lines, whether an endpoint may use a translation to a
-//! frame, whether an answer is as expected, counts, what endpoints may do beside their lines, and worlds that are made
-//! once more.
+//! What of a race knows no moment: the names of lines, whether an endpoint may use a translation to a frame, whether an
+//! answer is as expected, counts, what endpoints may do beside their lines, and worlds that are made once more.
 #![tactic(auto)]
 
 mod answers;
-mod choices;
-mod claims;
 mod counts;
 mod devices;
 mod equal;
 mod latest;
 mod lists;
 mod names;
-mod races;
 mod reading;
 mod usable;
 mod worlds;
 
 pub use answers::is_answer;
-pub use choices::{Act, Choice};
-pub use claims::{Atom, Claim, Claiming, Literal};
 pub use counts::{count_in, counted};
 pub use devices::{
-    Budget, Device, MANNERS, again_step, ask_step, cached_count, evict_step, fault_step,
+    again_step, ask_step, cached_count, evict_step, fault_step,
     group_pasid, if_left, left_of, page_count, use_step,
 };
 pub use equal::{same_counts, same_latest, same_left, same_reply, same_taken};
 pub use latest::{Latest, is_noted, last_step, note_request};
 pub use lists::{budgets, repeated};
 pub use names::known;
-pub use races::{Count, Line, Race, Verdicts};
 pub use reading::read_step;
 pub use usable::{is_usable, looked_at};
 pub use worlds::{apply_boxed, made_by, open};

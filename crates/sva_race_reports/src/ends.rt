@@ -3,7 +3,7 @@
 ghost use Rattle.std.specs.Prelude.{◌≡◌, ◌++◌, IfOk, OnOk, Some};
 ghost use Rattle.sva_grammar.specs.Laws.{step_words};
 ghost use Rattle.sva_lines.specs.Pieces.{rows};
-ghost use Rattle.sva_reports.specs.Report.{ended, reply_text};
+ghost use Rattle.sva_grammar.specs.Replies.{ended, reply_text};
 ghost use Rattle.sva_script_reading.specs.Begins.{joined_words};
 ghost use Rattle.sva_script_reports.specs.Whys.{case_line, held_text};
 ghost use Rattle.sva_search.specs.Rules.{run_from};

@@ -5,13 +5,14 @@ use Rattle.std.specs.Io.KnownBytes.{Appends}
 use Rattle.sva_grammar.specs.declared.faults.LineFault.{LineFault}
 use Rattle.sva_grammar.specs.Faults.{line_fault_text}
 use Rattle.sva_grammar.specs.Grammar.{Script}
-use Rattle.sva_reports.specs.declared.streams.DriveFault.{DriveFault}
-use Rattle.sva_reports.specs.declared.streams.DriveFault.TheVariants.{Write}
-use Rattle.sva_reports.specs.declared.streams.Outcome.{Outcome}
-use Rattle.sva_reports.specs.declared.streams.Outcome.TheVariants.{Faulted}
-use Rattle.sva_reports.specs.Report.{HandedOut, ended}
-use Rattle.sva_reports.specs.Streams.{AppendsPrefix}
-use Rattle.sva_reports.proofs.StreamLemmas.{AppendsPrefix-longer}
+use Rattle.sva_streams.specs.declared.streams.DriveFault.{DriveFault}
+use Rattle.sva_streams.specs.declared.streams.DriveFault.TheVariants.{Write}
+use Rattle.sva_streams.specs.declared.streams.Outcome.{Outcome}
+use Rattle.sva_streams.specs.declared.streams.Outcome.TheVariants.{Faulted}
+use Rattle.sva_reports.specs.Report.{HandedOut}
+use Rattle.sva_grammar.specs.Replies.{ended}
+use Rattle.sva_streams.specs.Streams.{AppendsPrefix}
+use Rattle.sva_streams.proofs.StreamLemmas.{AppendsPrefix-longer}
 
 -- ---- What is handed out
 

@@ -1,5 +1,3 @@
-pub mod StreamLemmas
 pub mod ScriptLemmas
 pub mod ReportLemmas
 pub mod HandedLemmas
-pub mod EndLemmas

@@ -23,10 +23,11 @@ use Rattle.sva_model.specs.Claims.{Fits}
 use Rattle.sva_model.specs.Steps.{Counts, Reply, reply, replies, next, run, counts, world_after}
 use Rattle.sva_model.specs.Wire.{Wire, wire}
 use Rattle.sva_core.specs.Reached.{FollowsAt, Follows}
-use Rattle.sva_reports.specs.declared.streams.DriveFault.{DriveFault}
-use Rattle.sva_reports.specs.Report.{ended, reply_text, counts_text, steps_report}
-use Rattle.sva_reports.specs.Streams.{AppendsPrefix, Holds, Writes}
-use Rattle.sva_reports.proofs.StreamLemmas.{AppendsPrefix-after, AppendsPrefix-longer}
+use Rattle.sva_streams.specs.declared.streams.DriveFault.{DriveFault}
+use Rattle.sva_reports.specs.Report.{counts_text, steps_report}
+use Rattle.sva_grammar.specs.Replies.{ended, reply_text}
+use Rattle.sva_streams.specs.Streams.{AppendsPrefix, Holds, Writes}
+use Rattle.sva_streams.proofs.StreamLemmas.{AppendsPrefix-after, AppendsPrefix-longer}
 
 -- ---- One line after another
 

@@ -17,11 +17,13 @@ use Rattle.sva_model.specs.Claims.{Fits}
 use Rattle.sva_grammar.specs.declared.faults.Cause.TheVariants.{TooLarge}
 use Rattle.sva_grammar.specs.declared.faults.LineFault.{LineFault}
 use Rattle.sva_grammar.specs.Grammar.{fault, lines_of, said_lines, Script, scenario_of, script_of}
-use Rattle.sva_reports.specs.Report.{ConfigsAreTested, ended, is_fit, script_report, steps_report}
-use Rattle.sva_reports.specs.Streams.{AppendsPrefix, Writes}
-use Rattle.sva_reports.specs.declared.streams.DriveFault.{DriveFault}
-use Rattle.sva_reports.specs.declared.streams.Outcome.{Outcome}
-use Rattle.sva_reports.specs.declared.streams.Outcome.TheVariants.{Done, Faulted}
+use Rattle.sva_reports.specs.Report.{ConfigsAreTested, script_report, steps_report}
+use Rattle.sva_grammar.specs.Configs.{is_fit}
+use Rattle.sva_grammar.specs.Replies.{ended}
+use Rattle.sva_streams.specs.Streams.{AppendsPrefix, Writes}
+use Rattle.sva_streams.specs.declared.streams.DriveFault.{DriveFault}
+use Rattle.sva_streams.specs.declared.streams.Outcome.{Outcome}
+use Rattle.sva_streams.specs.declared.streams.Outcome.TheVariants.{Done, Faulted}
 
 -- ---- The prefix of a text
 
@@ -46,45 +48,8 @@ front_scenario text = by_size text (ltb 1048576 (length text)) refl
 
 -- ---- The test of a config
 
-pub fit_from : (config : Config) → Fits config → is_fit config ≡ true
-fit_from config f =
-    and_from _ _
-    (and_from _ _
-    (and_from _ _
-    (and_from _ _
-    (and_from _ _ (and_from _ _ (le-leb _ _ f.some_endpoint) (le-leb _ _ f.most_endpoints)) (le-leb _ _ f.some_frame))
-    (le-leb _ _ f.most_frames))
-    (le-leb _ _ f.some_worker))
-    (le-leb _ _ f.most_workers))
-    (le-leb _ _ f.first_number)
-
-fit_to : (config : Config) → is_fit config ≡ true → Fits config
-fit_to config h =
-    let six = and_parts _ _ h in
-    let five = and_parts _ _ six.0 in
-    let four = and_parts _ _ five.0 in
-    let three = and_parts _ _ four.0 in
-    let two = and_parts _ _ three.0 in
-    let one = and_parts _ _ two.0 in
-    record {
-      some_endpoint = leb-true _ _ one.0;
-      most_endpoints = leb-true _ _ one.1;
-      some_frame = leb-true _ _ two.1;
-      most_frames = leb-true _ _ three.1;
-      some_worker = leb-true _ _ four.1;
-      most_workers = leb-true _ _ five.1;
-      first_number = leb-true _ _ six.1;
-    }
-
 pub configs_are_tested : ConfigsAreTested
 configs_are_tested config = (fit_to config, fit_from config)
-
-unfit_by : (config : Config) (fit : Bool) → is_fit config ≡ fit → (Fits config → ⊥) → is_fit config ≡ false
-unfit_by config true e unfit = absurd (unfit (fit_to config e))
-unfit_by config false e unfit = e
-
-pub unfit_from : (config : Config) → (Fits config → ⊥) → is_fit config ≡ false
-unfit_from config unfit = unfit_by config (is_fit config) refl unfit
 
 -- ---- What is left of the steps
 
@@ -128,19 +93,3 @@ pub kept_outcome : (end : Result Script LineFault → Outcome) (known : Option (
 kept_outcome end known kept text (Err fault) e h o = tt
 kept_outcome end None kept text (Ok outcome) e h o = tt
 kept_outcome end (Some input) kept text (Ok outcome) e h o = o ∙ ap end (ap scenario_of (e ∙ h) ∙ front_scenario input)
-
--- a fault stands where a prefix was written
-pub writes_front : {A : Type 0} (old new : Option (List ℕ)) (bytes : List ℕ) (result : Result A DriveFault) → IsErr result
-    → AppendsPrefix old new bytes → Writes old new bytes result
-writes_front old new bytes (Ok x) e front = absurd (cc)
-writes_front old new bytes (Err fault) e front = front
-
--- the same bytes, named otherwise
-pub writes_as : {A : Type 0} (old new : Option (List ℕ)) (bytes other : List ℕ) (result : Result A DriveFault) → other ≡ bytes
-    → Writes old new bytes result → Writes old new other result
-writes_as old new bytes other result e w = subst (λ b. Writes old new b result) (sym e) w
-
-pub ends_as : (result : Result Outcome DriveFault) (end other : Outcome) → other ≡ end → IfOk result (λ outcome. outcome ≡ end)
-    → IfOk result (λ outcome. outcome ≡ other)
-ends_as (Ok outcome) end other e h = h ∙ sym e
-ends_as (Err fault) end other e h = tt

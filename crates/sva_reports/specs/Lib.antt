@@ -1,2 +1,2 @@
-pub mod Streams
 pub mod Report
+pub mod Counts

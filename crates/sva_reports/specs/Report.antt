@@ -12,22 +12,13 @@ use Rattle.sva_model.specs.Claims.{Fits}
 use Rattle.sva_model.specs.Steps.{Counts, Reply, counts, replies, run, world_after}
 use Rattle.sva_model.specs.Wire.{Wire, wire}
 use Rattle.sva_grammar.specs.declared.faults.LineFault.{LineFault}
-use Rattle.sva_reports.specs.declared.streams.DriveFault.{DriveFault}
-use Rattle.sva_reports.specs.declared.streams.DriveFault.TheVariants.{Write}
-use Rattle.sva_reports.specs.declared.streams.Outcome.{Outcome}
-use Rattle.sva_reports.specs.declared.streams.Outcome.TheVariants.{Done, Faulted}
+use Rattle.sva_streams.specs.declared.streams.DriveFault.{DriveFault}
+use Rattle.sva_streams.specs.declared.streams.DriveFault.TheVariants.{Write}
+use Rattle.sva_streams.specs.declared.streams.Outcome.{Outcome}
+use Rattle.sva_streams.specs.declared.streams.Outcome.TheVariants.{Done, Faulted}
 use Rattle.sva_grammar.specs.Faults.{line_fault_text}
 use Rattle.sva_grammar.specs.Grammar.{Script, scenario_of}
-use Rattle.sva_reports.specs.Streams.{Writes}
-
--- a line is ended by LF
-abbrev pub ended : List ℕ → List ℕ
-ended text = text ++ 10 ∷ []
-
--- an answer's text, or `refused N Name`
-abbrev pub reply_text : Reply → List ℕ
-reply_text (Ok answer) = answer_text answer
-reply_text (Err refusal) = refusal_text refusal
+use Rattle.sva_streams.specs.Streams.{Writes}
 
 -- `free X mapped Y withheld Z`
 abbrev pub counts_text : Counts → List ℕ
@@ -36,17 +27,6 @@ counts_text counts = codes "free " ++ decimal counts.free ++ codes " mapped " ++
 -- of a list of steps from a world on: a line for each step, and last the counts of the world after them
 unfoldable pub steps_report : World → List Step → List ℕ
 steps_report world steps = flat_map (λ reply. ended (reply_text reply)) (replies world steps) ++ ended (counts_text (counts (run world steps)))
-
--- is each count of the config within its limits, and does it begin to number at 2^63 or below?
-abbrev pub is_fit : Config → Bool
-is_fit config =
-    nat_le 1 config.endpoints
-    && nat_le config.endpoints 8
-    && nat_le 1 config.frames
-    && nat_le config.frames 4096
-    && nat_le 1 config.workers
-    && nat_le config.workers 4
-    && nat_le config.first (2 ^ 63)
 
 -- the test passes exactly those that are within their limits
 abbrev pub ConfigsAreTested : Type 0

@@ -2,17 +2,15 @@
 
 ghost use Rattle.std.specs.Prelude.{◌≡◌, ◌⊎◌, ◌<◌, ◌≤◌, IfOk, IfSome, OnOk};
 ghost use Rattle.std.specs.Io.KnownBytes.{IsAtEnd};
-ghost use Rattle.sva_reports.specs.declared.reading.TheConstants.{MOST_TURNS};
+ghost use Rattle.sva_streams.specs.declared.reading.TheConstants.{MOST_TURNS};
 ghost use Rattle.sva_reports.specs.Report.{check_of, check_outcome_of};
-ghost use Rattle.sva_reports.specs.Streams.{IsNew, Tells, Writes};
+ghost use Rattle.sva_streams.specs.Streams.{IsNew, Tells, Writes};
 
-use crate::reading::read_all;
 use crate::report::write_steps;
 use crate::scenarios::scenario_or_fault;
-use crate::streams::{DriveFault, Outcome};
-use crate::told::Told;
 use std::alloc::Global;
 use std::io::{Read, Write};
+use sva_streams::{DriveFault, Outcome, Told, read_all};
 
 /// Reads a scenario to its end, and writes how many steps it has, `steps K`, or its line fault. No step is run, and the
 /// limits of the config aren't asked. `Faulted` tells that there is a line fault. After `Write` or `Memory` a prefix of

@@ -3,19 +3,19 @@
 ghost use Rattle.std.specs.Prelude.{◌≡◌, ◌↔◌, ◌⊎◌, ◌<◌, ◌≤◌, [], length, IsTrue, IfOk, IfSome, OnOk, if◌then◌else◌};
 ghost use Rattle.std.specs.Io.KnownBytes.{IsAtEnd};
 ghost use Rattle.sva_core.specs.Reached.{Follows};
-ghost use Rattle.sva_reports.specs.declared.reading.TheConstants.{MOST_TURNS};
-ghost use Rattle.sva_reports.specs.Report.{is_fit, outcome_of, reply_text, report_of, script_report, ReportsFrom};
-ghost use Rattle.sva_reports.specs.Streams.{IsNew, Tells, Writes};
+ghost use Rattle.sva_streams.specs.declared.reading.TheConstants.{MOST_TURNS};
+ghost use Rattle.sva_reports.specs.Report.{outcome_of, report_of, script_report, ReportsFrom};
+ghost use Rattle.sva_grammar.specs.Configs.{is_fit};
+ghost use Rattle.sva_grammar.specs.Replies.{reply_text};
+ghost use Rattle.sva_streams.specs.Streams.{IsNew, Tells, Writes};
 
-use crate::reading::read_all;
 use crate::report::{flush, hold_reply, write_end, write_reply};
 use crate::scenarios::scenario_or_fault;
-use crate::streams::{DriveFault, Outcome};
-use crate::told::Told;
 use std::alloc::Global;
 use std::io::{Read, Write};
 use sva_core::World;
 use sva_step::{Answer, Config, Refusal, Step};
+use sva_streams::{DriveFault, Outcome, Told, read_all};
 
 /// Reads a scenario to its end, runs its steps, and writes its report, many lines at a time. `Faulted` tells that it is a
 /// line fault or a refused config. After `Write` or `Memory` a prefix of the report was written, after `Read` nothing.

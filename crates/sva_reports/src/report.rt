@@ -3,18 +3,17 @@
 ghost use Rattle.std.specs.Prelude.{◌≡◌, ◌+◌, ◌^◌, ◌<◌, ◌≤◌, ◌++◌, ◌∷◌, [], length, decimal, Err, OnErr, OnOk};
 ghost use Rattle.sva_step.specs.Texts.{BeginsWith};
 ghost use Rattle.sva_grammar.specs.Faults.{line_fault_text};
-ghost use Rattle.sva_reports.specs.Report.{audit_bad_text, audit_ok_text, ended, reply_text, counts_text, steps_text};
-ghost use Rattle.sva_reports.specs.Streams.{Holds, Writes, Tells};
+ghost use Rattle.sva_reports.specs.Report.{audit_bad_text, audit_ok_text, counts_text, steps_text};
+ghost use Rattle.sva_grammar.specs.Replies.{ended, reply_text};
+ghost use Rattle.sva_streams.specs.Streams.{Holds, Writes, Tells};
 
-use crate::streams::DriveFault;
-use crate::told::Told;
-use crate::writing::write_all;
 use itoa::Buffer;
 use std::alloc::AllocError;
 use std::io::Write;
 use sva_frames::Counts;
 use sva_grammar::LineFault;
 use sva_step::{Answer, Refusal};
+use sva_streams::{DriveFault, Told, write_all};
 
 /// Writes the line of a step: its answer, or its refusal. What stands in `line` is lost. Want of memory comes before
 /// anything is written.

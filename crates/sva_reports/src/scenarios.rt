@@ -3,14 +3,13 @@
 ghost use Rattle.std.specs.Prelude.{◌≡◌, IfOk, IfSome, Err};
 ghost use Rattle.sva_grammar.specs.Grammar.{scenario_of};
 ghost use Rattle.sva_reports.specs.Report.{HandedOut};
-ghost use Rattle.sva_reports.specs.Streams.{IsNew, Tells};
+ghost use Rattle.sva_streams.specs.Streams.{IsNew, Tells};
 
 use crate::report::write_fault;
-use crate::streams::DriveFault;
-use crate::told::Told;
 use std::alloc::Global;
 use std::io::Write;
 use sva_grammar::{ParseFault, Scenario, parse};
+use sva_streams::{DriveFault, Told};
 
 /// Hands out the scenario of a text, and writes nothing. A line fault is written, and there is none to be handed out then.
 /// After `Write` a prefix of that line was written, after `Memory` nothing.

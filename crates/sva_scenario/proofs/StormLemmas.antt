@@ -4,20 +4,22 @@ use Rattle.std.specs.Prelude.{IfOk, IfSome, IsErrAnd, take}
 use Rattle.sva_grammar.specs.declared.faults.LineFault.{LineFault}
 use Rattle.sva_grammar.specs.Grammar.{Script, scenario_of}
 use Rattle.sva_storm.specs.Storms.{HasFoundFrames}
-use Rattle.sva_reports.specs.declared.streams.DriveFault.{DriveFault}
-use Rattle.sva_reports.specs.declared.streams.DriveFault.TheVariants.{Read, Write, Memory}
-use Rattle.sva_reports.specs.declared.streams.Outcome.{Outcome}
-use Rattle.sva_reports.specs.declared.streams.Outcome.TheVariants.{Faulted}
+use Rattle.sva_streams.specs.declared.streams.DriveFault.{DriveFault}
+use Rattle.sva_streams.specs.declared.streams.DriveFault.TheVariants.{Read, Write, Memory}
+use Rattle.sva_streams.specs.declared.streams.Outcome.{Outcome}
+use Rattle.sva_streams.specs.declared.streams.Outcome.TheVariants.{Faulted}
 use Rattle.std.proofs.KnownBytes.{Appends-nil}
 use Rattle.sva_step.specs.declared.refusals.Refusal.TheVariants.{BadConfig}
 use Rattle.sva_step.specs.Refusals.{refusal_text}
 use Rattle.sva_grammar.specs.Faults.{line_fault_text}
-use Rattle.sva_reports.specs.Report.{HandedOut, ended, is_fit}
-use Rattle.sva_reports.specs.Streams.{AppendsPrefix, Writes}
+use Rattle.sva_reports.specs.Report.{HandedOut}
+use Rattle.sva_grammar.specs.Configs.{is_fit}
+use Rattle.sva_grammar.specs.Replies.{ended}
+use Rattle.sva_streams.specs.Streams.{AppendsPrefix, Writes}
 use Rattle.sva_scenario.specs.Storms.{Judged, JudgedBy, JudgedOf, StormEnds, Storms, StormsBy, StormsOf, audit_outcome, audit_text}
 use Rattle.sva_reports.proofs.HandedLemmas.{handed_lacking, nothing}
 use Rattle.sva_reports.proofs.ScriptLemmas.{front_scenario}
-use Rattle.sva_reports.proofs.StreamLemmas.{AppendsPrefix-longer}
+use Rattle.sva_streams.proofs.StreamLemmas.{AppendsPrefix-longer}
 
 -- ---- What was judged
 

@@ -6,12 +6,14 @@ use Rattle.sva_grammar.specs.declared.faults.LineFault.{LineFault}
 use Rattle.sva_grammar.specs.Faults.{line_fault_text}
 use Rattle.sva_grammar.specs.Grammar.{Script, scenario_of}
 pub use Rattle.sva_storm.specs.Storms.{HasFoundFrames}
-use Rattle.sva_reports.specs.declared.streams.DriveFault.{DriveFault}
-use Rattle.sva_reports.specs.declared.streams.DriveFault.TheVariants.{Write}
-use Rattle.sva_reports.specs.declared.streams.Outcome.{Outcome}
-use Rattle.sva_reports.specs.declared.streams.Outcome.TheVariants.{Done, Faulted}
-use Rattle.sva_reports.specs.Report.{HandedOut, audit_bad_text, audit_ok_text, ended, is_fit}
-use Rattle.sva_reports.specs.Streams.{AppendsPrefix, Writes}
+use Rattle.sva_streams.specs.declared.streams.DriveFault.{DriveFault}
+use Rattle.sva_streams.specs.declared.streams.DriveFault.TheVariants.{Write}
+use Rattle.sva_streams.specs.declared.streams.Outcome.{Outcome}
+use Rattle.sva_streams.specs.declared.streams.Outcome.TheVariants.{Done, Faulted}
+use Rattle.sva_reports.specs.Report.{HandedOut, audit_bad_text, audit_ok_text}
+use Rattle.sva_grammar.specs.Configs.{is_fit}
+use Rattle.sva_grammar.specs.Replies.{ended}
+use Rattle.sva_streams.specs.Streams.{AppendsPrefix, Writes}
 
 -- ---- The scenario
 

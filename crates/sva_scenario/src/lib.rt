@@ -6,8 +6,6 @@ mod storming;
 
 pub use storming::{read_scenario, report_audit};
 pub use sva_grammar::{Cause, LineFault, ParseFault, Scenario, parse};
-pub use sva_reports::{
-    DriveFault, MOST_KEPT, MOST_TURNS, Outcome, Told, check, check_text, drive, laws, read_all,
-    report_text, write_all,
-};
+pub use sva_reports::{check, check_text, drive, laws, report_text};
+pub use sva_streams::{DriveFault, MOST_KEPT, MOST_TURNS, Outcome, Told, read_all, write_all};
 pub use sva_storm::{Device, Ended, Pager, StormFault, endpoint_loop, fault_loop, storm};

@@ -4,18 +4,16 @@
 ghost use Rattle.std.specs.Prelude.{◌≡◌, ◌⊎◌, ◌<◌, ◌≤◌, IfOk, IfSome, OnOk};
 ghost use Rattle.std.specs.Io.KnownBytes.{IsAtEnd};
 ghost use Rattle.sva_step.specs.Limits.{Fits};
-ghost use Rattle.sva_reports.specs.declared.reading.TheConstants.{MOST_TURNS};
-ghost use Rattle.sva_reports.specs.Report.{is_fit};
+ghost use Rattle.sva_streams.specs.declared.reading.TheConstants.{MOST_TURNS};
+ghost use Rattle.sva_grammar.specs.Configs.{is_fit};
 ghost use Rattle.sva_scenario.specs.Storms.{JudgedBy, JudgedOf, audit_outcome, audit_text};
-ghost use Rattle.sva_reports.specs.Streams.{IsNew, Tells, Writes};
+ghost use Rattle.sva_streams.specs.Streams.{IsNew, Tells, Writes};
 
 use std::alloc::Global;
 use std::io::{Read, Write};
 use sva_grammar::Scenario;
-use sva_reports::{
-    DriveFault, Outcome, Told, read_all, scenario_or_fault, write_audit, write_bad_audit,
-    write_reply,
-};
+use sva_reports::{scenario_or_fault, write_audit, write_bad_audit, write_reply};
+use sva_streams::{DriveFault, Outcome, Told, read_all};
 use sva_step::Refusal;
 
 /// Reads a scenario to its end, and hands it out to be played. A line fault, or a config out of its limits, is written as in a report, and

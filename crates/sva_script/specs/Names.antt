@@ -1,5 +1,5 @@
 -- Names, and the numbers that they stand for.
-use Rattle.std.specs.Prelude.{ℕ, zero, suc, ◌+◌, ◌-◌, ◌==◌, ◌&&◌, ◌||◌, not, Bool, false, if◌then◌else◌, List, [], ◌∷◌, length, map, take, drop, position}
+use Rattle.std.specs.Prelude.{ℕ, zero, suc, ◌+◌, ◌-◌, ◌==◌, ◌&&◌, ◌||◌, not, Bool, false, if◌then◌else◌, List, [], ◌∷◌, ◌++◌, length, map, take, drop, position}
 use Rattle.std.specs.Prelude.{Option, Some, None, Result, Ok, Err, slice_get, nat_le, nat_lt, is_err}
 use Rattle.std.specs.Char.{is_ascii_lowercase, is_ascii_alphanumeric}
 use Rattle.std.specs.List.{list_all}
@@ -24,6 +24,11 @@ Known = List (List ℕ × Given)
 -- the line of a name
 abbrev pub given_of : List ℕ → Known → Option Given
 given_of name known = lookup (bytes_eq name) known
+
+-- the names behind a line
+abbrev pub with_name : Known → Option (List ℕ) → Given → Known
+with_name known None given = known
+with_name known (Some name) given = known ++ (name, given) ∷ []
 
 -- does the word begin as names do: with a small letter?
 abbrev pub begins_name : List ℕ → Bool

@@ -7,18 +7,19 @@ use Rattle.sva_step.specs.declared.steps.Step.{Step}
 use Rattle.sva_model.specs.Wire.{Wire}
 use Rattle.sva_labels.specs.Host.{next_of, replies_of, reply_of, run_of}
 use Rattle.sva_grammar.specs.Grammar.{◌>>=◌, at_line, is_skipped, is_too_large, lines_of, said_lines, steps_of}
-use Rattle.sva_reports.specs.Report.{ended, reply_text}
+use Rattle.sva_grammar.specs.Replies.{ended, reply_text}
 use Rattle.sva_script.specs.declared.faults.Wrong.{Wrong}
 use Rattle.sva_script.specs.Lines.{parts_of, script_words}
 use Rattle.sva_script.specs.Names.{Known}
-use Rattle.sva_script_runs.specs.Lines.{LineRead, Plain, is_end, line_read}
-use Rattle.sva_script_runs.specs.Messages.{link_of}
+use Rattle.sva_script_reading.specs.Lines.{LineRead, Plain, is_end, line_read}
+use Rattle.sva_script_reading.specs.Messages.{link_of}
 use Rattle.sva_script_runs.specs.Runs.{Running, behind, read_at}
 use Rattle.sva_script_reports.specs.Lines.{behind_line}
 use Rattle.sva_script_reading.specs.Faults.{Fault}
 use Rattle.sva_script_reading.specs.Said.{Said, bad, well}
 use Rattle.sva_script_reports.specs.Scripts as scripts
-use Rattle.sva_script_reading.specs.Begins.{Line, counts_at, faults_at, faults_from, noted}
+use Rattle.sva_script_reading.specs.Begins.{Line, faults_at, faults_from, noted}
+use Rattle.sva_reports.specs.Counts.{counts_at}
 use Rattle.sva_script_reports.specs.Scripts.{At, comment_of, if_small, plain_from, plain_line, step_line, test_from, test_line, test_read}
 use Rattle.sva_script_traces.specs.declared.rows.Style.{Style}
 use Rattle.sva_script_traces.specs.Traces.{NoEnd, Tracing, row_of, trace_from, trace_line, trace_more, trace_read, trace_step}

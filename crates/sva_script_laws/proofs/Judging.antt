@@ -6,7 +6,7 @@ use Rattle.std.specs.Option.{option_map_or}
 use Rattle.std.proofs.lemmas.Bool.{and_parts}
 use Rattle.sva_grammar.specs.Grammar.{words_of}
 use Rattle.sva_script.specs.Expect.{are_as_expected}
-use Rattle.sva_script_runs.specs.Lines.{Plain}
+use Rattle.sva_script_reading.specs.Lines.{Plain}
 use Rattle.sva_script_reading.specs.Said.{Said, bad, well}
 use Rattle.sva_script_reading.specs.Begins.{Line}
 use Rattle.sva_model.specs.Wire.{Wire}

@@ -15,10 +15,12 @@ use Rattle.sva_grammar.specs.declared.faults.Cause.TheVariants.{TooLarge}
 use Rattle.sva_grammar.specs.declared.faults.LineFault.{LineFault}
 use Rattle.sva_grammar.specs.Grammar.{◌>>=◌, Script, at_line, config_of, config_read, fault, is_skipped, is_too_large, lines_of, said_lines, scenario_of}
 use Rattle.sva_grammar.specs.Grammar.{script_of, step_of, steps_of, words_of}
-use Rattle.sva_reports.specs.Report.{ended, is_fit, report_by, report_of, script_report, steps_report}
+use Rattle.sva_reports.specs.Report.{report_by, report_of, script_report, steps_report}
+use Rattle.sva_grammar.specs.Configs.{is_fit}
+use Rattle.sva_grammar.specs.Replies.{ended}
 use Rattle.sva_script.specs.Lines.{parts_of}
 use Rattle.sva_script.specs.Names.{Known}
-use Rattle.sva_script_runs.specs.Messages.{link_of}
+use Rattle.sva_script_reading.specs.Messages.{link_of}
 use Rattle.sva_script_runs.specs.Runs.{Running, behind}
 use Rattle.sva_script_reading.specs.Faults.{Fault}
 use Rattle.sva_script_reading.specs.Said.{Said, bad, well}

@@ -18,8 +18,8 @@ use Rattle.sva_script.specs.Pieces.{joined, spaced}
 use Rattle.sva_script.specs.Places.{places_of, places_of_endpoint, places_of_host}
 use Rattle.sva_script.specs.Resolve.{plain_rest}
 use Rattle.sva_words.specs.Reserved.{is_kind}
-use Rattle.sva_script_runs.specs.Lines.{LineRead, Plain, are_end, is_by_link, line_read, message_by_link, number_text, plain_by, plain_of, plain_read, resolved}
-use Rattle.sva_script_runs.specs.Messages.{Link}
+use Rattle.sva_script_reading.specs.Lines.{LineRead, Plain, are_end, is_by_link, line_read, message_by_link, number_text, plain_by, plain_of, plain_read, resolved}
+use Rattle.sva_script_reading.specs.Messages.{Link}
 use Rattle.sva_script_reading.specs.Begins.{joined_words}
 use Rattle.sva_script_traces.specs.Traces.{NoEnd}
 use Rattle.sva_script_laws.proofs.ConfigWords.{config_sound}

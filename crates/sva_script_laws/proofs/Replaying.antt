@@ -16,10 +16,13 @@ use Rattle.sva_address_spaces.specs.Steps.{is_mapped_place, is_withheld_place}
 use Rattle.sva_core.proofs.FrameCounts.{free-counted, mapped-counted, withheld-counted}
 use Rattle.sva_grammar.specs.declared.faults.Cause.TheVariants.{TooLarge}
 use Rattle.sva_grammar.specs.Grammar.{fault, lines_of, said_lines, scenario_of, script_of}
-use Rattle.sva_reports.specs.Report.{counts_text, ended, is_fit, reply_text, report_by, report_of, script_report, steps_report}
+use Rattle.sva_reports.specs.Report.{counts_text, report_by, report_of, script_report, steps_report}
+use Rattle.sva_grammar.specs.Configs.{is_fit}
+use Rattle.sva_grammar.specs.Replies.{ended, reply_text}
 use Rattle.sva_reports.proofs.ScriptLemmas.{configs_are_tested, fit_report}
 use Rattle.sva_script_reading.specs.Said.{Said, bad, well}
-use Rattle.sva_script_reading.specs.Begins.{Line, config_alone, config_in, counts_at, first_config, lines_from, said_by, too_large}
+use Rattle.sva_script_reading.specs.Begins.{Line, config_alone, config_in, first_config, lines_from, said_by, too_large}
+use Rattle.sva_reports.specs.Counts.{counts_at}
 use Rattle.sva_script_reports.specs.Scripts.{or_wrong, start, test_from, test_of, tested, verdict_text}
 use Rattle.sva_script_laws.specs.Replays.{ScriptsReplay, answers_from}
 use Rattle.sva_script_laws.specs.Traces.{TracesAnswer, said_texts}

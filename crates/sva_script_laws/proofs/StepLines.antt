@@ -9,8 +9,8 @@ use Rattle.sva_script.specs.declared.faults.Wrong.{Wrong}
 use Rattle.sva_script.specs.Expect.{expected_of}
 use Rattle.sva_script.specs.Lines.{Parts, expected_begins, parts_of, step_begins}
 use Rattle.sva_script.specs.Names.{Known}
-use Rattle.sva_script_runs.specs.Lines.{LineRead, Plain, expected_in, is_end, line_read, named, plain_of, plain_read, resolved, step_in}
-use Rattle.sva_script_runs.specs.Messages.{Link, link_of}
+use Rattle.sva_script_reading.specs.Lines.{LineRead, Plain, expected_in, is_end, line_read, named, plain_of, plain_read, resolved, step_in}
+use Rattle.sva_script_reading.specs.Messages.{Link, link_of}
 use Rattle.sva_script_reading.specs.Faults.{Fault}
 use Rattle.sva_script_reading.specs.Begins.{Line, config_by, config_with, faults_from, faults_read, noted}
 use Rattle.sva_script_reports.proofs.StepLemmas.{expected_part}

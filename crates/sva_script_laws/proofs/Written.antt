@@ -9,7 +9,7 @@ use Rattle.sva_step.specs.declared.steps.Step.{Step}
 use Rattle.sva_step.specs.declared.limits.Config.{Config}
 use Rattle.sva_grammar.specs.declared.faults.Cause.TheVariants.{BadWord}
 use Rattle.sva_grammar.specs.Grammar.{config_of, config_read, endpoint_step, host_step, is_skipped, lines_of, said_lines, single, step_of, step_read, words_of}
-use Rattle.sva_reports.specs.Report.{ended}
+use Rattle.sva_grammar.specs.Replies.{ended}
 use Rattle.sva_script.specs.Lines.{said, script_words}
 use Rattle.sva_script_reports.specs.Scripts.{comment_of}
 use Rattle.sva_script_traces.specs.Traces.{NoEnd}

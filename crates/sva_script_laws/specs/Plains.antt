@@ -2,7 +2,8 @@
 use Rattle.std.specs.Prelude.{◌≡◌, true, false, if◌then◌else◌, List, ℕ, [], ◌∷◌, ◌++◌, Ok}
 use Rattle.sva_grammar.specs.Grammar.{Script, scenario_of}
 use Rattle.sva_grammar.specs.Laws.{is_ended}
-use Rattle.sva_reports.specs.Report.{is_fit, report_of}
+use Rattle.sva_reports.specs.Report.{report_of}
+use Rattle.sva_grammar.specs.Configs.{is_fit}
 use Rattle.sva_script_reading.specs.Said.{bad, well}
 use Rattle.sva_script_reports.specs.Scripts.{if_small, plain_of}
 

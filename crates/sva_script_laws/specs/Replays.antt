@@ -2,14 +2,15 @@
 use Rattle.std.specs.Prelude.{◌≡◌, ℕ, if◌then◌else◌, List, [], ◌∷◌, ◌++◌, Option, Some, None, Result, Ok, Err}
 use Rattle.sva_labels.specs.Host.{reply_of}
 use Rattle.sva_model.specs.Wire.{Wire}
-use Rattle.sva_reports.specs.Report.{ended, reply_text, report_of}
+use Rattle.sva_reports.specs.Report.{report_of}
+use Rattle.sva_grammar.specs.Replies.{ended, reply_text}
 use Rattle.sva_script.specs.declared.faults.Wrong.{Wrong}
 use Rattle.sva_script.specs.Lines.{parts_of, script_words}
-use Rattle.sva_script_runs.specs.Lines.{LineRead, Plain}
+use Rattle.sva_script_reading.specs.Lines.{LineRead, Plain}
 use Rattle.sva_script_runs.specs.Runs.{Running, read_at}
 use Rattle.sva_script_reading.specs.Said.{well}
 use Rattle.sva_script_reading.specs.Begins.{Line, begin_of, lines_from, said_by}
-use Rattle.sva_script_reading.specs.Begins.{counts_at}
+use Rattle.sva_reports.specs.Counts.{counts_at}
 use Rattle.sva_script_reports.specs.Scripts.{At, past_config, past_line, plain_of, start}
 
 -- what a line's step is answered, a line; `end => ..` has no step

@@ -10,7 +10,7 @@ use Rattle.sva_reports.specs.Report.{report_of}
 use Rattle.sva_script.specs.declared.faults.Wrong.{Wrong}
 use Rattle.sva_script.specs.Expect.{are_as_expected}
 use Rattle.sva_script.specs.Lines.{parts_of, script_words}
-use Rattle.sva_script_runs.specs.Lines.{LineRead, Plain}
+use Rattle.sva_script_reading.specs.Lines.{LineRead, Plain}
 use Rattle.sva_script_runs.specs.Runs.{Running, read_at}
 use Rattle.sva_script_reading.specs.Said.{Said, bad, well}
 use Rattle.sva_script_reading.specs.Begins.{Line, begin_of, lines_from}

@@ -2,9 +2,10 @@
 use Rattle.std.specs.Prelude.{◌≡◌, ℕ, if◌then◌else◌, List, [], ◌∷◌, ◌++◌, codes, decimal, filter, flat_map, map, not}
 use Rattle.std.specs.Prelude.{Bool, false, Option, Some, None}
 use Rattle.sva_grammar.specs.Grammar.{lines_of, said_lines}
-use Rattle.sva_reports.specs.Report.{ended, report_of}
+use Rattle.sva_reports.specs.Report.{report_of}
+use Rattle.sva_grammar.specs.Replies.{ended}
 use Rattle.sva_script.specs.Lines.{parts_of, script_words}
-use Rattle.sva_script_runs.specs.Lines.{is_end}
+use Rattle.sva_script_reading.specs.Lines.{is_end}
 use Rattle.sva_script_reading.specs.Begins.{Line, lines_from}
 use Rattle.sva_script_reading.specs.Said.{well}
 use Rattle.sva_script_reports.specs.Scripts.{plain_of}

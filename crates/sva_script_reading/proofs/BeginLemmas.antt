@@ -8,7 +8,7 @@ use Rattle.std.specs.declared.alloc.AllocError.{AllocError}
 use Rattle.sva_step.specs.declared.limits.Config.{Config}
 use Rattle.std.specs.List.{enumerate_from}
 use Rattle.sva_grammar.specs.Grammar.{config_read, is_too_large, lines_of}
-use Rattle.sva_reports.specs.Report.{ended}
+use Rattle.sva_grammar.specs.Replies.{ended}
 use Rattle.sva_script.specs.declared.faults.Wanted.TheVariants as wanted
 use Rattle.sva_script.specs.Lines.{script_words}
 use Rattle.sva_script.specs.Names.{Known}

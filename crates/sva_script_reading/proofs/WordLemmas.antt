@@ -5,8 +5,8 @@ use Rattle.sva_script.specs.declared.faults.Stop.TheVariants as stop
 use Rattle.sva_script.specs.declared.faults.Wrong.{Wrong}
 use Rattle.sva_script.specs.Lines.{parts_of}
 use Rattle.sva_script.specs.Names.{Known}
-use Rattle.sva_script_runs.specs.Lines.{LineRead, Reads, line_read}
-use Rattle.sva_script_runs.specs.Messages.{link_of}
+use Rattle.sva_script_reading.specs.Lines.{LineRead, Reads, line_read}
+use Rattle.sva_script_reading.specs.Messages.{link_of}
 use Rattle.sva_script_reading.specs.Begins.{fault_of, faults_read, noted}
 use Rattle.sva_script_reading.specs.Faults.{Fault, fault_text}
 use Rattle.sva_script_reading.specs.Reading.{ReadsWords}

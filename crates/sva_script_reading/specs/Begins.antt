@@ -1,5 +1,5 @@
 -- A script before it is run: its lines, its config, and all that is wrong with them.
-use Rattle.std.specs.Prelude.{count_by, ℕ, ◌+◌, nat_lt, Bool, true, false, if◌then◌else◌, List, [], ◌∷◌, ◌++◌, codes}
+use Rattle.std.specs.Prelude.{ℕ, ◌+◌, nat_lt, Bool, true, false, if◌then◌else◌, List, [], ◌∷◌, ◌++◌, codes}
 use Rattle.std.specs.Prelude.{flat_map, length}
 use Rattle.std.specs.Prelude.{is_err, is_none, position, Option, None, Result, Ok, Err}
 use Rattle.std.specs.List.{enumerate_from}
@@ -8,12 +8,10 @@ use Rattle.std.specs.Str.{bytes_eq}
 use Rattle.sva_step.specs.declared.limits.Config.{Config}
 use Rattle.sva_step.specs.declared.refusals.Refusal.TheVariants.{BadConfig}
 use Rattle.sva_step.specs.Refusals.{refusal_text}
-use Rattle.sva_labels.specs.Finding.{is_free}
-use Rattle.sva_model.specs.Wire.{Wire}
-use Rattle.sva_address_spaces.specs.Steps.{is_mapped_place, is_withheld_place}
 use Rattle.sva_grammar.specs.declared.faults.Cause.{Cause}
 use Rattle.sva_grammar.specs.Grammar.{config_read, is_too_large, lines_of, number}
-use Rattle.sva_reports.specs.Report.{counts_text, ended, is_fit}
+use Rattle.sva_grammar.specs.Configs.{is_fit}
+use Rattle.sva_grammar.specs.Replies.{ended}
 use Rattle.sva_script.specs.declared.faults.Wanted.{Wanted}
 use Rattle.sva_script.specs.declared.faults.Wanted.TheVariants as wanted
 use Rattle.sva_script.specs.declared.faults.Wrong.{Wrong}
@@ -22,9 +20,9 @@ use Rattle.sva_script.specs.Lines.{parts_of, script_words}
 use Rattle.sva_script.specs.Names.{Known}
 use Rattle.sva_script_reading.specs.Faults.{Fault}
 use Rattle.sva_script_reading.specs.Said.{Said, bad, faulty}
-use Rattle.sva_script_runs.specs.Lines.{LineRead, line_read, named}
-use Rattle.sva_script_runs.specs.Messages.{link_of}
-use Rattle.sva_script_runs.specs.Runs.{with_name}
+use Rattle.sva_script_reading.specs.Lines.{LineRead, line_read, named}
+use Rattle.sva_script_reading.specs.Messages.{link_of}
+use Rattle.sva_script.specs.Names.{with_name}
 
 -- a line: its number, and its text
 abbrev pub Line : Type 0
@@ -135,13 +133,3 @@ begin_of text = if is_too_large text then Err too_large else begun (config_in 0 
 abbrev pub said_by : (run : Config → Said) → Result Config Said → Said
 said_by run (Ok config) = if is_fit config then run config else bad (ended (refusal_text BadConfig))
 said_by run (Err said) = said
-
--- ---- What is kept
-
--- the counts of what is kept
-abbrev pub counts_at : Wire → List ℕ
-counts_at wire = counts_text (record {
-  free = count_by is_free wire.places;
-  mapped = count_by is_mapped_place wire.places;
-  withheld = count_by is_withheld_place wire.places;
-})

@@ -1,7 +1,7 @@
 -- The text of a line that is wrong: `line L: 'WORD': wanted ..`, or `line L: end of line: wanted ..`, with a hint where there is one.
 use Rattle.std.specs.Prelude.{ℕ, ◌&&◌, ◌/◌, ◌%◌, ◌+◌, ◌-◌, nat_lt, if◌then◌else◌, Bool, true, false, List, [], ◌∷◌, ◌++◌, codes, decimal}
 use Rattle.std.specs.Prelude.{flat_map, length, slice_get, take, Option, Some, None}
-use Rattle.sva_reports.specs.Report.{reply_text}
+use Rattle.sva_grammar.specs.Replies.{reply_text}
 use Rattle.sva_script.specs.declared.faults.Wanted.{Wanted}
 use Rattle.sva_script.specs.declared.faults.Wanted.TheVariants as wanted
 use Rattle.sva_script.specs.declared.faults.Wrong.{Wrong}

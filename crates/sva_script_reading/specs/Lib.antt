@@ -1,3 +1,5 @@
+pub mod Messages
+pub mod Lines
 pub mod Faults
 pub mod Said
 pub mod Begins

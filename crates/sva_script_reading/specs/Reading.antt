@@ -1,14 +1,14 @@
 -- What the calls that read a script before it is run make of it.
 use Rattle.std.specs.Prelude.{◌≡◌, ℕ, Bool, List, [], ◌++◌, Option, Some, None, Result, Ok, Err}
 use Rattle.sva_step.specs.declared.limits.Config.{Config}
-use Rattle.sva_reports.specs.declared.streams.Outcome.TheVariants.{Faulted}
+use Rattle.sva_streams.specs.declared.streams.Outcome.TheVariants.{Faulted}
 use Rattle.sva_script.specs.Lines.{parts_of}
 use Rattle.sva_script.specs.Names.{Known}
 use Rattle.sva_script_reading.specs.Faults.{Fault, fault_text}
 use Rattle.sva_script_reading.specs.Said.{Said, faults_text}
 use Rattle.sva_script_reading.specs.Begins.{Line, faults_at, faults_read}
-use Rattle.sva_script_runs.specs.Lines.{line_read}
-use Rattle.sva_script_runs.specs.Messages.{link_of}
+use Rattle.sva_script_reading.specs.Lines.{line_read}
+use Rattle.sva_script_reading.specs.Messages.{link_of}
 
 -- the config is given and nothing written, or what is said instead
 abbrev pub BeginsWith : Result Config Said → Option Config → (out : List ℕ) → Type 0

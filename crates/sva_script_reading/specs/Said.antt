@@ -1,10 +1,10 @@
 -- What a command says of a script: a text, and how it ends.
 use Rattle.std.specs.Prelude.{IfOk, Option, ◌≡◌, ℕ, List, flat_map, Result, Ok, Err}
 use Rattle.std.specs.declared.alloc.AllocError.{AllocError}
-use Rattle.sva_reports.specs.declared.streams.DriveFault.{DriveFault}
-use Rattle.sva_reports.specs.declared.streams.Outcome.{Outcome}
-use Rattle.sva_reports.specs.declared.streams.Outcome.TheVariants.{Done, Faulted}
-use Rattle.sva_reports.specs.Streams.{Writes}
+use Rattle.sva_streams.specs.declared.streams.DriveFault.{DriveFault}
+use Rattle.sva_streams.specs.declared.streams.Outcome.{Outcome}
+use Rattle.sva_streams.specs.declared.streams.Outcome.TheVariants.{Done, Faulted}
+use Rattle.sva_streams.specs.Streams.{Writes}
 use Rattle.sva_script_reading.specs.Faults.{Fault, fault_text}
 
 pub record Said : Type 0 where

@@ -4,32 +4,31 @@ ghost use Rattle.std.specs.Prelude.{◌≡◌, ◌+◌, ◌++◌, ◌∷◌, ◌
 ghost use Rattle.sva_grammar.specs.Grammar.{config_read, number};
 ghost use Rattle.sva_script.specs.Lines.{parts_of};
 ghost use Rattle.sva_script.specs.Names.{given_of};
-ghost use Rattle.sva_script_runs.specs.Runs.{none_taken, with_name};
+ghost use Rattle.sva_script.specs.Names.{with_name};
 ghost use Rattle.sva_script_reading.specs.Said.{faults_text};
 ghost use Rattle.sva_script_reading.specs.Reading.{BeginsWith, HasConfig, ReadsConfig, ReadsLine, ReadsWords};
 ghost use Rattle.sva_script_reading.specs.Begins.{begin_of, config_by, config_in, config_wrong, faults_from};
 ghost use Rattle.sva_script_reading.specs.Begins.{first_config, good_counts, joined_words, lines_from, noted};
 
 use crate::faults::put_wrong;
+use crate::in_flight::NothingInFlight;
 use crate::lines::{Lines, is_too_large};
+use crate::single::{judge_name, read_line};
 use std::alloc::{AllocError, Global};
 use sva_grammar::{config, number_in};
 use sva_script::{Field, Given, Names, Stop, Wanted, Wrong, at_word, parts_of, split};
-use sva_script_runs::{Taken, judge_name, read_line};
 use sva_step::Config;
 use sva_words::is;
 
 /// Said of a script that is too large.
 const TOO_LARGE: &[u8] = b"line 0: the script has more than 1048576 bytes or 65536 lines\n";
 
-/// What a line is read with: its words, its line of a scenario, what it expects, and what came of its step. They are
-/// those of the line before.
+/// What a line is read with: its words, its line of a scenario, and what it expects. They are those of the line before.
 #[derive(Drop)]
 pub struct Desk<'a> {
     pub words: Vec<&'a [u8]>,
     pub plain: Vec<u8>,
     pub expected: Vec<u8>,
-    pub taken: Taken,
 }
 
 impl<'a> Desk<'a> {
@@ -38,13 +37,11 @@ impl<'a> Desk<'a> {
         ensures words { result.words.items ≡ [] }
         ensures plain { result.plain.items ≡ [] }
         ensures expected { result.expected.items ≡ [] }
-        ensures taken { result.taken ≡ none_taken }
     {
         Desk {
             words: Vec::new(alloc),
             plain: Vec::new(alloc),
             expected: Vec::new(alloc),
-            taken: Taken::new(),
         }
     }
 }
@@ -280,7 +277,13 @@ fn tell_words(
     ensures same { IfOk result (λ _. desk.new.words ≡ desk.old.words) }
 {
     let words = desk.words.as_slice();
-    match read_line(names, None, words, &mut desk.plain, &mut desk.expected) {
+    match read_line(
+        names,
+        &NothingInFlight,
+        words,
+        &mut desk.plain,
+        &mut desk.expected,
+    ) {
         Ok(step) => Ok(step.is_none()),
         Err(Stop::Wrong(wrong)) => {
             put_wrong(faults, &wrong, number, words, names)?;

@@ -3,11 +3,10 @@
 ghost use Rattle.std.specs.Prelude.{◌≡◌, ◌++◌, OnOk, decimal};
 ghost use Rattle.sva_step.specs.declared.refusals.Refusal.TheVariants as refusal;
 ghost use Rattle.sva_step.specs.Refusals.{refusal_text};
-ghost use Rattle.sva_reports.specs.Report.{counts_text, ended, reply_text};
+ghost use Rattle.sva_grammar.specs.Replies.{ended, reply_text};
 
 use itoa::Buffer;
 use std::alloc::AllocError;
-use sva_frames::Counts;
 use sva_step::{Answer, Refusal};
 
 /// Appends a decimal number.
@@ -33,17 +32,4 @@ pub fn put_bad_config(out: &mut Vec<u8>) -> Result<(), AllocError>
 {
     Refusal::BadConfig.write(out)?;
     out.extend_from_slice(b"\n")
-}
-
-/// Appends `free X mapped Y withheld Z`.
-pub fn put_counts(out: &mut Vec<u8>, counts: &Counts) -> Result<(), AllocError>
-    ensures { OnOk result (out.new.items ≡ out.old.items
-        ++ counts_text (record { free = counts.now.free; mapped = counts.now.mapped; withheld = counts.now.withheld })) }
-{
-    out.extend_from_slice(b"free ")?;
-    put_number(out, u64::from(counts.free))?;
-    out.extend_from_slice(b" mapped ")?;
-    put_number(out, u64::from(counts.mapped))?;
-    out.extend_from_slice(b" withheld ")?;
-    put_number(out, u64::from(counts.withheld))
 }

@@ -5,9 +5,9 @@ use Rattle.std.proofs.lemmas.Bool.{lt-ltb, ltb-false}
 use Rattle.std.proofs.lemmas.List.{length-take, take_all}
 use Rattle.sva_step.specs.declared.limits.Config.{Config}
 use Rattle.sva_grammar.specs.Grammar.{lines_of}
-use Rattle.sva_reports.specs.declared.streams.DriveFault.{DriveFault}
-use Rattle.sva_reports.specs.declared.streams.Outcome.{Outcome}
-use Rattle.sva_reports.specs.Report.{ended}
+use Rattle.sva_streams.specs.declared.streams.DriveFault.{DriveFault}
+use Rattle.sva_streams.specs.declared.streams.Outcome.{Outcome}
+use Rattle.sva_grammar.specs.Replies.{ended}
 use Rattle.sva_script_reports.specs.declared.printing.Saying.{Saying}
 use Rattle.sva_script_reports.specs.declared.printing.Saying.TheVariants.{Plain, Show, Test, Why}
 use Rattle.sva_script_reading.specs.Said.{Prints}

@@ -5,9 +5,9 @@ use Rattle.sva_step.specs.declared.limits.Config.{Config}
 use Rattle.sva_step.specs.declared.refusals.Refusal.TheVariants.{BadConfig}
 use Rattle.sva_step.specs.Refusals.{refusal_text}
 use Rattle.sva_model.specs.Claims.{Fits}
-use Rattle.sva_reports.specs.declared.streams.Outcome.TheVariants.{Faulted}
-use Rattle.sva_reports.proofs.ScriptLemmas.{unfit_from}
-use Rattle.sva_reports.specs.Report.{ended}
+use Rattle.sva_streams.specs.declared.streams.Outcome.TheVariants.{Faulted}
+use Rattle.sva_grammar.proofs.ConfigLemmas.{unfit_from}
+use Rattle.sva_grammar.specs.Replies.{ended}
 use Rattle.sva_script_reading.specs.Said.{IsSaid, Said, bad}
 use Rattle.sva_script_reports.specs.Lines.{WordsPlain}
 use Rattle.sva_script_reading.specs.Begins.{Line, said_by}

@@ -2,13 +2,13 @@
 use Rattle.std.proofs.Common.{◌≡◌, ◌∙◌, ap, refl, subst, sym, ℕ, Bool, true, false, List, [], ◌∷◌, ◌++◌, Option}
 use Rattle.std.specs.Prelude.{Result, Ok, Err}
 use Rattle.sva_listing.specs.Listing.{listing_of}
-use Rattle.sva_reports.specs.declared.streams.Outcome.TheVariants.{Faulted}
+use Rattle.sva_streams.specs.declared.streams.Outcome.TheVariants.{Faulted}
 use Rattle.sva_script.specs.declared.faults.Stop.TheVariants as stop
 use Rattle.sva_script.specs.declared.faults.Wrong.{Wrong}
 use Rattle.sva_script.specs.Lines.{parts_of, script_words}
 use Rattle.sva_script.specs.Names.{Known}
 use Rattle.sva_script_runs.specs.declared.running.Taken.{Taken}
-use Rattle.sva_script_runs.specs.Lines.{LineRead}
+use Rattle.sva_script_reading.specs.Lines.{LineRead}
 use Rattle.sva_script_runs.specs.Runs.{Running, Takes, TakesRead, read_at}
 use Rattle.sva_script_reading.specs.Faults.{fault_text}
 use Rattle.sva_script_reports.specs.Lines.{behind_line}

@@ -4,7 +4,8 @@ use Rattle.std.proofs.Common.{if◌then◌else◌, Option, Some, None}
 use Rattle.std.specs.Prelude.{Bool, true, OnOk, Result, Ok, Err, codes, cond, drop, is_none}
 use Rattle.sva_model.specs.Wire.{Wire}
 use Rattle.sva_grammar.specs.Grammar.{◌>>=◌}
-use Rattle.sva_reports.specs.Report.{counts_text, ended, reply_text}
+use Rattle.sva_reports.specs.Report.{counts_text}
+use Rattle.sva_grammar.specs.Replies.{ended, reply_text}
 use Rattle.sva_script.specs.declared.faults.Stop.{Stop}
 use Rattle.sva_script.specs.declared.faults.Stop.TheVariants as stop
 use Rattle.sva_script.specs.declared.faults.Wrong.{Wrong}
@@ -13,8 +14,8 @@ use Rattle.sva_script.specs.Expect.{expected_of}
 use Rattle.sva_script.specs.Lines.{Parts, expected_begins, parts_of}
 use Rattle.sva_script.specs.Names.{Known}
 use Rattle.sva_script_runs.specs.declared.running.Taken.{Taken}
-use Rattle.sva_script_runs.specs.Lines.{LineRead, Plain, expected_in, expected_text, line_read, named, plain_text, step_in}
-use Rattle.sva_script_runs.specs.Messages.{Link, link_of}
+use Rattle.sva_script_reading.specs.Lines.{LineRead, Plain, expected_in, expected_text, line_read, named, plain_text, step_in}
+use Rattle.sva_script_reading.specs.Messages.{Link, link_of}
 use Rattle.sva_script_runs.specs.Runs.{Running, Takes, TakesRead, TellsStep, behind, read_at}
 use Rattle.std.specs.declared.alloc.AllocError.{AllocError}
 use Rattle.sva_frames.specs.declared.pool.Counts.{Counts as FrameCounts}
@@ -22,7 +23,7 @@ use Rattle.sva_address_spaces.specs.Steps.{Counted}
 use Rattle.sva_script_reading.specs.Faults.{fault_text}
 use Rattle.sva_script_reading.specs.Said.{Said, bad, faults_text, faulty}
 use Rattle.sva_script_reading.specs.Begins.{fault_of}
-use Rattle.sva_script_reading.specs.Begins.{counts_at}
+use Rattle.sva_reports.specs.Counts.{counts_at}
 use Rattle.sva_script_reports.specs.Scripts.{At, answer_at, compared, held_at, judged, plain_read, plain_step, step_line, test_read}
 use Rattle.sva_script_reports.specs.Scripts.{is_expected, miss_text, test_made, test_step, told_step}
 use Rattle.sva_script_reports.specs.Lines.{AnswersLine, Compares, StepsPlain, behind_line, held_by, stopped}

@@ -1,13 +1,13 @@
 -- What holds the steps of a script back, line by line.
 use Rattle.std.proofs.Common.{◌≡◌, ◌∙◌, ap, refl, subst, sym, ℕ, Bool, true, false, List, [], ◌∷◌, ◌++◌, Option, Some, None}
 use Rattle.std.specs.Prelude.{Result, Ok, Err}
-use Rattle.sva_reports.specs.declared.streams.Outcome.TheVariants.{Faulted}
+use Rattle.sva_streams.specs.declared.streams.Outcome.TheVariants.{Faulted}
 use Rattle.sva_script.specs.declared.faults.Stop.TheVariants as stop
 use Rattle.sva_script.specs.declared.faults.Wrong.{Wrong}
 use Rattle.sva_script.specs.Lines.{parts_of, script_words}
 use Rattle.sva_script.specs.Names.{Known}
 use Rattle.sva_script_runs.specs.declared.running.Taken.{Taken}
-use Rattle.sva_script_runs.specs.Lines.{LineRead, Plain, plain_text}
+use Rattle.sva_script_reading.specs.Lines.{LineRead, Plain, plain_text}
 use Rattle.sva_script_runs.specs.Runs.{Running, Takes, TakesRead, TellsStep, behind, read_at}
 use Rattle.sva_script_reading.specs.Faults.{fault_text}
 use Rattle.sva_script_reading.specs.Begins.{Line, fault_of}

@@ -2,7 +2,7 @@
 use Rattle.std.specs.Prelude.{◌≡◌, ℕ, ◌+◌, Bool, true, false, is_none, not, List, [], ◌∷◌, ◌++◌, Result, Ok, Err}
 use Rattle.std.specs.declared.alloc.AllocError.{AllocError}
 use Rattle.sva_step.specs.declared.limits.Config.{Config}
-use Rattle.sva_reports.specs.declared.streams.Outcome.TheVariants.{Faulted}
+use Rattle.sva_streams.specs.declared.streams.Outcome.TheVariants.{Faulted}
 use Rattle.sva_script.specs.declared.faults.Stop.{Stop}
 use Rattle.sva_script.specs.declared.faults.Stop.TheVariants as stop
 use Rattle.sva_script_reading.specs.Said.{IsSaid, Said, faulty}

@@ -6,16 +6,17 @@ use Rattle.sva_step.specs.declared.limits.Config.{Config}
 use Rattle.sva_labels.specs.Host.{first_wire, next_of, reply_of}
 use Rattle.sva_model.specs.Wire.{Wire}
 use Rattle.sva_grammar.specs.Grammar.{is_too_large, words_of}
-use Rattle.sva_reports.specs.Report.{ended, reply_text}
+use Rattle.sva_grammar.specs.Replies.{ended, reply_text}
 use Rattle.sva_script.specs.declared.faults.Wanted.TheVariants as wanted
 use Rattle.sva_script.specs.declared.faults.Wrong.{Wrong}
 use Rattle.sva_script.specs.Expect.{are_as_expected}
 use Rattle.sva_script.specs.Lines.{Parts, parts_of, script_words}
-use Rattle.sva_reports.specs.declared.streams.Outcome.{Outcome}
-use Rattle.sva_reports.specs.declared.streams.Outcome.TheVariants.{Done, Faulted}
-use Rattle.sva_script_reading.specs.Begins.{Line, at_word, begin_of, counts_at, fault_of, first_config, joined_words, lines_from, said_by}
+use Rattle.sva_streams.specs.declared.streams.Outcome.{Outcome}
+use Rattle.sva_streams.specs.declared.streams.Outcome.TheVariants.{Done, Faulted}
+use Rattle.sva_script_reading.specs.Begins.{Line, at_word, begin_of, fault_of, first_config, joined_words, lines_from, said_by}
+use Rattle.sva_reports.specs.Counts.{counts_at}
 use Rattle.sva_script_reading.specs.Said.{Said, bad, faulty, well}
-use Rattle.sva_script_runs.specs.Lines.{LineRead, Plain}
+use Rattle.sva_script_reading.specs.Lines.{LineRead, Plain}
 use Rattle.sva_script_runs.specs.Runs.{Running, behind, read_at}
 use Rattle.sva_why.specs.Why.{why_of}
 

@@ -5,11 +5,11 @@ use Rattle.sva_step.specs.declared.steps.Step.{Step}
 use Rattle.sva_labels.specs.Host.{next_of, reply_of}
 use Rattle.sva_model.specs.Steps.{Reply}
 use Rattle.sva_model.specs.Wire.{Wire}
-use Rattle.sva_reports.specs.Report.{ended, reply_text}
-use Rattle.sva_reports.specs.declared.streams.Outcome.TheVariants.{Faulted}
+use Rattle.sva_grammar.specs.Replies.{ended, reply_text}
+use Rattle.sva_streams.specs.declared.streams.Outcome.TheVariants.{Faulted}
 use Rattle.sva_script.specs.declared.faults.Wrong.{Wrong}
 use Rattle.sva_script.specs.Lines.{parts_of, script_words}
-use Rattle.sva_script_runs.specs.Lines.{LineRead, Plain}
+use Rattle.sva_script_reading.specs.Lines.{LineRead, Plain}
 use Rattle.sva_script_runs.specs.Runs.{Running, read_at}
 use Rattle.sva_script_reading.specs.Begins.{Line, begin_of, fault_of, lines_from, said_by}
 use Rattle.sva_script_reading.specs.Said.{IsSaid, Said, faulty, well}

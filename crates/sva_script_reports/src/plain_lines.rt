@@ -1,7 +1,7 @@
 //! The plain scenario of a script.
 
 ghost use Rattle.std.specs.Prelude.{◌≡◌, ◌==◌, ◌++◌, ◌<◌, ◌≤◌, [], IfSome, length, not, position, map, true, OnOk, Ok};
-ghost use Rattle.sva_reports.specs.Report.{ended};
+ghost use Rattle.sva_grammar.specs.Replies.{ended};
 ghost use Rattle.sva_script.specs.Lines.{script_words};
 ghost use Rattle.sva_script_reports.specs.Lines.{StepsPlain, WordsPlain};
 ghost use Rattle.sva_script_reading.specs.Said.{IsSaid};
@@ -9,12 +9,12 @@ ghost use Rattle.sva_script_reading.specs.Begins.{lines_from, said_by};
 ghost use Rattle.sva_script_reports.specs.Scripts.{comment_of, if_small, plain_from, plain_of, start};
 
 use std::alloc::{AllocError, Global};
-use sva_reports::Outcome;
+use sva_streams::Outcome;
 use sva_script::{Stop, split};
 use sva_script_reading::{
     Desk, Lines, is_too_large, put_bad_config, put_words, put_wrong, read_script,
 };
-use sva_script_runs::{Came, Run};
+use sva_script_runs::{Came, Run, Taken};
 use sva_step::{Config, Refusal};
 
 /// Said where the scenario of a script is too large for a replay.
@@ -136,13 +136,14 @@ fn plain_line(
     ensures { StepsPlain run.old number (map (λ word. word.now) desk.old.words.items) out.old.items out.new.items run.new result }
 {
     let words = desk.words.as_slice();
+    let mut taken = Taken::new();
     match run.take(
         alloc,
         number,
         words,
         &mut desk.plain,
         &mut desk.expected,
-        &mut desk.taken,
+        &mut taken,
     ) {
         Ok(Came::Step) => {
             put_line(out, desk.plain.as_slice())?;

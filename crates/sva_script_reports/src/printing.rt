@@ -2,8 +2,8 @@
 
 ghost use Rattle.std.specs.Prelude.{◌≡◌, ◌⊎◌, ◌<◌, ◌≤◌, [], IfSome, OnOk};
 ghost use Rattle.std.specs.Io.KnownBytes.{IsAtEnd};
-ghost use Rattle.sva_reports.specs.declared.reading.TheConstants.{MOST_TURNS};
-ghost use Rattle.sva_reports.specs.Streams.{IsNew, Tells};
+ghost use Rattle.sva_streams.specs.declared.reading.TheConstants.{MOST_TURNS};
+ghost use Rattle.sva_streams.specs.Streams.{IsNew, Tells};
 ghost use Rattle.sva_script_reading.specs.Said.{Prints};
 ghost use Rattle.sva_script_reports.specs.Prints.{said_of};
 ghost use Rattle.sva_script_reading.specs.Said.{IsSaid};
@@ -14,7 +14,7 @@ use crate::testing::test;
 use crate::whying::why;
 use std::alloc::{AllocError, Global};
 use std::io::{Read, Write};
-use sva_reports::{DriveFault, Outcome, Told, read_all, write_all};
+use sva_streams::{DriveFault, Outcome, Told, read_all, write_all};
 
 /// What is said of a script.
 #[derive(Clone, Copy, PartialEq, Eq)]

@@ -9,10 +9,10 @@ ghost use Rattle.sva_script_reports.specs.Shows.{StepsShow, WordsShow, show_from
 
 use std::alloc::{AllocError, Global};
 use sva_listing::put_listing;
-use sva_reports::Outcome;
+use sva_streams::Outcome;
 use sva_script::{Stop, split};
 use sva_script_reading::{Desk, Lines, put_bad_config, put_wrong, read_script};
-use sva_script_runs::Run;
+use sva_script_runs::{Run, Taken};
 use sva_snapshot::snapshot;
 use sva_step::{Config, Refusal};
 
@@ -115,13 +115,14 @@ fn show_step(
     ensures { StepsShow run.old number (map (λ word. word.now) desk.old.words.items) out.old.items out.new.items run.new result }
 {
     let words = desk.words.as_slice();
+    let mut taken = Taken::new();
     match run.take(
         alloc,
         number,
         words,
         &mut desk.plain,
         &mut desk.expected,
-        &mut desk.taken,
+        &mut taken,
     ) {
         Ok(_) => Ok(true),
         Err(Stop::Wrong(wrong)) => {

@@ -4,12 +4,12 @@ ghost use Rattle.std.specs.Prelude.{◌≡◌, ◌++◌, ◌≤◌, [], length, 
 ghost use Rattle.sva_script_reading.specs.Begins.{lines_from, said_by};
 ghost use Rattle.sva_script_reading.specs.Said.{IsSaid, well};
 ghost use Rattle.sva_script_reports.specs.Scripts.{start};
-ghost use Rattle.sva_reports.specs.Report.{ended, reply_text};
+ghost use Rattle.sva_grammar.specs.Replies.{ended, reply_text};
 ghost use Rattle.sva_script_reports.specs.Whys.{StepsWhy, WordsWhy, case_line, case_text, cases_text, held_text};
 ghost use Rattle.sva_script_reports.specs.Whys.{why_from, whys_of};
 
 use std::alloc::{AllocError, Global};
-use sva_reports::Outcome;
+use sva_streams::Outcome;
 use sva_script::{Stop, split};
 use sva_script_reading::{
     Desk, Lines, put_bad_config, put_number, put_reply, put_wrong, read_script,
@@ -125,16 +125,17 @@ fn why_step(
         run.new result }
 {
     let words = desk.words.as_slice();
+    let mut taken = Taken::new();
     match run.take(
         alloc,
         number,
         words,
         &mut desk.plain,
         &mut desk.expected,
-        &mut desk.taken,
+        &mut taken,
     ) {
         Ok(Came::Step) => {
-            put_case(alloc, run, number, desk.plain.as_slice(), &desk.taken, out)?;
+            put_case(alloc, run, number, desk.plain.as_slice(), &taken, out)?;
             Ok(true)
         }
         Ok(Came::End) => Ok(true),

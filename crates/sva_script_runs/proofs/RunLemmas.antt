@@ -9,7 +9,7 @@ use Rattle.sva_model.specs.Steps.{Reply}
 use Rattle.sva_model.specs.Wire.{Wire}
 use Rattle.sva_labels.specs.Host.{next_of, reply_of}
 use Rattle.sva_core.specs.HostSteps.{ByLabels}
-use Rattle.sva_script_runs.specs.Messages.{Link}
+use Rattle.sva_script_reading.specs.Messages.{Link}
 use Rattle.sva_script_runs.specs.Runs.{delivered_by}
 
 -- where memory isn't wanting

@@ -9,8 +9,9 @@ use Rattle.sva_script.specs.declared.faults.Stop.TheVariants as stop
 use Rattle.sva_script.specs.declared.faults.Wrong.{Wrong}
 use Rattle.sva_script.specs.Lines.{Parts}
 use Rattle.sva_script_runs.specs.declared.running.Taken.{Taken}
-use Rattle.sva_script_runs.specs.Lines.{LineRead, Plain, Reads}
-use Rattle.sva_script_runs.specs.Runs.{Applies, IsNamed, IsTaken, Running, TakesRead, TellsStep, behind, told_of, with_name}
+use Rattle.sva_script_reading.specs.Lines.{LineRead, Plain, Reads}
+use Rattle.sva_script_runs.specs.Runs.{Applies, IsNamed, IsTaken, Running, TakesRead, TellsStep, behind, told_of}
+use Rattle.sva_script.specs.Names.{with_name}
 
 -- the step was the line's own, and the name was noted
 by_plain : (old mid new : Running) (line : ℕ) (parts : Parts) (name : Option (List ℕ)) (found : Option Plain) (step : Step) (taken : Taken)

@@ -18,8 +18,8 @@ use Rattle.sva_script.specs.Names.{Known}
 use Rattle.sva_script_runs.specs.declared.running.Came.{Came}
 use Rattle.sva_script_runs.specs.declared.running.Came.TheVariants as came
 use Rattle.sva_script_runs.specs.declared.running.Taken.{Taken}
-use Rattle.sva_script_runs.specs.Lines.{IsStopped, LineRead, Plain, expected_text, line_read, plain_text}
-use Rattle.sva_script_runs.specs.Messages.{Link, link_of}
+use Rattle.sva_script_reading.specs.Lines.{IsStopped, LineRead, Plain, expected_text, line_read, plain_text}
+use Rattle.sva_script_reading.specs.Messages.{Link, link_of}
 
 -- where a script is: what the host and the link keep, and the names so far
 pub record Running : Type 0 where
@@ -69,11 +69,6 @@ none_taken = record {
 }
 
 -- ---- A line
-
--- the names behind a line
-abbrev pub with_name : Known → Option (List ℕ) → Given → Known
-with_name known None given = known
-with_name known (Some name) given = known ++ (name, given) ∷ []
 
 -- where a script is behind a line that was read: where it has no step nothing changes, and else the step is taken, and the line's name noted
 abbrev pub behind : Running → (line : ℕ) → (name : Option (List ℕ)) → Option Plain → Running

@@ -2,7 +2,7 @@
 
 ghost use Rattle.std.specs.Prelude.{◌≡◌, ℕ, Some};
 ghost use Rattle.sva_parts_by_labels.specs.Flights.{kind_seen, flight_seen};
-ghost use Rattle.sva_script_runs.specs.Messages.{is_of, kind_word, link_of, newest, oldest, oldest_of};
+ghost use Rattle.sva_script_reading.specs.Messages.{is_of, kind_word, link_of, newest, oldest, oldest_of};
 
 use sva_core::World;
 use sva_msg::{Kind, Message};

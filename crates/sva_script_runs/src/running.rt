@@ -10,17 +10,18 @@ ghost use Rattle.sva_core.specs.Reached.{IsOpenRefusal};
 ghost use Rattle.sva_parts_by_labels.specs.Flights.{kind_seen};
 ghost use Rattle.sva_script.specs.Lines.{parts_of};
 ghost use Rattle.sva_script.specs.Names.{given_of};
-ghost use Rattle.sva_script_runs.specs.Messages.{link_of};
+ghost use Rattle.sva_script_reading.specs.Messages.{link_of};
 ghost use Rattle.sva_script_runs.specs.Runs.{Applies, IsNamed, Takes, came_of, delivered_by, message_of};
 ghost use Rattle.sva_script_runs.specs.Runs.{none_taken, sent_of};
 
-use crate::reading::read_line;
+use crate::in_world::InWorld;
 use std::alloc::Global;
 use std::marker::Model;
 use sva_core::World;
 use sva_frames::Counts;
 use sva_msg::Kind;
 use sva_script::{Given, Names, Stop, Told, name_in};
+use sva_script_reading::read_line;
 use sva_step::{Answer, Config, Refusal, Step};
 
 /// What came of a step.
@@ -132,7 +133,8 @@ impl Run {
         ensures { Takes self.old line (parts_of (map (λ word. word.now) words.now)) self.new
             plain.new.items expected.new.items (came_of taken.new result) }
     {
-        match read_line(&self.names, Some(&self.world), words, plain, expected) {
+        let flights = InWorld { world: &self.world };
+        match read_line(&self.names, &flights, words, plain, expected) {
             Ok(None) => Ok(Came::End),
             Ok(Some(step)) => match self.apply(&step, taken) {
                 Ok(()) => match self.name(alloc, line, name_in(words), &taken.told) {

@@ -3,10 +3,10 @@ use Rattle.std.proofs.Common.{◌≡◌, ◌∙◌, ap, refl, subst, sym, ℕ, t
 use Rattle.std.specs.Prelude.{Result, Ok, Err, is_err}
 use Rattle.std.specs.Io.KnownBytes.{Appends, Consumes, IsAtEnd}
 use Rattle.std.proofs.KnownBytes.{Appends-nil, Appends-trans}
-use Rattle.sva_reports.specs.declared.streams.DriveFault.{DriveFault}
-use Rattle.sva_reports.specs.declared.streams.Outcome.{Outcome}
-use Rattle.sva_reports.specs.Streams.{AppendsPrefix}
-use Rattle.sva_reports.proofs.StreamLemmas.{AppendsPrefix-after, AppendsPrefix-longer}
+use Rattle.sva_streams.specs.declared.streams.DriveFault.{DriveFault}
+use Rattle.sva_streams.specs.declared.streams.Outcome.{Outcome}
+use Rattle.sva_streams.specs.Streams.{AppendsPrefix}
+use Rattle.sva_streams.proofs.StreamLemmas.{AppendsPrefix-after, AppendsPrefix-longer}
 use Rattle.sva_script_traces.specs.declared.rows.Style.{Style}
 use Rattle.sva_script_reading.specs.Said.{Prints}
 use Rattle.sva_script_reading.specs.Said.{Said}

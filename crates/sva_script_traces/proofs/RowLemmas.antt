@@ -7,12 +7,14 @@ use Rattle.sva_step.specs.Refusals.{refusal_text}
 use Rattle.sva_labels.specs.Host.{first_wire}
 use Rattle.sva_model.specs.Claims.{Fits}
 use Rattle.sva_model.specs.Wire.{Wire}
-use Rattle.sva_reports.specs.Report.{ended, is_fit}
-use Rattle.sva_reports.proofs.ScriptLemmas.{configs_are_tested, unfit_from}
+use Rattle.sva_grammar.specs.Configs.{is_fit}
+use Rattle.sva_grammar.specs.Replies.{ended}
+use Rattle.sva_reports.proofs.ScriptLemmas.{configs_are_tested}
+use Rattle.sva_grammar.proofs.ConfigLemmas.{unfit_from}
 use Rattle.sva_script.specs.declared.faults.Wrong.{Wrong}
 use Rattle.sva_script.specs.Lines.{parts_of}
 use Rattle.sva_script_runs.specs.declared.running.Taken.{Taken}
-use Rattle.sva_script_runs.specs.Lines.{LineRead, Plain, plain_text}
+use Rattle.sva_script_reading.specs.Lines.{LineRead, Plain, plain_text}
 use Rattle.sva_script_runs.specs.Runs.{IsTaken, Running, Takes, TakesRead, TellsStep, behind, read_at}
 use Rattle.sva_script_reading.specs.Faults.{Fault}
 use Rattle.sva_script_reading.specs.Reading.{ReadsConfig}

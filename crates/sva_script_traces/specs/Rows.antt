@@ -5,14 +5,14 @@ use Rattle.sva_step.specs.declared.steps.Step.{Step}
 use Rattle.sva_step.specs.declared.steps.Step.TheVariants.{Deliver}
 use Rattle.sva_model.specs.Message.{Message}
 use Rattle.sva_model.specs.Wire.{Wire}
-use Rattle.sva_reports.specs.Report.{ended, reply_text}
+use Rattle.sva_grammar.specs.Replies.{ended, reply_text}
 use Rattle.sva_script.specs.declared.given.Told.{Told}
 use Rattle.sva_script_traces.specs.declared.rows.Columns.{Columns}
 use Rattle.sva_script_traces.specs.declared.rows.Columns.TheVariants.{Padded, Tabbed}
 use Rattle.sva_script_traces.specs.declared.rows.Style.{Style}
 use Rattle.sva_parts_by_labels.specs.Flights.{kind_seen}
 use Rattle.sva_script_runs.specs.declared.running.Taken.{Taken}
-use Rattle.sva_script_runs.specs.Messages.{kind_word}
+use Rattle.sva_script_reading.specs.Messages.{kind_word}
 use Rattle.sva_why.specs.Why.{why_of}
 
 -- behind so many bytes a column is filled up to its width, with a space (32) at least; or a tab (9) ends it

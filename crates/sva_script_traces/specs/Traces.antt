@@ -6,22 +6,23 @@ use Rattle.sva_step.specs.declared.refusals.Refusal.TheVariants.{BadConfig}
 use Rattle.sva_step.specs.Refusals.{refusal_text}
 use Rattle.sva_labels.specs.Host.{first_wire, next_of, reply_of}
 use Rattle.sva_model.specs.Wire.{Wire}
-use Rattle.sva_reports.specs.declared.streams.Outcome.{Outcome}
-use Rattle.sva_reports.specs.declared.streams.Outcome.TheVariants.{Done, Faulted}
+use Rattle.sva_streams.specs.declared.streams.Outcome.{Outcome}
+use Rattle.sva_streams.specs.declared.streams.Outcome.TheVariants.{Done, Faulted}
 use Rattle.sva_grammar.specs.Grammar.{config_read}
-use Rattle.sva_reports.specs.Report.{ended, is_fit}
+use Rattle.sva_grammar.specs.Configs.{is_fit}
+use Rattle.sva_grammar.specs.Replies.{ended}
 use Rattle.sva_script.specs.declared.faults.Wanted.TheVariants as wanted
 use Rattle.sva_script.specs.declared.faults.Wrong.{Wrong}
 use Rattle.sva_script.specs.Lines.{parts_of, script_words}
-use Rattle.sva_script_runs.specs.Lines.{LineRead, Plain}
-use Rattle.sva_script_runs.specs.Messages.{link_of}
+use Rattle.sva_script_reading.specs.Lines.{LineRead, Plain}
+use Rattle.sva_script_reading.specs.Messages.{link_of}
 use Rattle.sva_script_runs.specs.Runs.{Running, behind, delivered_by, read_at, sent_of, told_of}
 use Rattle.sva_script_traces.specs.declared.rows.Style.{Style}
 use Rattle.sva_script_reading.specs.Faults.{Fault, fault_text}
 use Rattle.sva_script_traces.specs.Rows.{Row, end_text, step_text}
 use Rattle.sva_script_reading.specs.Said.{Said}
 use Rattle.sva_script_reading.specs.Begins.{Line, at_word, config_by, fault_of, joined_words, lines_from}
-use Rattle.sva_script_reading.specs.Begins.{counts_at}
+use Rattle.sva_reports.specs.Counts.{counts_at}
 
 -- where a trace is: the run, once there is a config; may no line follow, and was one wrong?
 pub record Tracing : Type 0 where

@@ -15,7 +15,7 @@ use Rattle.sva_race_reports.specs.Explored.{IsExplored as IsRaceExplored}
 use Rattle.sva_race_reports.specs.declared.searching.Explored.{Explored}
 use Rattle.sva_race_reports.proofs.Fronts.{says_other}
 use Rattle.sva_judge.specs.Verdicts.{IsJudged as IsDriverJudged}
-use Rattle.sva_judge.specs.declared.drivers.Driver.{Driver}
+use Rattle.sva_driver_terms.specs.declared.drivers.Driver.{Driver}
 use Rattle.sva_judge.specs.declared.verdicts.Verdict as judge
 use Rattle.sva_judge.specs.declared.verdicts.Verdict.TheVariants as verdict
 use Rattle.sva_driver_texts.specs.declared.kept.Begun.{Begun}

@@ -3,9 +3,9 @@ use Rattle.std.proofs.Common.{◌≡◌, ◌∙◌, ◌++◌, ℕ, List, Option,
 use Rattle.std.specs.Global.{Global}
 use Rattle.std.specs.Prelude.{OnOk, Result, String, Vec, Err}
 use Rattle.std.specs.declared.alloc.AllocError.{AllocError}
-use Rattle.sva_reports.specs.declared.streams.DriveFault.{DriveFault}
-use Rattle.sva_reports.specs.declared.streams.DriveFault.TheVariants.{Write}
-use Rattle.sva_reports.specs.Streams.{AppendsProperPrefix}
+use Rattle.sva_streams.specs.declared.streams.DriveFault.{DriveFault}
+use Rattle.sva_streams.specs.declared.streams.DriveFault.TheVariants.{Write}
+use Rattle.sva_streams.specs.Streams.{AppendsProperPrefix}
 use Rattle.sva_several.specs.declared.driving.Wanted.{Wanted}
 use Rattle.sva_several.specs.Told.{IsReport, TellsAll}
 

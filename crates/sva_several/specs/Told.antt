@@ -4,9 +4,9 @@ use Rattle.std.specs.List.{AllZip}
 use Rattle.std.specs.Prelude.{◌≡◌, ℕ, Vec, String, List, [], Option, Result, Ok, Err}
 use Rattle.std.specs.declared.alloc.AllocError.{AllocError}
 use Rattle.std.specs.Io.KnownBytes.{Appends}
-use Rattle.sva_reports.specs.declared.streams.DriveFault.{DriveFault}
-use Rattle.sva_reports.specs.declared.streams.DriveFault.TheVariants.{Write}
-use Rattle.sva_reports.specs.Streams.{AppendsPrefix}
+use Rattle.sva_streams.specs.declared.streams.DriveFault.{DriveFault}
+use Rattle.sva_streams.specs.declared.streams.DriveFault.TheVariants.{Write}
+use Rattle.sva_streams.specs.Streams.{AppendsPrefix}
 use Rattle.sva_several.specs.declared.driving.Wanted.{Wanted}
 use Rattle.sva_several.specs.declared.searching.Said.{Said}
 use Rattle.sva_several.specs.Lines.{report_text}

@@ -1,7 +1,7 @@
 //! Several texts that are searched, and what is written of them.
 
 ghost use Rattle.std.specs.Prelude.{◌≡◌, IfOk};
-ghost use Rattle.sva_reports.specs.Streams.{IsNew, Tells};
+ghost use Rattle.sva_streams.specs.Streams.{IsNew, Tells};
 ghost use Rattle.sva_several.specs.Told.{IsReport, TellsAll};
 
 use crate::metering::Meter;
@@ -12,7 +12,7 @@ use crate::working::search_all;
 use std::alloc::{AllocError, Global};
 use std::io::Write;
 use std::thread::Threads;
-use sva_reports::{DriveFault, Told, write_all};
+use sva_streams::{DriveFault, Told, write_all};
 
 /// What is wanted of several texts.
 #[derive(Clone, Copy, PartialEq, Eq)]

@@ -1,5 +1,5 @@
 use Rattle.std.proofs.Common.{rules}
-use Rattle.sva_reports.proofs.EndLemmas.{ends_well, ends_not_by_reading, ends_by_writing, ends_for_memory}
+use Rattle.sva_streams.proofs.EndLemmas.{ends_well, ends_not_by_reading, ends_by_writing, ends_for_memory}
 use Rattle.sva_charts.proofs.ChartLemmas.{kept_chart, unread}
 use Rattle.sva_charts.proofs.charting.chart.Goals as goal
 

@@ -1,6 +1,6 @@
 use Rattle.std.proofs.Common.{refl, rules, Ok, Err}
 use Rattle.sva_charts.specs.Charts.{IsChart}
-use Rattle.sva_reports.specs.declared.streams.DriveFault.TheVariants.{Memory}
+use Rattle.sva_streams.specs.declared.streams.DriveFault.TheVariants.{Memory}
 use Rattle.sva_script_reading.specs.Said.{Prints, Said}
 use Rattle.sva_script_reports.specs.Shows.{show_of}
 use Rattle.sva_charts.proofs.charting.write_chart.Goals as goal

@@ -1,4 +1,4 @@
-use Rattle.sva_reports.proofs.EndLemmas.{ends_well, ends_not_by_reading, ends_by_writing, ends_for_memory}
+use Rattle.sva_streams.proofs.EndLemmas.{ends_well, ends_not_by_reading, ends_by_writing, ends_for_memory}
 use Rattle.sva_driver_runs.proofs.Fronts.{kept_run}
 use Rattle.sva_driver_runs.proofs.driving.run.Goals as goal
 

@@ -1,6 +1,6 @@
 use Rattle.std.proofs.Common.{◌≡◌, ◌∙◌, ◌+◌, rules, sym, true, false}
 use Rattle.std.proofs.lemmas.Result.{IfOk-weaker}
-use Rattle.sva_reports.proofs.ScriptLemmas.{fit_from, unfit_from}
+use Rattle.sva_grammar.proofs.ConfigLemmas.{fit_from, unfit_from}
 use Rattle.sva_script_reading.specs.Begins.{lines_from}
 use Rattle.sva_driver_texts.proofs.Wholes.{driver_is, with_fit, with_unfit}
 use Rattle.sva_driver_texts.proofs.texts.read_all.Goals as goal

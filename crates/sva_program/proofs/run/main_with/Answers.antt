@@ -1,6 +1,6 @@
 use Rattle.std.proofs.Common.{rules, ◌≡◌, ◌≤◌, ◌⊎◌, ap, inl, inr, Err, ◌∙◌, subst, sym}
 use Rattle.clap.specs.Words.{HasKind, kind_of}
-use Rattle.sva_reports.specs.declared.streams.DriveFault.TheVariants.{Memory}
+use Rattle.sva_streams.specs.declared.streams.DriveFault.TheVariants.{Memory}
 use Rattle.sva_command.specs.Command.{Asks, faults_of, texts}
 use Rattle.sva_command.specs.declared.command.Asked.TheVariants.{Explore, Judge}
 use Rattle.sva_program.specs.Run.{Reports, is_strict, status_of}

@@ -1,8 +1,8 @@
 use Rattle.std.proofs.Common.{◌≡◌, ◌∙◌, ap, rules, subst, sym, true}
 use Rattle.std.specs.Prelude.{None, Result, Err}
 use Rattle.sva_script.specs.Lines.{parts_of}
-use Rattle.sva_script_runs.specs.Lines.{Reads, line_read}
-use Rattle.sva_script_runs.specs.Messages.{link_of}
+use Rattle.sva_script_reading.specs.Lines.{Reads, line_read}
+use Rattle.sva_script_reading.specs.Messages.{link_of}
 use Rattle.sva_race_words.specs.declared.faults.RaceWrong.{RaceWrong}
 use Rattle.sva_race_words.specs.Words.{word_at}
 use Rattle.sva_race_words.proofs.Lists.{said}

@@ -1,7 +1,7 @@
 use Rattle.std.proofs.Common.{◌∙◌, ◌≤◌, ◌+◌, ap, subst, sym}
 use Rattle.sva_search.specs.declared.ends.End.{End}
 use Rattle.sva_race.specs.Moments.{Moment}
-use Rattle.sva_race_parts.specs.declared.choices.Choice.{Choice}
+use Rattle.sva_race_terms.specs.declared.choices.Choice.{Choice}
 use Rattle.sva_race_ends.specs.Ends.{end_text}
 use Rattle.sva_race_ends.specs.Kinds.{Kinds, times, with_text}
 use Rattle.sva_race_ends.proofs.Counting.{few_came}

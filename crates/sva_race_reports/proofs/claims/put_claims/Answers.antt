@@ -1,6 +1,6 @@
 use Rattle.std.proofs.Common.{◌++◌, ◌∙◌, ap, arith, length, sym}
 use Rattle.sva_race_parts.proofs.Naming.{below_both, past_either}
-use Rattle.sva_race_parts.specs.declared.claims.Claim.{Claim}
+use Rattle.sva_race_terms.specs.declared.claims.Claim.{Claim}
 use Rattle.sva_race_lines.specs.Readings.{asked_seen}
 use Rattle.sva_race_reports.specs.Reports.{claim_text, with_witness}
 use Rattle.sva_race_reports.proofs.Rulings.{claim_next, claims_end, few_witnesses}

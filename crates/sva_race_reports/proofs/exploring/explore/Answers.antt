@@ -1,4 +1,4 @@
-use Rattle.sva_reports.proofs.EndLemmas.{ends_well, ends_not_by_reading, ends_by_writing, ends_for_memory}
+use Rattle.sva_streams.proofs.EndLemmas.{ends_well, ends_not_by_reading, ends_by_writing, ends_for_memory}
 use Rattle.sva_race_reports.proofs.Fronts.{kept_explored}
 use Rattle.sva_race_reports.proofs.exploring.explore.Goals as goal
 

@@ -1,9 +1,10 @@
 use Rattle.std.proofs.Common.{◌≡◌, ◌∙◌, ap, sym, subst, length, refl, IfSome}
 use Rattle.sva_grammar.specs.Grammar.{scenario_of}
-use Rattle.sva_reports.specs.Report.{check_by, check_outcome_by, ended, steps_text}
-use Rattle.sva_reports.specs.Streams.{AppendsPrefix}
+use Rattle.sva_reports.specs.Report.{check_by, check_outcome_by, steps_text}
+use Rattle.sva_grammar.specs.Replies.{ended}
+use Rattle.sva_streams.specs.Streams.{AppendsPrefix}
 use Rattle.sva_reports.proofs.HandedLemmas.{handed_fault, handed_none, handed_outcome, handed_script}
-use Rattle.sva_reports.proofs.ScriptLemmas.{writes_as, writes_front}
+use Rattle.sva_streams.proofs.StreamLemmas.{writes_as, writes_front}
 use Rattle.sva_reports.proofs.checking.check_text.Goals as goal
 
 pub returns-in_err-scenario-clause-report : goal.returns-in_err-scenario-clause-report

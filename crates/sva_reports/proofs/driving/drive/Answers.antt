@@ -1,6 +1,6 @@
 use Rattle.sva_reports.specs.Report.{outcome_by, report_by}
 use Rattle.sva_reports.proofs.ScriptLemmas.{kept_report, kept_outcome}
-use Rattle.sva_reports.proofs.EndLemmas.{ends_well, ends_not_by_reading, ends_by_writing, ends_for_memory}
+use Rattle.sva_streams.proofs.EndLemmas.{ends_well, ends_not_by_reading, ends_by_writing, ends_for_memory}
 use Rattle.sva_reports.proofs.driving.drive.Goals as goal
 
 pub returns-clause-report : goal.returns-clause-report

@@ -1,8 +1,9 @@
 use Rattle.std.proofs.Common.{ap, sym, Ok, Err, []}
 use Rattle.sva_step.specs.declared.refusals.Refusal.TheVariants.{BadConfig}
-use Rattle.sva_reports.specs.declared.streams.Outcome.TheVariants.{Done, Faulted}
+use Rattle.sva_streams.specs.declared.streams.Outcome.TheVariants.{Done, Faulted}
 use Rattle.sva_reports.proofs.ReportLemmas.{refusal_short}
-use Rattle.sva_reports.proofs.ScriptLemmas.{ends_as, fit_report, unfit_report, writes_as, writes_front}
+use Rattle.sva_reports.proofs.ScriptLemmas.{fit_report, unfit_report}
+use Rattle.sva_streams.proofs.StreamLemmas.{ends_as, writes_as, writes_front}
 use Rattle.sva_reports.proofs.driving.report_script.Goals as goal
 
 pub write_reply-requires-clause-short : goal.write_reply-requires-clause-short

@@ -5,7 +5,8 @@ use Rattle.sva_model.specs.State.PasidRule.{PerSpace}
 use Rattle.sva_model.specs.Steps.{world_after}
 use Rattle.sva_reports.specs.Report.{steps_report}
 use Rattle.sva_reports.proofs.ReportLemmas.{not_so, Reporting, reporting_start, reporting_step, reporting_cut, reporting_stop, reporting_end}
-use Rattle.sva_reports.proofs.ScriptLemmas.{next_left, none_left, writes_front}
+use Rattle.sva_reports.proofs.ScriptLemmas.{next_left, none_left}
+use Rattle.sva_streams.proofs.StreamLemmas.{writes_front}
 use Rattle.sva_reports.proofs.driving.report_steps.Goals as goal
 
 pub loop-step-init : goal.loop-step-init

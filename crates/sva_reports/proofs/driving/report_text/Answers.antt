@@ -3,7 +3,7 @@ use Rattle.sva_grammar.specs.Grammar.{scenario_of}
 use Rattle.sva_grammar.proofs.SizeLemmas.{read_few}
 use Rattle.sva_reports.specs.Report.{outcome_by, report_by}
 use Rattle.sva_reports.proofs.HandedLemmas.{handed_fault, handed_none, handed_outcome, handed_script}
-use Rattle.sva_reports.proofs.ScriptLemmas.{writes_front}
+use Rattle.sva_streams.proofs.StreamLemmas.{writes_front}
 use Rattle.sva_reports.proofs.driving.report_text.Goals as goal
 
 pub returns-in_err-scenario-clause-report : goal.returns-in_err-scenario-clause-report

@@ -1,8 +1,8 @@
 use Rattle.std.proofs.Common.{◌≡◌, rules, subst}
-use Rattle.sva_reports.specs.Report.{ended, reply_text}
-use Rattle.sva_reports.specs.Streams.{AppendsPrefix}
+use Rattle.sva_grammar.specs.Replies.{ended, reply_text}
+use Rattle.sva_streams.specs.Streams.{AppendsPrefix}
 use Rattle.sva_reports.proofs.ReportLemmas.{holds_front}
-use Rattle.sva_reports.proofs.StreamLemmas.{AppendsPrefix-longer}
+use Rattle.sva_streams.proofs.StreamLemmas.{AppendsPrefix-longer}
 use Rattle.sva_reports.proofs.report.hold_reply.Goals as goal
 
 pub returns-in_err-flush-clause-held : goal.returns-in_err-flush-clause-held

@@ -1,6 +1,6 @@
 use Rattle.std.proofs.Common.{rules}
-use Rattle.sva_reports.specs.Report.{ended}
-use Rattle.sva_reports.proofs.ScriptLemmas.{writes_as}
+use Rattle.sva_grammar.specs.Replies.{ended}
+use Rattle.sva_streams.proofs.StreamLemmas.{writes_as}
 use Rattle.sva_reports.proofs.report.write_audit.Goals as goal
 
 pub returns-clause-written : goal.returns-clause-written

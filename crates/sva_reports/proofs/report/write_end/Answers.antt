@@ -1,7 +1,7 @@
 use Rattle.std.proofs.Common.{◌≡◌, rules, subst}
-use Rattle.sva_reports.specs.Streams.{AppendsPrefix}
-use Rattle.sva_reports.proofs.ScriptLemmas.{writes_front}
-use Rattle.sva_reports.proofs.StreamLemmas.{AppendsPrefix-longer}
+use Rattle.sva_streams.specs.Streams.{AppendsPrefix}
+use Rattle.sva_streams.proofs.StreamLemmas.{writes_front}
+use Rattle.sva_streams.proofs.StreamLemmas.{AppendsPrefix-longer}
 use Rattle.sva_reports.proofs.report.write_end.Goals as goal
 
 pub returns-in_err-flush-clause-written : goal.returns-in_err-flush-clause-written

@@ -1,5 +1,5 @@
 use Rattle.sva_grammar.specs.Grammar.{scenario_of}
-use Rattle.sva_reports.specs.declared.streams.DriveFault.TheVariants.{Memory}
+use Rattle.sva_streams.specs.declared.streams.DriveFault.TheVariants.{Memory}
 use Rattle.sva_reports.proofs.HandedLemmas.{handed_lacking}
 use Rattle.sva_reports.proofs.scenarios.scenario_or_fault.Goals as goal
 

@@ -3,7 +3,7 @@ use Rattle.sva_step.specs.Limits.{Fits}
 use Rattle.sva_step.specs.declared.refusals.Refusal.TheVariants.{BadConfig}
 use Rattle.sva_grammar.specs.Grammar.{Script}
 use Rattle.sva_reports.proofs.ReportLemmas.{refusal_short}
-use Rattle.sva_reports.proofs.ScriptLemmas.{fit_from}
+use Rattle.sva_grammar.proofs.ConfigLemmas.{fit_from}
 use Rattle.sva_scenario.proofs.StormLemmas.{fit_by}
 use Rattle.sva_scenario.proofs.storming.hand_out.Goals as goal
 

@@ -1,6 +1,6 @@
 use Rattle.std.proofs.Common.{ap, Err}
 use Rattle.sva_scenario.proofs.StormLemmas.{judged_unread, kept_judged}
-use Rattle.sva_reports.proofs.EndLemmas.{ends_well, ends_not_by_reading, ends_by_writing, ends_for_memory}
+use Rattle.sva_streams.proofs.EndLemmas.{ends_well, ends_not_by_reading, ends_by_writing, ends_for_memory}
 use Rattle.sva_scenario.proofs.storming.read_scenario.Goals as goal
 
 pub returns-in_err-text-clause-judged : goal.returns-in_err-text-clause-judged

@@ -1,7 +1,7 @@
 use Rattle.std.proofs.Common.{ap, sym, Ok}
-use Rattle.sva_reports.specs.declared.streams.Outcome.TheVariants.{Done}
+use Rattle.sva_streams.specs.declared.streams.Outcome.TheVariants.{Done}
 use Rattle.sva_scenario.specs.Storms.{audit_outcome, audit_text}
-use Rattle.sva_reports.proofs.ScriptLemmas.{writes_as, writes_front}
+use Rattle.sva_streams.proofs.StreamLemmas.{writes_as, writes_front}
 use Rattle.sva_scenario.proofs.storming.report_audit.Goals as goal
 
 pub returns-in_err-write_audit-in-Some-clause-report : goal.returns-in_err-write_audit-in-Some-clause-report

@@ -1,8 +1,8 @@
 use Rattle.std.proofs.Common.{◌∙◌, List, None, Err, ap, map, subst, ℕ}
 use denote.Ref.{Bor}
 use Rattle.sva_script.specs.Lines.{parts_of}
-use Rattle.sva_script_runs.specs.Lines.{Reads, line_read}
-use Rattle.sva_script_runs.specs.Messages.{link_of}
+use Rattle.sva_script_reading.specs.Lines.{Reads, line_read}
+use Rattle.sva_script_reading.specs.Messages.{link_of}
 use Rattle.sva_script_reading.proofs.WordLemmas.{words_failed}
 use Rattle.sva_script_reading.proofs.reading.tell_words.Goals as goal
 

@@ -1,6 +1,6 @@
 use Rattle.std.proofs.Common.{◌∙◌, ◌+◌, ◌++◌, arith, ap, List, map, Ok, refl, subst, sym, ℕ}
 use denote.Ref.{Bor}
-use Rattle.sva_reports.specs.declared.streams.Outcome.TheVariants.{Done}
+use Rattle.sva_streams.specs.declared.streams.Outcome.TheVariants.{Done}
 use Rattle.sva_script_reports.specs.declared.testing.Compared.TheVariants.{Differs, NotExpected, Same}
 use Rattle.sva_script_reports.specs.Lines.{ComparesWords}
 use Rattle.sva_script_reading.specs.Said.{IsSaid}

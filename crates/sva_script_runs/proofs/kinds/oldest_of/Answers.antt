@@ -1,7 +1,7 @@
 use Rattle.std.proofs.Common.{rules, arith, ap, sym, ◌≡◌, ◌∙◌, ◌+◌, Some, None}
 use Rattle.std.specs.Prelude.{slice_get}
 use Rattle.sva_parts_by_labels.specs.Flights.{flight_seen}
-use Rattle.sva_script_runs.specs.Messages.{is_of, link_of, number_or_next}
+use Rattle.sva_script_reading.specs.Messages.{is_of, link_of, number_or_next}
 use Rattle.sva_script_runs.proofs.FindLemmas.{find_here, find_past, some_within}
 use Rattle.sva_script_runs.proofs.kinds.oldest_of.Goals as goal
 use Rattle.sva_script_runs.proofs.kinds.oldest_of.Goals.{in-Some+else-is_of, in_default}

@@ -1,6 +1,6 @@
 use Rattle.std.proofs.Common.{◌≡◌, ◌≤◌, drop, length}
 use Rattle.std.specs.Prelude.{find}
-use Rattle.sva_script_runs.specs.Messages.{is_of}
+use Rattle.sva_script_reading.specs.Messages.{is_of}
 use Rattle.sva_script_runs.proofs.kinds.oldest_of.Given as goal
 
 -- what is found of those that are left is found of all

@@ -1,5 +1,5 @@
 use Rattle.std.proofs.Common.{subst}
-use Rattle.sva_reports.specs.Streams.{AppendsProperPrefix}
+use Rattle.sva_streams.specs.Streams.{AppendsProperPrefix}
 use Rattle.sva_several.proofs.Tellings.{told_part}
 use Rattle.sva_several.proofs.driving.tell_all.Goals as goal
 

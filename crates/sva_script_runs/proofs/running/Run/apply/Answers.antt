@@ -5,7 +5,7 @@ use Rattle.sva_model.specs.Wire.{Wire}
 use Rattle.sva_labels.specs.Host.{next_of, reply_of}
 use Rattle.sva_core.specs.HostSteps.{ByLabels}
 use Rattle.sva_parts_by_labels.specs.Flights.{kind_seen}
-use Rattle.sva_script_runs.specs.Messages.{link_of}
+use Rattle.sva_script_reading.specs.Messages.{link_of}
 use Rattle.sva_script_runs.specs.Runs.{delivered_by, sent_of, told_of}
 use Rattle.sva_script_runs.proofs.RunLemmas.{delivers, delivers_nothing, had_memory}
 use Rattle.sva_script_runs.proofs.running.Run.apply.Goals as goal

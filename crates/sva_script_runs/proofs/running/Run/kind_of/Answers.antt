@@ -2,7 +2,7 @@ use Rattle.std.proofs.Common.{◌∙◌, Some, ap, sym}
 use Rattle.std.specs.Prelude.{option_map}
 use Rattle.sva_model.specs.Wire.{FlightWire}
 use Rattle.sva_parts_by_labels.specs.Flights.{flight_at}
-use Rattle.sva_script_runs.specs.Messages.{link_of}
+use Rattle.sva_script_reading.specs.Messages.{link_of}
 use Rattle.sva_script_runs.specs.Runs.{Running, message_of}
 use Rattle.sva_script_runs.proofs.running.Run.kind_of.Goals as goal
 

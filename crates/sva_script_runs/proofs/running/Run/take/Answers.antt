@@ -2,8 +2,8 @@ use Rattle.std.proofs.Common.{Ok, Option, Some, List, map, option_map, subst, â„
 use denote.Ref.{Bor}
 use Rattle.sva_step.specs.declared.steps.Step.{Step}
 use Rattle.sva_script.specs.Lines.{Parts, parts_of}
-use Rattle.sva_script_runs.specs.Lines.{Reads, line_read}
-use Rattle.sva_script_runs.specs.Messages.{link_of}
+use Rattle.sva_script_reading.specs.Lines.{Reads, line_read}
+use Rattle.sva_script_reading.specs.Messages.{link_of}
 use Rattle.sva_script_runs.specs.Runs.{Running, read_at}
 use Rattle.sva_script_runs.proofs.TakeLemmas.{line_taken}
 use Rattle.sva_script_runs.proofs.running.Run.take.Goals as goal

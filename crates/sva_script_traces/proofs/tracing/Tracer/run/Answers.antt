@@ -1,6 +1,6 @@
 use Rattle.std.proofs.Common.{◌≡◌, ◌∙◌, ◌+◌, ◌++◌, ◌≤◌, [], List, Some, ap, arith, length, refl, rules, subst, sym, take, ℕ}
 use Rattle.std.proofs.lemmas.List.{length-take}
-use Rattle.sva_reports.specs.declared.streams.DriveFault.TheVariants.{Memory, Read}
+use Rattle.sva_streams.specs.declared.streams.DriveFault.TheVariants.{Memory, Read}
 use Rattle.sva_script.proofs.NameLemmas.{on_ok}
 use Rattle.sva_script_traces.specs.Traces.{NoEnd, Tracer, trace_rest}
 use Rattle.sva_script_traces.proofs.InputLemmas.{TracesInput, failed_print, input_begins, input_breaks, input_cut, input_end_breaks, input_ends}

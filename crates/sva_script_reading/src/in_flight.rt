@@ -23,6 +23,7 @@ pub trait InFlight {
 }
 
 /// Nothing is in flight: so lines are read before a script is run.
+#[derive(Drop)]
 pub struct NothingInFlight;
 
 impl InFlight for NothingInFlight {

@@ -8,6 +8,7 @@ use sva_core::World;
 use sva_script_reading::InFlight;
 
 /// What is in flight in a world.
+#[derive(Drop)]
 pub struct InWorld<'a> {
     /// The world.
     pub world: &'a World,

@@ -5,6 +5,7 @@
 mod checking;
 mod configs;
 mod driving;
+mod explaining;
 mod reading;
 mod report;
 mod scenarios;
@@ -15,6 +16,7 @@ mod writing;
 pub use checking::{check, check_text};
 pub use configs::laws;
 pub use driving::{drive, report_text};
+pub use explaining::{Explains, is_held};
 pub use reading::{MOST_KEPT, MOST_TURNS, read_all};
 pub use report::{write_audit, write_bad_audit, write_reply};
 pub use scenarios::scenario_or_fault;

@@ -76,7 +76,12 @@ fn print_text<E: Explains, W: Write>(
 }
 
 /// Appends what is said of a script.
-fn say<E: Explains>(alloc: Global, saying: Saying, text: &[u8], out: &mut Vec<u8>) -> Result<Outcome, AllocError>
+fn say<E: Explains>(
+    alloc: Global,
+    saying: Saying,
+    text: &[u8],
+    out: &mut Vec<u8>,
+) -> Result<Outcome, AllocError>
     requires { out.old.items ≡ [] }
     ensures { IsSaid (said_of E.explained saying text.now) out.new.items result }
 {

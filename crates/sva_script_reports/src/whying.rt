@@ -22,7 +22,11 @@ const NOTHING: &[u8] = b"nothing was refused, blocked or withheld\n";
 
 /// Runs a script, and writes for each step that was refused, blocked or withheld what holds it back. Where a line is
 /// wrong, or the config out of its limits, that is written instead, and the result is `Faulted`.
-pub fn why<E: Explains>(alloc: Global, text: &[u8], out: &mut Vec<u8>) -> Result<Outcome, AllocError>
+pub fn why<E: Explains>(
+    alloc: Global,
+    text: &[u8],
+    out: &mut Vec<u8>,
+) -> Result<Outcome, AllocError>
     requires { out.old.items ≡ [] }
     ensures { IsSaid (whys_of E.explained text.now) out.new.items result }
 {

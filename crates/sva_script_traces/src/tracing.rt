@@ -247,7 +247,12 @@ impl Tracer {
     }
 
     /// Takes the last line, where it hasn't ended, and appends what stands at the end.
-    fn take_end<E: Explains>(&mut self, alloc: Global, held: &[u8], out: &mut Vec<u8>) -> Result<(), AllocError>
+    fn take_end<E: Explains>(
+        &mut self,
+        alloc: Global,
+        held: &[u8],
+        out: &mut Vec<u8>,
+    ) -> Result<(), AllocError>
         requires held { NoEnd held.now }
         requires few { self.old.lines + 2 < 2 ^ 64 }
         ensures said { OnOk result (out.new.items ≡ out.old.items ++ (trace_rest E.explained self.old held.now).text) }
@@ -261,7 +266,12 @@ impl Tracer {
     }
 
     /// Takes a line.
-    fn take_line<E: Explains>(&mut self, alloc: Global, line: &[u8], out: &mut Vec<u8>) -> Result<(), AllocError>
+    fn take_line<E: Explains>(
+        &mut self,
+        alloc: Global,
+        line: &[u8],
+        out: &mut Vec<u8>,
+    ) -> Result<(), AllocError>
         requires { self.old.lines + 1 < 2 ^ 64 }
         ensures { OnOk result (TracesLine E.explained self.old line.now self.new out.old.items out.new.items) }
     {

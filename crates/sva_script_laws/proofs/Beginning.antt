@@ -56,7 +56,8 @@ Begun explained before config left lines =
 
 -- ---- A line that says nothing
 
-begins_silent : (explained : Explaining) (config : Config) (line : Line) (lines : List Line) (out text : List ℕ) → CleanLines (line ∷ lines) → script_words line.1 ≡ []
+begins_silent : (explained : Explaining) (config : Config) (line : Line) (lines : List Line) (out text : List ℕ) → CleanLines (line ∷ lines)
+    → script_words line.1 ≡ []
     → Begins explained config lines (out ++ ended (comment_of line.1)) text → Begins explained config (line ∷ lines) out text
 unfolding answers_from trace_from test_from expectations_from
 begins_silent explained config line lines out text clean none left =
@@ -108,7 +109,8 @@ never_both : (test : Bool) → (test && false) ≡ false
 never_both true = refl
 never_both false = refl
 
-begins_here : (explained : Explaining) (config : Config) (line : Line) (lines left : List Line) (word : List ℕ) (words : List (List ℕ)) (out text : List ℕ) → CleanLines lines
+begins_here : (explained : Explaining) (config : Config) (line : Line) (lines left : List Line) (word : List ℕ) (words : List (List ℕ))
+    (out text : List ℕ) → CleanLines lines
     → script_words line.1 ≡ word ∷ words → is_fit config ≡ true → faults_from [] false left ≡ []
     → config_with lines (config_by line.0 (word ∷ words) (config_read (joined_words (word ∷ words)))) ≡ Ok (config, left)
     → plain_from (out ++ ended (joined_words (word ∷ words))) (past_config (start config)) lines ≡ well text
@@ -168,7 +170,8 @@ begins_here explained config line lines left word words out text clean said fit 
 
 -- ---- All lines
 
-pub begins : (explained : Explaining) (before : ℕ) (lines : List Line) (config : Config) (left : List Line) → CleanLines lines → is_fit config ≡ true → faults_from [] false left ≡ []
+pub begins : (explained : Explaining) (before : ℕ) (lines : List Line) (config : Config) (left : List Line) → CleanLines lines → is_fit config ≡ true
+    → faults_from [] false left ≡ []
     → Begun explained before config left lines
 unfolding config_in plain_from
 begins explained before [] config left clean fit right found out text is = absurd (cc found)

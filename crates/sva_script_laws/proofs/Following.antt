@@ -85,7 +85,8 @@ small_by out text false is said = let same : text ≡ out = sym (ap (λ (s : Sai
 
 -- ---- No line is left
 
-follows_none : (explained : Explaining) (past : Bool) (running : Running) (out text : List ℕ) → plain_from out (behind_line running) [] ≡ well text → Follows explained past running [] out text
+follows_none : (explained : Explaining) (past : Bool) (running : Running) (out text : List ℕ) → plain_from out (behind_line running) [] ≡ well text
+    → Follows explained past running [] out text
 unfolding plain_from answers_from replies_of trace_from test_from expectations_from
 follows_none explained past running out text is =
     let end = small_by out text (is_too_large out) refl is in
@@ -109,7 +110,8 @@ follows_none explained past running out text is =
 
 -- ---- A line that says nothing
 
-follows_silent : (explained : Explaining) (past : Bool) (running : Running) (line : Line) (lines : List Line) (out text : List ℕ) → NoEnd line.1 → script_words line.1 ≡ []
+follows_silent : (explained : Explaining) (past : Bool) (running : Running) (line : Line) (lines : List Line) (out text : List ℕ) → NoEnd line.1
+    → script_words line.1 ≡ []
     → Follows explained past running lines (out ++ ended (comment_of line.1)) text → Follows explained past running (line ∷ lines) out text
 unfolding answers_from trace_from test_from expectations_from
 follows_silent explained past running line lines out text clean none left =
@@ -131,7 +133,8 @@ follows_silent explained past running line lines out text clean none left =
       numbers =
           ap (λ words. map (λ (l : Line). l.0) (cond (is_written words) (line ∷ written_lines lines) (written_lines lines))) none ∙ left.numbers;
       traced = λ style before.
-          ap (λ words. trace_more (λ next. trace_from explained style next line.0 lines) (trace_line explained style (tracing_at past running) line.0 words)) none
+          ap (λ words. trace_more (λ next. trace_from explained style next line.0 lines)
+          (trace_line explained style (tracing_at past running) line.0 words)) none
           ∙ left.traced style line.0;
       none_skipped = λ place.
           ap (λ words. map (λ (it : Expectation). it.line)
@@ -159,7 +162,8 @@ answered running line lines word words read step said at is =
     ∙ ap (λ s. step_answer running.seen s ++ answers_from (behind_line (behind running line.0 (parts_of (word ∷ words)).name s)) lines) is
 
 -- what it expects
-expected : (explained : Explaining) (place : ℕ) (running : Running) (line : Line) (lines : List Line) (word : List ℕ) (words : List (List ℕ)) (read : LineRead) (step : Option Plain)
+expected : (explained : Explaining) (place : ℕ) (running : Running) (line : Line) (lines : List Line) (word : List ℕ) (words : List (List ℕ))
+    (read : LineRead) (step : Option Plain)
     → script_words line.1 ≡ word ∷ words → read_at running (parts_of (word ∷ words)) ≡ Ok read → read.step ≡ step
     → expectations_from explained place (behind_line running) (line ∷ lines)
     ≡ expectation explained line.0 place running.seen step read.expected
@@ -181,7 +185,8 @@ numbered_by running line lines word words read step said at is =
     (sym (ends_is running.known (link_of (Some running.seen)) (parts_of (word ∷ words)) read at) ∙ ap (λ s. is_none s) is)
 
 -- where its expectation stands among all of them
-stands_so : (explained : Explaining) (place : ℕ) (running : Running) (line : Line) (lines : List Line) (word : List ℕ) (words : List (List ℕ)) (read : LineRead) (step : Option Plain)
+stands_so : (explained : Explaining) (place : ℕ) (running : Running) (line : Line) (lines : List Line) (word : List ℕ) (words : List (List ℕ))
+    (read : LineRead) (step : Option Plain)
     → script_words line.1 ≡ word ∷ words → read_at running (parts_of (word ∷ words)) ≡ Ok read → read.step ≡ step
     → map (λ (it : Expectation). it.line)
     (expectations_from explained (place_behind place step) (behind_line (behind running line.0 (parts_of (word ∷ words)).name step)) lines) ≡ expecting lines
@@ -194,11 +199,13 @@ stands_so explained place running line lines word words read step said at is res
     ∙ ap (λ ws. map (λ (l : Line). l.0) (cond (expects ws) (line ∷ expecting_lines lines) (expecting_lines lines))) (sym said)
 
 -- what a trace says of it
-traced_read : (explained : Explaining) (style : Style) (running : Running) (line : Line) (lines : List Line) (before : ℕ) (word : List ℕ) (words : List (List ℕ)) (read : LineRead)
+traced_read : (explained : Explaining) (style : Style) (running : Running) (line : Line) (lines : List Line) (before : ℕ) (word : List ℕ)
+    (words : List (List ℕ)) (read : LineRead)
     (step : Option Plain)
     → script_words line.1 ≡ word ∷ words → read_at running (parts_of (word ∷ words)) ≡ Ok read → read.step ≡ step
     → trace_from explained style (tracing_at false running) before (line ∷ lines)
-    ≡ trace_more (λ next. trace_from explained style next line.0 lines) (trace_step explained style (tracing_at false running) running line.0 (word ∷ words) step)
+    ≡ trace_more (λ next. trace_from explained style next line.0 lines)
+    (trace_step explained style (tracing_at false running) running line.0 (word ∷ words) step)
 unfolding trace_from
 traced_read explained style running line lines before word words read step said at is =
     let rest : Tracing → Said = λ next. trace_from explained style next line.0 lines in
@@ -207,7 +214,8 @@ traced_read explained style running line lines before word words read step said 
     ∙ ap (λ s. trace_more rest (trace_step explained style (tracing_at false running) running line.0 (word ∷ words) s)) is
 
 -- what a test makes of it
-tested_read : (explained : Explaining) (running : Running) (line : Line) (lines : List Line) (count : ℕ) (word : List ℕ) (words : List (List ℕ)) (read : LineRead) (step : Option Plain)
+tested_read : (explained : Explaining) (running : Running) (line : Line) (lines : List Line) (count : ℕ) (word : List ℕ) (words : List (List ℕ))
+    (read : LineRead) (step : Option Plain)
     → script_words line.1 ≡ word ∷ words → read_at running (parts_of (word ∷ words)) ≡ Ok read → read.step ≡ step
     → test_from explained count false (behind_line running) (line ∷ lines)
     ≡ scripts.compared count line.0 (scripts.told_step step) (scripts.answer_at running.seen step) (scripts.held_at explained running.seen step)
@@ -222,7 +230,8 @@ tested_read explained running line lines count word words read step said at is =
 
 -- ---- A step
 
-follows_step : (explained : Explaining) (running : Running) (line : Line) (lines : List Line) (word : List ℕ) (words : List (List ℕ)) (read : LineRead) (plain : Plain)
+follows_step : (explained : Explaining) (running : Running) (line : Line) (lines : List Line) (word : List ℕ) (words : List (List ℕ))
+    (read : LineRead) (plain : Plain)
     (out text : List ℕ)
     → script_words line.1 ≡ word ∷ words → read_at running (parts_of (word ∷ words)) ≡ Ok read → read.step ≡ Some plain
     → Follows explained false (behind running line.0 (parts_of (word ∷ words)).name (Some plain)) lines (out ++ ended plain.text) text
@@ -263,7 +272,8 @@ follows_step explained running line lines word words read plain out text said at
       traced = λ style before.
           traced_read explained style running line lines before word words read (Some plain) said at some
           ∙ (λ i. record {
-            text = step_told explained style line.0 plain.text (next_of running.seen plain.step) (row_of running.seen plain) i ++ (left.traced style line.0 i).text;
+            text = step_told explained style line.0 plain.text (next_of running.seen plain.step) (row_of running.seen plain) i ++
+                (left.traced style line.0 i).text;
             outcome = (left.traced style line.0 i).outcome;
           })
           ∙ ap well (sym (append_assoc (line_text style row) (flat_map (λ it. line_text style it) left.rows) (last_text style.columns left.counts)));
@@ -277,11 +287,14 @@ follows_step explained running line lines word words read plain out text said at
           let next : (more : ℕ) → test_from explained more false (behind_line after) lines ≡ judged_by (front ++ reply ∷ behind_it) more others =
           λ more.
           left.tested (front ++ reply ∷ []) more
-          ∙ (λ i. judged_by (append_assoc front (reply ∷ []) behind_it i) more (expectations_from explained (place_next front reply i) (behind_line after) lines)) in
+          ∙ (λ i. judged_by (append_assoc front (reply ∷ []) behind_it i) more
+          (expectations_from explained (place_next front reply i) (behind_line after) lines)) in
           tested_read explained running line lines count word words read (Some plain) said at some
           ∙ judged_so explained (front ++ reply ∷ behind_it) line.0 (length front) count running.seen (Some plain) reply others
-          (λ more. test_from explained more false (behind_line after) lines) read.expected (at_place front reply behind_it) (line_at_place front reply behind_it) next
-          ∙ (λ i. judged_by (front ++ sym report_is i) count (sym (expected explained (length front) running line lines word words read (Some plain) said at some) i));
+          (λ more. test_from explained more false (behind_line after) lines) read.expected (at_place front reply behind_it)
+          (line_at_place front reply behind_it) next
+          ∙ (λ i. judged_by (front ++ sym report_is i) count (sym (expected explained (length front) running line lines word words read
+          (Some plain) said at some) i));
     }
 
 -- ---- The last line
@@ -299,7 +312,8 @@ no_answers known running (line ∷ lines) right = by_words (script_words line.1)
     by_words [] none right behind_it = ap (answer_line (behind_line running) line (λ next. answers_from next lines)) none ∙ behind_it right
     by_words (word ∷ words) said right behind_it = absurd (cc right)
 
-follows_end : (explained : Explaining) (known : Known) (running : Running) (line : Line) (lines : List Line) (word : List ℕ) (words : List (List ℕ)) (read : LineRead)
+follows_end : (explained : Explaining) (known : Known) (running : Running) (line : Line) (lines : List Line) (word : List ℕ) (words : List (List ℕ))
+    (read : LineRead)
     (out text : List ℕ)
     → script_words line.1 ≡ word ∷ words → read_at running (parts_of (word ∷ words)) ≡ Ok read → read.step ≡ None → faults_from known true lines ≡ []
     → Follows explained true running lines (out ++ []) text
@@ -350,7 +364,8 @@ Followed explained past known lines =
 pub follows : (explained : Explaining) (lines : List Line) → CleanLines lines → (past : Bool) (known : Known) → Followed explained past known lines
 unfolding plain_from faults_from
 follows explained [] clean past known right running out text is = follows_none explained past running out text is
-follows explained (line ∷ lines) clean true known right running out text is = by_words (script_words line.1) refl right is (follows explained lines clean.1 true known)
+follows explained (line ∷ lines) clean true known right running out text is = by_words (script_words line.1) refl right is
+    (follows explained lines clean.1 true known)
   where
     by_words : (words : List (List ℕ)) → script_words line.1 ≡ words → faults_at known true line.0 (λ names past. faults_from names past lines) words ≡ []
         → plain_line (behind_line running) line out (λ more next. plain_from more next lines) words ≡ well text → Followed explained true known lines

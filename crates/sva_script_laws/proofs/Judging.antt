@@ -31,7 +31,8 @@ place_next (first ∷ front) line = let more = place_next front line in omega (a
 -- ---- A line's expectation
 
 -- what a line expects is judged by the line of the report at its place
-pub judged_so : (explained : Explaining) (report : List (List ℕ)) (line place count : ℕ) (seen : Wire) (step : Option Plain) (answer : List ℕ) (others : List Expectation)
+pub judged_so : (explained : Explaining) (report : List (List ℕ)) (line place count : ℕ) (seen : Wire) (step : Option Plain) (answer : List ℕ)
+    (others : List Expectation)
     (rest : ℕ → Said)
     (expected : Option (List ℕ))
     → slice_get report place ≡ Some answer → slice_index_or report place [] ≡ answer → ((more : ℕ) → rest more ≡ judged_by report more others)
@@ -46,7 +47,8 @@ judged_so explained report line place count seen step answer others rest (Some e
     (sym (ap (λ found. option_map_or (λ a. are_as_expected (words_of (drop 1 expected)) (words_of a)) found false) at))
 
 -- and stands among the lines that say what they expect
-pub expecting_so : (explained : Explaining) (line place : ℕ) (text : List ℕ) (seen : Wire) (step : Option Plain) (expected : Option (List ℕ)) (words : List (List ℕ))
+pub expecting_so : (explained : Explaining) (line place : ℕ) (text : List ℕ) (seen : Wire) (step : Option Plain) (expected : Option (List ℕ))
+    (words : List (List ℕ))
     (others : List Expectation) (left : List Line)
     → expects words ≡ is_some expected
     → map (λ (it : Expectation). it.line) others ≡ map (λ (l : Line). l.0) left

@@ -57,7 +57,8 @@ reported config steps fit =
     (fit_report config steps fits).0
     ∙ (λ i. flat_map (λ reply. ended (reply_text reply)) (runs.0 i) ++ ended (counted config steps fits i))
 
-pub lines_are : (explained : Explaining) (config : Config) (lines : List Line) (plain : List ℕ) (begins : Begins explained config lines [] plain) → lines_of plain ≡ begins.more
+pub lines_are : (explained : Explaining) (config : Config) (lines : List Line) (plain : List ℕ) (begins : Begins explained config lines [] plain)
+    → lines_of plain ≡ begins.more
 lines_are explained config lines plain begins = ap lines_of begins.whole ∙ lines_written begins.more begins.clean
 
 pub read_whole : (explained : Explaining) (config : Config) (lines : List Line) (plain : List ℕ) (begins : Begins explained config lines [] plain)
@@ -109,7 +110,8 @@ config_alone_is : (text plain : List ℕ) (run : Runs text plain) → first_conf
 config_alone_is text plain run =
     ap (λ t. cond t (Err too_large) (config_alone (config_in 0 (lines_from 1 text)))) run.small ∙ ap config_alone run.found
 
-test_is : (explained : Explaining) (text plain : List ℕ) (run : Runs text plain) → test_of explained text ≡ test_from explained 0 false (start run.config) (lines_from 1 text)
+test_is : (explained : Explaining) (text plain : List ℕ) (run : Runs text plain) → test_of explained text ≡ test_from explained 0 false
+    (start run.config) (lines_from 1 text)
 test_is explained text plain run =
     let whole : Config → Said = λ config. test_from explained 0 false (start config) (lines_from 1 text) in
     ap (tested explained text) (config_alone_is text plain run)

@@ -41,7 +41,8 @@ no_config text long =
     ap (λ t. cond (t || ltb 65536 (length (lines_of text))) (Err large) (config_alone (config_in 0 (lines_from 1 text))))
     (lt-ltb 1048576 (length text) long)
 
-test_front : (explained : Explaining) (text : List ℕ) (long : Bool) → ltb 1048576 (length text) ≡ long → test_of explained (take 1048577 text) ≡ test_of explained text
+test_front : (explained : Explaining) (text : List ℕ) (long : Bool) → ltb 1048576 (length text) ≡ long → test_of explained (take 1048577 text)
+    ≡ test_of explained text
 test_front explained text true e =
     let long : 1048576 < length text = grind (arith, lt-ltb) in
     let front : 1048576 < length (take 1048577 text) = omega (arith, length-take 1048577 text) in

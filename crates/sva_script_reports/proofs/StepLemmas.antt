@@ -71,14 +71,16 @@ plain_wrong before after line words text expected out rest wrong takes =
 
 -- ---- The test
 
-test_wrong_by : (explained : Explaining) (before after : Running) (line : ℕ) (words : List (List ℕ)) (text expected : List ℕ) (count : ℕ) (rest : ℕ → Bool → At → Said)
+test_wrong_by : (explained : Explaining) (before after : Running) (line : ℕ) (words : List (List ℕ)) (text expected : List ℕ) (count : ℕ)
+    (rest : ℕ → Bool → At → Said)
     (read : Result LineRead Wrong) (wrong : Wrong) → TakesRead before line (parts_of words) after text expected read (Err (stop.Wrong wrong))
     → test_read explained before line words count rest read ≡ faulty (fault_of before.known line words wrong ∷ [])
 test_wrong_by explained before after line words text expected count rest (Ok read) wrong takes = absurd takes
 test_wrong_by explained before after line words text expected count rest (Err found) wrong takes =
     ap (λ w. faulty (fault_of before.known line words w ∷ [])) (sym takes.0)
 
-pub test_wrong : (explained : Explaining) (before after : Running) (line : ℕ) (words : List (List ℕ)) (text expected : List ℕ) (count : ℕ) (rest : ℕ → Bool → At → Said) (wrong : Wrong)
+pub test_wrong : (explained : Explaining) (before after : Running) (line : ℕ) (words : List (List ℕ)) (text expected : List ℕ) (count : ℕ)
+    (rest : ℕ → Bool → At → Said) (wrong : Wrong)
     → Takes before line (parts_of words) after text expected (Err (stop.Wrong wrong))
     → test_step explained before line words count rest ≡ faulty (fault_of before.known line words wrong ∷ [])
 test_wrong explained before after line words text expected count rest wrong takes =
@@ -143,7 +145,8 @@ abbrev pub whys_of : (explained : Explaining) → Wire → Option Taken → List
 whys_of explained wire None = []
 whys_of explained wire (Some taken) = explained wire taken.step taken.told.reply
 
-whys_are : (explained : Explaining) (before after : Running) (line : ℕ) (name : Option (List ℕ)) (step : Option Plain) (taken : Option Taken) → TellsStep before.seen step taken
+whys_are : (explained : Explaining) (before after : Running) (line : ℕ) (name : Option (List ℕ)) (step : Option Plain) (taken : Option Taken)
+    → TellsStep before.seen step taken
     → after ≡ behind before line name step → held_at explained before.seen step ≡ whys_of explained after.seen taken
 whys_are explained before after line name None None tells is = refl
 whys_are explained before after line name (Some plain) (Some taken) tells is =
@@ -156,11 +159,13 @@ by_expected : (line : ℕ) (told answer whys expected : List ℕ) (count : ℕ) 
 by_expected line told answer whys expected count rest None is = refl
 by_expected line told answer whys expected count rest (Some text) is = ap (λ own. judged count line told answer whys (drop 1 own) rest) (sym is)
 
-made_by : (explained : Explaining) (before after : Running) (line : ℕ) (words : List (List ℕ)) (text expected : List ℕ) (count : ℕ) (rest : ℕ → Bool → At → Said)
+made_by : (explained : Explaining) (before after : Running) (line : ℕ) (words : List (List ℕ)) (text expected : List ℕ) (count : ℕ)
+    (rest : ℕ → Bool → At → Said)
     (read : Result LineRead Wrong) (taken : Option Taken) → read_at before (parts_of words) ≡ read
     → TakesRead before line (parts_of words) after text expected read (Ok taken)
     → test_read explained before line words count rest read
-    ≡ test_made (not (is_none (parts_of words).expected)) line (step_told taken text) (answered before.seen taken) (whys_of explained after.seen taken) expected count
+    ≡ test_made (not (is_none (parts_of words).expected)) line (step_told taken text) (answered before.seen taken)
+    (whys_of explained after.seen taken) expected count
     (λ more. rest more (is_none taken) (behind_line after))
 made_by explained before after line words text expected count rest (Ok read) taken is takes =
     let kind = read_kind before.known (link_of (Some before.seen)) (parts_of words) read is in
@@ -170,14 +175,17 @@ made_by explained before after line words text expected count rest (Ok read) tak
     ∙ by_expected line (told_step read.step) (answer_at before.seen read.step) (held_at explained before.seen read.step) expected count
     (λ more. rest more (is_none read.step) (behind_line after)) read.expected takes.3
     ∙ (λ i. test_made (not (sym kind i)) line (told_is before read.step taken text takes.0 takes.2 i) (answer_is before read.step taken takes.0 i)
-    (whys_are explained before after line (parts_of words).name read.step taken takes.0 takes.1 i) expected count (λ more. rest more (last i) (behind_line after)))
+    (whys_are explained before after line (parts_of words).name read.step taken takes.0 takes.1 i) expected count
+    (λ more. rest more (last i) (behind_line after)))
 made_by explained before after line words text expected count rest (Err wrong) taken is takes = absurd takes.0
 
-pub test_done : (explained : Explaining) (before after : Running) (line : ℕ) (words : List (List ℕ)) (text expected : List ℕ) (count : ℕ) (rest : ℕ → Bool → At → Said)
+pub test_done : (explained : Explaining) (before after : Running) (line : ℕ) (words : List (List ℕ)) (text expected : List ℕ) (count : ℕ)
+    (rest : ℕ → Bool → At → Said)
     (taken : Option Taken)
     → Takes before line (parts_of words) after text expected (Ok taken)
     → test_step explained before line words count rest
-    ≡ test_made (not (is_none (parts_of words).expected)) line (step_told taken text) (answered before.seen taken) (whys_of explained after.seen taken) expected count
+    ≡ test_made (not (is_none (parts_of words).expected)) line (step_told taken text) (answered before.seen taken)
+    (whys_of explained after.seen taken) expected count
     (λ more. rest more (is_none taken) (behind_line after))
 test_done explained before after line words text expected count rest taken takes =
     made_by explained before after line words text expected count rest (read_at before (parts_of words)) taken refl takes
@@ -217,7 +225,8 @@ plain_failed before after line words given text expected old cleared new known w
     )
 
 -- the same of a test
-pub line_failed : (explained : Explaining) (before after : Running) (line : ℕ) (words given : List (List ℕ)) (told answer expected old new : List ℕ) (is_last : Bool) (known : Known)
+pub line_failed : (explained : Explaining) (before after : Running) (line : ℕ) (words given : List (List ℕ)) (told answer expected old new : List ℕ)
+    (is_last : Bool) (known : Known)
     (taken : Taken) (wrong : Wrong)
     → given ≡ words → AnswersLine before line given after told answer expected taken (Err (stop.Wrong wrong)) → known ≡ after.known
     → new ≡ old ++ fault_text (fault_of known line given wrong)
@@ -231,7 +240,8 @@ line_failed explained before after line words given told answer expected old new
     )
 
 -- an answer that differs, and what holds the step back
-pub line_differs : (explained : Explaining) (before after : Running) (line : ℕ) (words given : List (List ℕ)) (told answer expected shown old missed new : List ℕ) (is_last : Bool)
+pub line_differs : (explained : Explaining) (before after : Running) (line : ℕ) (words given : List (List ℕ))
+    (told answer expected shown old missed new : List ℕ) (is_last : Bool)
     (taken : Taken)
     → given ≡ words → AnswersLine before line given after told answer expected taken (Ok is_last) → is_none (parts_of given).expected ≡ false
     → shown ≡ drop 1 expected → is_expected shown answer ≡ false → missed ≡ old ++ miss_text line told shown answer

@@ -44,7 +44,8 @@ taken_by explained before after line words text expected out rest (Ok read) take
 taken_by explained before after line words text expected out rest (Err wrong) taken takes = absurd takes.0
 
 -- it was taken
-pub why_taken : (explained : Explaining) (before after : Running) (line : ℕ) (words given : List (List ℕ)) (text expected old new : List ℕ) (taken : Option Taken) → given ≡ words
+pub why_taken : (explained : Explaining) (before after : Running) (line : ℕ) (words given : List (List ℕ)) (text expected old new : List ℕ)
+    (taken : Option Taken) → given ≡ words
     → Takes before line (parts_of given) after text expected (Ok taken) → new ≡ old ++ case_taken explained line text after taken
     → StepsWhy explained before line words old new after (Ok true)
 why_taken explained before after line words given text expected old new taken same takes is =
@@ -58,10 +59,12 @@ wrong_by : (explained : Explaining) (before after : Running) (line : ℕ) (words
     (read : Result LineRead Wrong) (wrong : Wrong) → TakesRead before line (parts_of words) after text expected read (Err (stop.Wrong wrong))
     → why_read explained before line words out rest read ≡ faulty (fault_of before.known line words wrong ∷ [])
 wrong_by explained before after line words text expected out rest (Ok read) wrong takes = absurd takes
-wrong_by explained before after line words text expected out rest (Err found) wrong takes = ap (λ w. faulty (fault_of before.known line words w ∷ [])) (sym takes.0)
+wrong_by explained before after line words text expected out rest (Err found) wrong takes = ap
+    (λ w. faulty (fault_of before.known line words w ∷ [])) (sym takes.0)
 
 -- it is wrong
-pub why_failed : (explained : Explaining) (before after : Running) (line : ℕ) (words given : List (List ℕ)) (text expected old cleared new : List ℕ) (known : Known) (wrong : Wrong)
+pub why_failed : (explained : Explaining) (before after : Running) (line : ℕ) (words given : List (List ℕ)) (text expected old cleared new : List ℕ)
+    (known : Known) (wrong : Wrong)
     → given ≡ words → Takes before line (parts_of given) after text expected (Err (stop.Wrong wrong)) → cleared ≡ [] → known ≡ after.known
     → new ≡ cleared ++ fault_text (fault_of known line given wrong)
     → StepsWhy explained before line words old new after (Ok false)
@@ -78,13 +81,15 @@ why_failed explained before after line words given text expected old cleared new
 
 -- ---- All lines
 
-follows : (explained : Explaining) (before : At) (out : List ℕ) (all left : List Line) (line : Line) (words : List (List ℕ)) → all ≡ line ∷ left → words ≡ script_words line.1
+follows : (explained : Explaining) (before : At) (out : List ℕ) (all left : List Line) (line : Line) (words : List (List ℕ)) → all ≡ line ∷ left
+    → words ≡ script_words line.1
     → why_from explained out before all ≡ why_line explained before line.0 out (λ text next. why_from explained text next left) words
 unfolding why_from
 follows explained before out all left line words is same =
     ap (why_from explained out before) is ∙ ap (why_line explained before line.0 out (λ text next. why_from explained text next left)) (sym same)
 
-pub why_next : (explained : Explaining) (whole : Said) (before after : At) (line : Line) (words : List (List ℕ)) (out new : List ℕ) (all left : List Line) (went : Bool)
+pub why_next : (explained : Explaining) (whole : Said) (before after : At) (line : Line) (words : List (List ℕ)) (out new : List ℕ)
+    (all left : List Line) (went : Bool)
     → whole ≡ why_from explained out before all → all ≡ line ∷ left → words ≡ script_words line.1 → went ≡ true
     → WordsWhy explained before line.0 words out new after (Ok went) → whole ≡ why_from explained new after left
 why_next explained whole before after line words out new all left true so_far is same goes says =
@@ -92,7 +97,8 @@ why_next explained whole before after line words out new all left true so_far is
     ∙ ap (λ l. why_from explained l after left) (sym says.1)
 why_next explained whole before after line words out new all left false so_far is same goes says = absurd (cc goes)
 
-pub why_stopped : (explained : Explaining) (whole : Said) (before after : At) (line : Line) (words : List (List ℕ)) (out new : List ℕ) (all left : List Line) (went : Bool)
+pub why_stopped : (explained : Explaining) (whole : Said) (before after : At) (line : Line) (words : List (List ℕ)) (out new : List ℕ)
+    (all left : List Line) (went : Bool)
     → whole ≡ why_from explained out before all → all ≡ line ∷ left → words ≡ script_words line.1 → went ≡ false
     → WordsWhy explained before line.0 words out new after (Ok went) → IsSaid whole new (Ok Faulted)
 why_stopped explained whole before after line words out new all left true so_far is same stops says = absurd (cc stops)

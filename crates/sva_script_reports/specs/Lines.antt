@@ -65,7 +65,8 @@ AnswersLine before line words after told answer expected taken (Ok is_last) =
 AnswersLine before line words after told answer expected taken (Err stop.Memory) = Unit {0}
 AnswersLine before line words after told answer expected taken (Err (stop.Wrong wrong)) =
     (after ≡ before)
-    × ((explained : Explaining) (count : ℕ) (rest : ℕ → Bool → At → Said) → test_step explained before line words count rest ≡ faulty (fault_of before.known line words wrong ∷ []))
+    × ((explained : Explaining) (count : ℕ) (rest : ℕ → Bool → At → Said) → test_step explained before line words count rest ≡ faulty
+    (fault_of before.known line words wrong ∷ []))
 
 -- ---- The words of a line, be it a step, the config or nothing
 
@@ -79,7 +80,8 @@ WordsPlain before line old new after (Ok false) =
 WordsPlain before line old new after (Err lack) = Unit {0}
 
 -- the answer is as expected, or nothing is expected, or it differs or the line is wrong, and that alone is written
-abbrev pub ComparesWords : Explaining → At → (was_past : Bool) → (line : ℕ) → List (List ℕ) → (old new : List ℕ) → (is_past : Bool) → At → Result Compared AllocError
+abbrev pub ComparesWords : Explaining → At → (was_past : Bool) → (line : ℕ) → List (List ℕ) → (old new : List ℕ) → (is_past : Bool) → At
+    → Result Compared AllocError
     → Type 0
 ComparesWords explained before was_past line words old new is_past after (Ok Same) =
     (new ≡ old) × ((text : List ℕ) (count : ℕ) (rest : ℕ → Bool → At → Said)

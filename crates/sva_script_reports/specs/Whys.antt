@@ -41,7 +41,8 @@ cases_text text = text
 
 -- what a line comes to whose words are these; `rest` is what those behind it come to, from what was written then
 abbrev pub why_read : Explaining → Running → (line : ℕ) → List (List ℕ) → (out : List ℕ) → (rest : List ℕ → At → Said) → Result LineRead Wrong → Said
-why_read explained running line words out rest (Ok read) = rest (out ++ case_of explained running.seen line read.step) (past_line running line (parts_of words) read)
+why_read explained running line words out rest (Ok read) = rest (out ++ case_of explained running.seen line read.step)
+    (past_line running line (parts_of words) read)
 why_read explained running line words out rest (Err wrong) = faulty (fault_of running.known line words wrong ∷ [])
 
 abbrev pub why_step : Explaining → Running → (line : ℕ) → List (List ℕ) → (out : List ℕ) → (rest : List ℕ → At → Said) → Said

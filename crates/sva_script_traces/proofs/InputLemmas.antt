@@ -29,7 +29,8 @@ input_begins explained style (Some input) written = ([], Appends-nil written, re
 
 -- what is said of a piece comes next
 goes_on : (explained : Explaining) (style : Style) (input left rest text : List ℕ) (before after : Tracer) (held kept piece out : List ℕ)
-    → trace_of explained style input ≡ then_said text (trace_rest explained before (held ++ left)) → left ≡ piece ++ rest → TracesPiece explained before held piece after kept [] out
+    → trace_of explained style input ≡ then_said text (trace_rest explained before (held ++ left)) → left ≡ piece ++ rest
+    → TracesPiece explained before held piece after kept [] out
     → trace_of explained style input ≡ then_said (text ++ out) (trace_rest explained after (kept ++ rest))
 goes_on explained style input left rest text before after held kept piece out so_far read said =
     so_far ∙ ap (λ l. then_said text (trace_rest explained before (held ++ l))) read ∙ ap (then_said text) (said.2 rest)
@@ -40,10 +41,12 @@ goes_on explained style input left rest text before after held kept piece out so
 pub piece_said : (explained : Explaining) (before after : Tracer) (held piece kept cleared new out : List ℕ) → cleared ≡ [] → out ≡ new
     → TracesPiece explained before held piece after kept cleared new → TracesPiece explained before held piece after kept [] out
 piece_said explained before after held piece kept cleared new out none is said =
-    subst (λ old. TracesPiece explained before held piece after kept old out) none (subst (TracesPiece explained before held piece after kept cleared) (sym is) said)
+    subst (λ old. TracesPiece explained before held piece after kept old out) none
+    (subst (TracesPiece explained before held piece after kept cleared) (sym is) said)
 
 -- a piece was read, and what is said of it was written
-pub input_goes_on : (explained : Explaining) (style : Style) (input left rest written now new : Option (List ℕ)) (before after : Tracer) (held kept piece out : List ℕ)
+pub input_goes_on : (explained : Explaining) (style : Style) (input left rest written now new : Option (List ℕ)) (before after : Tracer)
+    (held kept piece out : List ℕ)
     → TracesInput explained style input left written now before held → Consumes left rest piece → TracesPiece explained before held piece after kept [] out
     → Appends now new out → TracesInput explained style input rest written new after kept
 input_goes_on explained style None left rest written now new before after held kept piece out so_far read said appended = tt
@@ -56,7 +59,8 @@ input_goes_on explained style (Some input) (Some left) (Some rest) written now n
 )
 
 -- or a prefix of that was written
-pub input_breaks : (explained : Explaining) (style : Style) (input left rest written now new : Option (List ℕ)) (before after : Tracer) (held kept piece out : List ℕ)
+pub input_breaks : (explained : Explaining) (style : Style) (input left rest written now new : Option (List ℕ)) (before after : Tracer)
+    (held kept piece out : List ℕ)
     (fault : DriveFault) → TracesInput explained style input left written now before held → Consumes left rest piece
     → TracesPiece explained before held piece after kept [] out → AppendsPrefix now new out
     → IfSome input (λ all. Prints (trace_of explained style all) written new (Err fault))
@@ -86,10 +90,12 @@ all_read : (explained : Explaining) (style : Style) (input left rest text : List
     → trace_of explained style input ≡ then_said text (trace_rest explained tracer held)
 all_read explained style input left rest text tracer held piece so_far read none end =
     let gone : left ≡ [] = read ∙ ap (λ l. l ++ rest) none ∙ end in
-    so_far ∙ ap (λ l. then_said text (trace_rest explained tracer (held ++ l))) gone ∙ ap (λ l. then_said text (trace_rest explained tracer l)) (append-nil held)
+    so_far ∙ ap (λ l. then_said text (trace_rest explained tracer (held ++ l))) gone ∙ ap (λ l. then_said text (trace_rest explained tracer l))
+    (append-nil held)
 
 -- and what stands at the end was written
-pub input_ends : (explained : Explaining) (style : Style) (input left rest written now new : Option (List ℕ)) (tracer : Tracer) (held piece out : List ℕ) (outcome : Outcome)
+pub input_ends : (explained : Explaining) (style : Style) (input left rest written now new : Option (List ℕ)) (tracer : Tracer)
+    (held piece out : List ℕ) (outcome : Outcome)
     → TracesInput explained style input left written now tracer held → Consumes left rest piece → piece ≡ [] → IsAtEnd rest
     → out ≡ (trace_rest explained tracer held).text → outcome ≡ (trace_rest explained tracer held).outcome → Appends now new out
     → IfSome input (λ all. Prints (trace_of explained style all) written new (Ok outcome))

@@ -73,7 +73,8 @@ config_refused now seen (Err fault) config old mid new same none reads unfit tol
 row_is : (wire : Wire) (plain : Plain) (taken : Taken) → IsTaken wire plain.step taken → row_seen taken ≡ row_of wire plain
 row_is wire plain taken is = λ i. record { step = is.is_step i; told = is.told i; delivered = is.delivered i; first_sent = is.first_sent i }
 
-row_by : (explained : Explaining) (now : Tracer) (running after : Running) (words : List (List ℕ)) (text expected : List ℕ) (taken : Taken) (read : Result LineRead Wrong)
+row_by : (explained : Explaining) (now : Tracer) (running after : Running) (words : List (List ℕ)) (text expected : List ℕ) (taken : Taken)
+    (read : Result LineRead Wrong)
     → TakesRead running now.lines (parts_of words) after text expected read (Ok (Some taken))
     → trace_read explained now.style now.tracing running now.lines words read
     ≡ (
@@ -98,15 +99,18 @@ row_by explained now running after words text expected taken (Ok read) takes = b
         ))
 row_by explained now running after words text expected taken (Err wrong) takes = absurd takes.0
 
-some_line : (explained : Explaining) (now : Tracer) (words : List (List ℕ)) (running : Running) (run : Option Running) → run ≡ Some running → now.tracing.has_ended ≡ false
-    → trace_words explained now.style now.tracing now.lines words run ≡ trace_read explained now.style now.tracing running now.lines words (read_at running (parts_of words))
+some_line : (explained : Explaining) (now : Tracer) (words : List (List ℕ)) (running : Running) (run : Option Running) → run ≡ Some running
+    → now.tracing.has_ended ≡ false
+    → trace_words explained now.style now.tracing now.lines words run ≡ trace_read explained now.style now.tracing running now.lines words
+    (read_at running (parts_of words))
 some_line explained now words running run is open_yet =
     ap (trace_words explained now.style now.tracing now.lines words) is
     ∙ ap (λ t. cond t (is_wrong now.tracing (fault_of running.known now.lines words (at_word 0 wanted.NoLine)))
     (trace_read explained now.style now.tracing running now.lines words (read_at running (parts_of words)))) open_yet
 
 -- its row was appended
-pub row_told : (explained : Explaining) (now seen : Tracer) (running after : Running) (words : List (List ℕ)) (text expected old new : List ℕ) (taken : Taken) → seen ≡ now
+pub row_told : (explained : Explaining) (now seen : Tracer) (running after : Running) (words : List (List ℕ)) (text expected old new : List ℕ)
+    (taken : Taken) → seen ≡ now
     → now.tracing.run ≡ Some running → now.tracing.has_ended ≡ false
     → Takes running now.lines (parts_of words) after text expected (Ok (Some taken)) → new ≡ old
     ++ step_text explained now.style now.lines text after.seen (row_seen taken)

@@ -81,7 +81,8 @@ rest_of explained old line more none =
 
 -- a line that was taken, and what follows it
 pub line_taken : (explained : Explaining) (old new : Tracer) (line more before after : List ℕ) → NoEnd line → TracesLine explained old line new before after
-    → trace_rest explained old (line ++ 10 ∷ more) ≡ then_said (trace_line explained old.style old.tracing (old.lines + 1) (script_words line)).1 (trace_rest explained new more)
+    → trace_rest explained old (line ++ 10 ∷ more) ≡ then_said (trace_line explained old.style old.tracing (old.lines + 1) (script_words line)).1
+    (trace_rest explained new more)
 line_taken explained old new line more before after none taken =
     rest_of explained old line more none
     ∙ (λ i. then_said (trace_line explained old.style old.tracing (old.lines + 1) (script_words line)).1
@@ -92,7 +93,8 @@ pub ended_here : (explained : Explaining) (old : Tracer) → trace_rest explaine
 unfolding trace_from
 ended_here explained old = refl
 
-pub ended_last : (explained : Explaining) (old new : Tracer) (line before after : List ℕ) → 0 < length line → NoEnd line → TracesLine explained old line new before after
+pub ended_last : (explained : Explaining) (old new : Tracer) (line before after : List ℕ) → 0 < length line → NoEnd line
+    → TracesLine explained old line new before after
     → trace_rest explained old line
     ≡ then_said (trace_line explained old.style old.tracing (old.lines + 1) (script_words line)).1 (end_said new.style new.tracing new.lines)
 unfolding trace_from
@@ -110,7 +112,8 @@ pub record TracedSoFar (explained : Explaining) (start now : Tracer) (held piece
   pub whole : (more : List ℕ) → trace_rest explained start (held ++ (piece ++ more)) ≡ then_said text (trace_rest explained now (left ++ (rest ++ more)))
   pub no_end : NoEnd left
 
-pub piece_start : (explained : Explaining) (start : Tracer) (held piece before : List ℕ) → NoEnd held → TracedSoFar explained start start held piece held piece before before
+pub piece_start : (explained : Explaining) (start : Tracer) (held piece before : List ℕ) → NoEnd held
+    → TracedSoFar explained start start held piece held piece before before
 piece_start explained start held piece before none = record { text = []; appended = sym (append-nil before); whole = λ more. refl; no_end = none }
 
 -- the next line ends in what is left
@@ -154,14 +157,18 @@ line_told explained old mid new line words before after is same some traces =
 
 -- ---- The end
 
-pub end_here : (explained : Explaining) (old : Tracer) (held before after : List ℕ) → held ≡ [] → after ≡ before ++ end_of old.style old.tracing old.lines old.tracing.run
+pub end_here : (explained : Explaining) (old : Tracer) (held before after : List ℕ) → held ≡ [] → after ≡ before
+    ++ end_of old.style old.tracing old.lines old.tracing.run
     → after ≡ before ++ (trace_rest explained old held).text
-end_here explained old held before after none told = told ∙ ap (λ (said : Said). before ++ said.text) (sym (ap (trace_rest explained old) none ∙ ended_here explained old))
+end_here explained old held before after none told = told ∙ ap (λ (said : Said). before ++ said.text)
+    (sym (ap (trace_rest explained old) none ∙ ended_here explained old))
 
-pub ends_here : (explained : Explaining) (old : Tracer) (held : List ℕ) → held ≡ [] → end_outcome old.tracing old.tracing.run ≡ (trace_rest explained old held).outcome
+pub ends_here : (explained : Explaining) (old : Tracer) (held : List ℕ) → held ≡ [] → end_outcome old.tracing old.tracing.run ≡
+    (trace_rest explained old held).outcome
 ends_here explained old held none = ap (λ (said : Said). said.outcome) (sym (ap (trace_rest explained old) none ∙ ended_here explained old))
 
-pub end_last : (explained : Explaining) (old new : Tracer) (line before mid after : List ℕ) → 0 < length line → NoEnd line → TracesLine explained old line new before mid
+pub end_last : (explained : Explaining) (old new : Tracer) (line before mid after : List ℕ) → 0 < length line → NoEnd line
+    → TracesLine explained old line new before mid
     → after ≡ mid ++ end_of new.style new.tracing new.lines new.tracing.run → after ≡ before ++ (trace_rest explained old line).text
 end_last explained old new line before mid after some none taken told =
     let text = (trace_line explained old.style old.tracing (old.lines + 1) (script_words line)).1 in
@@ -169,9 +176,11 @@ end_last explained old new line before mid after some none taken told =
     told ∙ ap (λ l. l ++ end) taken.3 ∙ append_assoc before text end
     ∙ ap (λ (said : Said). before ++ said.text) (sym (ended_last explained old new line before mid some none taken))
 
-pub ends_last : (explained : Explaining) (old new : Tracer) (line before mid : List ℕ) → 0 < length line → NoEnd line → TracesLine explained old line new before mid
+pub ends_last : (explained : Explaining) (old new : Tracer) (line before mid : List ℕ) → 0 < length line → NoEnd line
+    → TracesLine explained old line new before mid
     → end_outcome new.tracing new.tracing.run ≡ (trace_rest explained old line).outcome
-ends_last explained old new line before mid some none taken = ap (λ (said : Said). said.outcome) (sym (ended_last explained old new line before mid some none taken))
+ends_last explained old new line before mid some none taken = ap (λ (said : Said). said.outcome)
+    (sym (ended_last explained old new line before mid some none taken))
 
 pub nothing_held : (held : List ℕ) → length held ≡ 0 → held ≡ []
 nothing_held [] none = refl

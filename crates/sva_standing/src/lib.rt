@@ -1,5 +1,5 @@
 //! Where things stand that hold a step back: messages in flight, ITags that are busy, waits that aren't done, resets,
-//! withheld frames. A line for each, with a step in brackets that would be accepted.
+//! withheld frames, translation requests that are out. A line for each, with a step in brackets that would be accepted.
 #![tactic(auto)]
 
 mod itags;

@@ -14,8 +14,8 @@ use sva_accepted::{can_end, can_finish_group, is_unfinished, is_use_of, pasid_st
 use sva_lines::{end_line, put_field, put_if, put_stage, put_word};
 use sva_snapshot::{Binding, Endpoint, GroupPlace, PasidState, RequestTag, Snapshot, UseSlot};
 use sva_standing::{
-    Level, Topic, below, put_about, put_bracket_of_two, put_indent, put_reset_if, put_start,
-    put_use,
+    Level, Topic, below, put_about, put_bracket_of_two, put_indent, put_out, put_reset_if,
+    put_start, put_use,
 };
 
 /// Appends the last request of a group in brackets.

@@ -163,7 +163,8 @@ returns-in-Explore-clause-report g c =
     subst (λ a. Reports a input old new c.explored.result) (sym c.in-Explore.is) (
       found.result,
       c.explored.ensures,
-      (reported (λ text. Explores why_of text (wanted_of c.in-Explore.most c.in-Explore.whys c.in-Explore.few_ends) old new found.result) input old new found.result
+      (reported (λ text. Explores why_of text (wanted_of c.in-Explore.most c.in-Explore.whys c.in-Explore.few_ends) old new found.result) input old
+          new found.result
           (subst (λ wanted. IfSome input (λ text. Explores why_of text wanted old new found.result)) c.wanted_of-wanted.ensures found.ensures.explored)
           (λ read. ap (λ told. g.W.Write.contents told.inner) (found.ensures.read read).0)),
     )

@@ -13,7 +13,8 @@ loop-place-preserved g c =
     let found = c.witness_of-witness.ensures
     ∙ ap (λ (asked : Asked). witness_of c.args.found.now asked.is_of_ends c.loop-place.place) (sym c.index-asked-place.is) in
     let counts = c.with_witness-before.ensures ∙ ap (with_witness before) found in record {
-      said = witness_next g.E.Explains.explained race threads c.args.whys c.args.found.now c.args.asked.now c.loop-place.place before c.with_witness-before.result
+      said = witness_next g.E.Explains.explained race threads c.args.whys c.args.found.now c.args.asked.now c.loop-place.place before
+          c.with_witness-before.result
           c.index-asked-place.result c.loop-place.out.items c.put_witness_if.new.out.items _ c.loop-place-test.true (sym c.index-asked-place.is) counts
           c.loop-place.invariant.said
           (c.in_ok-put_witness_if.ensures ∙ ap (λ o. c.loop-place.out.items ++ witness_if g.E.Explains.explained race threads c.args.whys before o) found);

@@ -20,7 +20,8 @@ loop-number-preserved-in-Same g c =
     subst (λ r. ComparesWords g.E.Explains.explained before c.loop-number.is_past c.in-Some.number words c.loop-number.out.items c.test_words.new.out.items
     c.test_words.new.is_past after (Ok r)) c.in-Same.is c.in_ok-test_words.ensures in
     record {
-      whole = test_same g.E.Explains.explained _ c.loop-number.is_past c.test_words.new.is_past before after (c.in-Some.number, c.in-Some.line.now) words c.loop-number.out.items
+      whole = test_same g.E.Explains.explained _ c.loop-number.is_past c.test_words.new.is_past before after
+          (c.in-Some.number, c.in-Some.line.now) words c.loop-number.out.items
           c.test_words.new.out.items _ (lines_from (c.next.new.self.number + 1) c.next.new.self.rest.now) c.loop-number.count (c.loop-number.count + 1)
           c.loop-number.invariant.whole c.in-Some.ensures.line c.in_ok-split.ensures refl compares;
       out = compares.0 ∙ c.loop-number.invariant.out;
@@ -37,7 +38,8 @@ loop-number-preserved g c =
     subst (λ r. ComparesWords g.E.Explains.explained before c.loop-number.is_past c.in-Some.number words c.loop-number.out.items c.test_words.new.out.items
     c.test_words.new.is_past after (Ok r)) c.in-NotExpected.is c.in_ok-test_words.ensures in
     record {
-      whole = test_passed g.E.Explains.explained _ c.loop-number.is_past c.test_words.new.is_past before after (c.in-Some.number, c.in-Some.line.now) words c.loop-number.out.items
+      whole = test_passed g.E.Explains.explained _ c.loop-number.is_past c.test_words.new.is_past before after
+          (c.in-Some.number, c.in-Some.line.now) words c.loop-number.out.items
           c.test_words.new.out.items _ (lines_from (c.next.new.self.number + 1) c.next.new.self.rest.now) c.loop-number.count
           c.loop-number.invariant.whole c.in-Some.ensures.line
           c.in_ok-split.ensures compares;
@@ -54,7 +56,8 @@ returns-in-Differs g c =
     c.test_words.new.is_past after (Ok Differs) =
     subst (λ r. ComparesWords g.E.Explains.explained before c.loop-number.is_past c.in-Some.number words c.loop-number.out.items c.test_words.new.out.items
     c.test_words.new.is_past after (Ok r)) c.in-Differs.is c.in_ok-test_words.ensures in
-    test_stopped g.E.Explains.explained _ c.loop-number.is_past c.test_words.new.is_past before after (c.in-Some.number, c.in-Some.line.now) words c.loop-number.out.items
+    test_stopped g.E.Explains.explained _ c.loop-number.is_past c.test_words.new.is_past before after
+    (c.in-Some.number, c.in-Some.line.now) words c.loop-number.out.items
     c.test_words.new.out.items _ (lines_from (c.next.new.self.number + 1) c.next.new.self.rest.now) c.loop-number.count
     c.loop-number.invariant.whole c.in-Some.ensures.line
     c.in_ok-split.ensures c.loop-number.invariant.out compares

@@ -35,7 +35,8 @@ returns-in_ok-put_wrong-in-Err-Wrong g c =
     let given = map {A = Bor (List ℕ)} {B = List ℕ} (λ word. word.now) c.as_slice-words.result.now in
     let told : c.put_wrong.new.out.items
     ≡ c.clear.new.self.items ++ fault_text (fault_of c.names.result.now c.args.number given c.in-Err-Wrong.wrong) = search rules in
-    why_failed g.E.Explains.explained c.args.run.now c.take.new.self c.args.number _ given c.take.new.plain.items c.take.new.expected.items c.args.out.now.items c.clear.new.self.items
+    why_failed g.E.Explains.explained c.args.run.now c.take.new.self c.args.number _ given c.take.new.plain.items c.take.new.expected.items
+    c.args.out.now.items c.clear.new.self.items
     c.put_wrong.new.out.items c.names.result.now c.in-Err-Wrong.wrong
     (ap (λ ws. map {A = Bor (List ℕ)} {B = List ℕ} (λ word. word.now) ws) c.as_slice-words.ensures.value)
     (subst (λ r. Takes c.args.run.now c.args.number (parts_of given) c.take.new.self c.take.new.plain.items c.take.new.expected.items

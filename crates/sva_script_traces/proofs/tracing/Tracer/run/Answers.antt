@@ -13,7 +13,8 @@ loop-turn-init g c =
     let input = g.R.Read.remaining c.args.reader.now.inner in
     let written = g.W.Write.contents c.args.writer.now.inner in
     record {
-      traced = subst (λ (held : List ℕ). TracesInput g.E.Explains.explained style input input written written c.args.self.now held) (sym c.new-held.ensures.items)
+      traced = subst (λ (held : List ℕ). TracesInput g.E.Explains.explained style input input written written c.args.self.now held)
+          (sym c.new-held.ensures.items)
           (subst (λ (tracer : Tracer). TracesInput g.E.Explains.explained style input input written written tracer []) (sym c.requires.fresh)
           (input_begins g.E.Explains.explained style input written));
       no_end = subst NoEnd (sym c.new-held.ensures.items) refl;
@@ -39,7 +40,8 @@ returns-in_err-write_piece-clause-printed g c =
     c.as_slice.ensures.value ∙ said ∙ ap (λ l. l ++ (trace_rest g.E.Explains.explained c.loop-turn.self c.deref.result.now).text) c.clear.ensures.items
     ∙ ap (λ held. (trace_rest g.E.Explains.explained c.loop-turn.self held).text) c.deref.ensures.value in
     failed_print g.E.Explains.explained c.args.self.now.style _ _ _ c.from_residual.result c.from_residual.ensures.0
-    (λ fault. input_end_breaks g.E.Explains.explained c.args.self.now.style _ _ _ _ _ _ c.loop-turn.self c.loop-turn.held.items (take c.in-Some.count c.read_once.new.piece)
+    (λ fault. input_end_breaks g.E.Explains.explained c.args.self.now.style _ _ _ _ _ _ c.loop-turn.self c.loop-turn.held.items
+    (take c.in-Some.count c.read_once.new.piece)
     c.as_slice.result.now fault c.loop-turn.invariant.traced c.in-Some.ensures.read.2 (ap (λ n. take n c.read_once.new.piece) none)
     (c.in-Some.ensures.end (ap Some none)) out c.in_err-write_piece.ensures.written)
 
@@ -65,25 +67,29 @@ pub returns-in_err-write_piece-2-clause-printed : goal.returns-in_err-write_piec
 returns-in_err-write_piece-2-clause-printed g c =
     let piece = take c.in-Some.count c.read_once.new.piece in
     let fine = sym c.is_err-in-loop-turn.ensures.value ∙ c.if-is_err-2.false in
-    let said = piece_said g.E.Explains.explained c.loop-turn.self c.take_piece.new.self c.loop-turn.held.items piece c.take_piece.new.held.items c.clear.new.self.items
+    let said = piece_said g.E.Explains.explained c.loop-turn.self c.take_piece.new.self c.loop-turn.held.items piece c.take_piece.new.held.items
+    c.clear.new.self.items
     c.take_piece.new.out.items c.as_slice-in-loop-turn.result.now c.clear.ensures.items c.as_slice-in-loop-turn.ensures.value
     (on_ok c.take_piece.result fine c.take_piece.ensures.traced) in
     failed_print g.E.Explains.explained c.args.self.now.style _ _ _ c.from_residual-in_err-write_piece-2.result c.from_residual-in_err-write_piece-2.ensures.0
-    (λ fault. input_breaks g.E.Explains.explained c.args.self.now.style _ _ _ _ _ _ c.loop-turn.self c.take_piece.new.self c.loop-turn.held.items c.take_piece.new.held.items piece
+    (λ fault. input_breaks g.E.Explains.explained c.args.self.now.style _ _ _ _ _ _ c.loop-turn.self c.take_piece.new.self c.loop-turn.held.items
+    c.take_piece.new.held.items piece
     c.as_slice-in-loop-turn.result.now fault c.loop-turn.invariant.traced c.in-Some.ensures.read.2 said c.in_err-write_piece-2.ensures.written)
 
 pub loop-turn-preserved : goal.loop-turn-preserved
 loop-turn-preserved g c =
     let piece = take c.in-Some.count c.read_once.new.piece in
     let fine = sym c.is_err-in-loop-turn.ensures.value ∙ c.if-is_err-2.false in
-    let said = piece_said g.E.Explains.explained c.loop-turn.self c.take_piece.new.self c.loop-turn.held.items piece c.take_piece.new.held.items c.clear.new.self.items
+    let said = piece_said g.E.Explains.explained c.loop-turn.self c.take_piece.new.self c.loop-turn.held.items piece c.take_piece.new.held.items
+    c.clear.new.self.items
     c.take_piece.new.out.items c.as_slice-in-loop-turn.result.now c.clear.ensures.items c.as_slice-in-loop-turn.ensures.value
     (on_ok c.take_piece.result fine c.take_piece.ensures.traced) in
     let few = on_ok c.take_piece.result fine c.take_piece.ensures.few in
     let bound : c.in-Some.count ≤ 4096 = search rules in
     let short : length piece ≤ c.in-Some.count = omega (arith, length-take c.in-Some.count c.read_once.new.piece) in
     record {
-      traced = input_goes_on g.E.Explains.explained c.args.self.now.style _ _ _ _ _ _ c.loop-turn.self c.take_piece.new.self c.loop-turn.held.items c.take_piece.new.held.items piece
+      traced = input_goes_on g.E.Explains.explained c.args.self.now.style _ _ _ _ _ _ c.loop-turn.self c.take_piece.new.self c.loop-turn.held.items
+          c.take_piece.new.held.items piece
           c.as_slice-in-loop-turn.result.now c.loop-turn.invariant.traced c.in-Some.ensures.read.2 said c.in_ok-write_piece-2.ensures.written;
       no_end = on_ok c.take_piece.result fine c.take_piece.ensures.held;
       lines = omega (arith, few, short, bound, c.loop-turn.invariant.lines);

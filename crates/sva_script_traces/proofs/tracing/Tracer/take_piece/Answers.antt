@@ -12,15 +12,18 @@ loop-end-preserved g c =
     let taken : TracesLine g.E.Explains.explained c.loop-end.self (c.loop-end.held.items ++ take c.in-Some.end rest) c.take_held.new.self c.loop-end.out.items
     c.take_held.new.out.items =
     c.in_ok-take_held.ensures.traced in
-    let so_far = piece_line g.E.Explains.explained c.args.self.now c.loop-end.self c.take_held.new.self c.args.held.now.items c.args.piece.now c.loop-end.held.items rest
+    let so_far = piece_line g.E.Explains.explained c.args.self.now c.loop-end.self c.take_held.new.self c.args.held.now.items c.args.piece.now
+    c.loop-end.held.items rest
     (take c.in-Some.end rest) (drop (c.in-Some.end + 1) rest) c.args.out.now.items c.loop-end.out.items c.take_held.new.out.items c.loop-end.invariant.so_far
     cut.0 cut.1 taken in
     let next = c.in-Some.end + 1 in
     let left = take (length rest - next) (drop next rest) in
     record {
-      so_far = subst (λ kept. TracedSoFar g.E.Explains.explained c.args.self.now c.take_held.new.self c.args.held.now.items c.args.piece.now kept left c.args.out.now.items
+      so_far = subst (λ kept. TracedSoFar g.E.Explains.explained c.args.self.now c.take_held.new.self c.args.held.now.items c.args.piece.now kept
+          left c.args.out.now.items
           c.take_held.new.out.items) (sym c.in_ok-take_held.ensures.held)
-          (subst (λ more. TracedSoFar g.E.Explains.explained c.args.self.now c.take_held.new.self c.args.held.now.items c.args.piece.now [] more c.args.out.now.items
+          (subst (λ more. TracedSoFar g.E.Explains.explained c.args.self.now c.take_held.new.self c.args.held.now.items c.args.piece.now [] more
+          c.args.out.now.items
           c.take_held.new.out.items) (sym (to_end next rest)) so_far);
       few = omega (arith, c.loop-end.invariant.few, taken.1, c.in-Some.ensures.within);
     }

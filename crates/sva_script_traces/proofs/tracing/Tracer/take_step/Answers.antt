@@ -10,7 +10,8 @@ returns-in-Ok-Step g c =
     let run : c.args.self.now.tracing.run ≡ Some c.in-Some-2.run' = search rules in
     let open_yet : c.args.self.now.tracing.has_ended ≡ false = search rules in
     on_ok_by c.put_step.result
-    (λ put. row_told g.E.Explains.explained c.args.self.now _ c.in-Some-2.run' c.take.new.self words c.take.new.plain.items c.take.new.expected.items c.args.out.now.items
+    (λ put. row_told g.E.Explains.explained c.args.self.now _ c.in-Some-2.run' c.take.new.self words c.take.new.plain.items c.take.new.expected.items
+    c.args.out.now.items
     c.put_step.new.out.items c.take.new.taken c.self.view_is run open_yet
     (search rules) (search rules))
     c.put_step.ensures

@@ -20,8 +20,8 @@ use sva_step::{Answer, Config, Refusal};
 /// Said where no step was held back.
 const NOTHING: &[u8] = b"nothing was refused, blocked or withheld\n";
 
-/// Runs a script, and writes for each step that was refused, blocked or withheld what holds it back. Where a line is
-/// wrong, or the config out of its limits, that is written instead, and the result is `Faulted`.
+/// Runs a script, and writes for each step that was refused, blocked or withheld what holds it back, as `E` explains it.
+/// Where a line is wrong, or the config out of its limits, that is written instead, and the result is `Faulted`.
 pub fn why<E: Explains>(
     alloc: Global,
     text: &[u8],

@@ -48,10 +48,10 @@ impl Model for Tracer {
     } };
 }
 
-/// Reads a script line by line, and writes for each step a row as it comes: the number of the line, the step, its answer,
-/// and the messages that it delivered and sent; and behind the row, where that is wanted, what holds the step back. A line
-/// that is wrong is told in its place, and changes nothing. At the end of the input stand the counts. `Faulted` tells that
-/// a line was wrong.
+/// Reads a script line by line, and writes for each step a row as it comes: the number of the line, the step, its
+/// answer, and the messages that it delivered and sent; and behind the row, where that is wanted, what holds the step
+/// back, as `E` explains it. A line that is wrong is told in its place, and changes nothing. At the end of the input
+/// stand the counts. `Faulted` tells that a line was wrong.
 pub fn trace<E: Explains, R: Read, W: Write>(
     alloc: Global,
     style: Style,

@@ -5,6 +5,7 @@ use Rattle.sva_race_reports.specs.declared.judging.Judged.{Judged}
 use Rattle.sva_race_reports.specs.declared.judging.Judged.TheVariants.{Holds, Fails, Unknown}
 use Rattle.sva_race_reports.specs.declared.searching.Wanted.{Wanted}
 use Rattle.sva_race_reports.specs.Explored.{ExploresText}
+use Rattle.sva_why.specs.Why.{why_of}
 use Rattle.sva_driver_reports.specs.declared.reports.Ruling.{Ruling}
 use Rattle.sva_driver_reports.specs.declared.reports.Ruling.TheVariants.{Safe, Untried, Right, Unsafe, Stuck, CutOff}
 use Rattle.sva_driver_runs.specs.Judged.{IsTextJudged, IsTextRun}
@@ -48,5 +49,5 @@ Runs text old new needed status =
 
 abbrev pub Explores : (text : List ℕ) → (most : ℕ) → (old new : List ℕ) → (needed status : ℕ) → Type 0
 Explores text most old new needed status =
-    HandsOver (λ judged report. ExploresText text (whole_report most) report judged) explored_status old new needed status
+    HandsOver (λ judged report. ExploresText why_of text (whole_report most) report judged) explored_status old new needed status
     ⊎ LacksMemory old new needed status

@@ -11,6 +11,7 @@ ghost use Rattle.sva_c.specs.Buffers.{Gives, check_said, replay_said};
 ghost use Rattle.sva_c.specs.Searches.{Explores, Judges, Runs};
 ghost use Rattle.sva_script_reports.specs.Scripts.{plain_of, test_of};
 ghost use Rattle.sva_script_reports.specs.Shows.{show_of};
+ghost use Rattle.sva_why.specs.Why.{why_of};
 
 mod handing;
 mod statuses;
@@ -23,6 +24,7 @@ use sva_reports::{check_text, report_text};
 use sva_streams::Told;
 use sva_script_reports::{plain, show, test};
 use sva_search::Unwatched;
+use sva_why::Explainer;
 
 /// The report of a scenario, as `replay` prints it.
 #[unsafe(no_mangle)]
@@ -76,10 +78,10 @@ pub extern "C" fn sva_c_test(
     report: &mut [u8],
     needed: &mut usize,
 ) -> u32
-    ensures { Gives (test_of text.now) report.old report.new needed.new result }
+    ensures { Gives (test_of why_of text.now) report.old report.new needed.new result }
 {
     let mut said = Vec::new(alloc);
-    match test(alloc, text, &mut said) {
+    match test::<Explainer>(alloc, text, &mut said) {
         Ok(outcome) => hand_over(said.as_slice(), status_of(outcome), report, needed),
         Err(_) => lack(needed),
     }
@@ -175,7 +177,7 @@ pub extern "C" fn sva_c_explore(
         few_ends: false,
         is_brief: false,
     };
-    match explore_text(alloc, wanted, text, &mut said, &mut Unwatched) {
+    match explore_text::<Explainer, Unwatched>(alloc, wanted, text, &mut said, &mut Unwatched) {
         Ok(judged) => hand_over(said.as_slice(), explored_status(judged), report, needed),
         Err(_) => lack(needed),
     }

@@ -21,7 +21,8 @@ all_kept shown listing out is none = (ap (λ said. said.outcome) is, none)
 -- more than the first 1,048,577 bytes of a script don't matter
 front_shown : (input kept text : List ℕ) → text ≡ kept → kept ≡ take 1048577 input → show_of text ≡ show_of input
 front_shown input kept text e h =
-    let same = kept_print Show (Some input) (Some []) (Some (show_of text).text) kept text (Ok (show_of text).outcome) e h (refl, refl) in
+    let same = kept_print (λ wire step reply. []) Show (Some input) (Some []) (Some (show_of text).text) kept text (Ok (show_of text).outcome) e h
+    (refl, refl) in
     λ i. record { text = same.0 i; outcome = same.1 i }
 
 pub kept_chart : (known old new : Option (List ℕ)) (kept text : List ℕ) (result : Result Outcome DriveFault)

@@ -13,7 +13,7 @@ use Rattle.sva_accepted.specs.Accepted.{is_accepted}
 use Rattle.sva_standing.specs.declared.levels.Level.TheVariants.{First}
 use Rattle.sva_standing.specs.Lines.{bracket_of_two, indent, start}
 use Rattle.sva_standing.specs.Units.{place_lines}
-use Rattle.sva_under_way.specs.Jobs.{invalid_text}
+use Rattle.sva_standing.specs.Requests.{invalid_text}
 
 -- ---- Pages of spaces
 

@@ -9,7 +9,7 @@ use Rattle.sva_accepted.specs.Accepted.{is_accepted}
 use Rattle.sva_standing.specs.declared.levels.Level.{Level}
 use Rattle.sva_standing.specs.declared.levels.Level.TheVariants.{First}
 use Rattle.sva_standing.specs.Lines.{bracket, indent, start}
-use Rattle.sva_under_way.specs.Jobs.{invalid_text}
+use Rattle.sva_standing.specs.Requests.{invalid_text}
 
 -- `worker 0 has group 1 of binding 0`
 abbrev pub hand_text : Level → (worker : ℕ) → JobWire → List ℕ

@@ -8,7 +8,7 @@ use Rattle.sva_accepted.specs.Accepted.{is_accepted}
 use Rattle.sva_standing.specs.declared.levels.Level.{Level}
 use Rattle.sva_standing.specs.declared.levels.Level.TheVariants.{First, Second}
 use Rattle.sva_standing.specs.Lines.{indent, start}
-use Rattle.sva_under_way.specs.Tables.{out_lines}
+use Rattle.sva_standing.specs.Requests.{out_lines}
 use Rattle.sva_standing.specs.Units.{of_part}
 
 -- ` [ask 0 1 16]`

@@ -20,9 +20,8 @@ use std::alloc::AllocError;
 use sva_accepted::{binding_of, can_unmap, held_by, mapping_at, pages_in};
 use sva_lines::{end_line, put_field, put_if, put_word};
 use sva_snapshot::{Held, Job, Mapping, Snapshot, Space};
-use sva_standing::{Level, put_bracket_of_two, put_held, put_indent, put_start};
+use sva_standing::{Level, put_bracket_of_two, put_held, put_indent, put_invalid, put_start};
 use sva_step::Step;
-use sva_under_way::put_invalid;
 
 /// Appends in brackets that a page is taken out, where it would be accepted.
 fn put_taken_out(

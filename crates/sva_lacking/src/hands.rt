@@ -8,9 +8,8 @@ use std::alloc::AllocError;
 use sva_accepted::{can_take, held_by};
 use sva_lines::{end_line, put_field, put_word};
 use sva_snapshot::{Job, Snapshot};
-use sva_standing::{Level, put_bracket, put_indent, put_start};
+use sva_standing::{Level, put_bracket, put_indent, put_invalid, put_start};
 use sva_step::Step;
-use sva_under_way::put_invalid;
 
 /// Appends which job a worker has.
 fn put_hand_text(out: &mut Vec<u8>, level: Level, worker: u64, job: &Job) -> Result<(), AllocError>

@@ -10,9 +10,8 @@ use std::alloc::AllocError;
 use sva_accepted::{can_ask, part_at};
 use sva_lines::{end_line, put_field, put_word};
 use sva_snapshot::{Endpoint, RequestTag, Snapshot};
-use sva_standing::{Level, put_indent, put_start};
+use sva_standing::{Level, put_indent, put_out, put_start};
 use sva_step::Step;
-use sva_under_way::put_out;
 
 /// Appends a translation request in brackets, where it would be accepted.
 fn put_ask(

@@ -21,6 +21,7 @@ use Rattle.sva_script_reports.specs.Scripts.{plain_of, test_of}
 use Rattle.sva_script_reports.specs.Shows.{show_of}
 use Rattle.sva_script_reports.specs.Whys.{whys_of}
 use Rattle.sva_script_traces.specs.Traces.{trace_of}
+use Rattle.sva_why.specs.Why.{why_of}
 use Rattle.sva_program.specs.Run.{HasCause, Makes, Reports, Rules, RunsTo, WhereKnown, explored_of, is_strict, ran_of, ruled_of, status_of, status_of_untried}
 use Rattle.sva_program.specs.Run.{style_of}
 use Rattle.sva_command.specs.Command.{Asks, AsksStrict}
@@ -216,15 +217,15 @@ unwritten_by Replay input old = lacking (unwritten_where Outcome _ input old (λ
 unwritten_by Check input old = lacking (unwritten_where Outcome _ input old (λ text. (nothing_of old (check_of text), tt)))
 unwritten_by (Storm turns) input old = lacking (unwritten_where Outcome _ input old (λ text. lacking_of text turns old))
 unwritten_by Plain input old = lacking (unwritten_where Outcome _ input old (λ text. unprinted (plain_of text) old))
-unwritten_by Test input old = lacking (unwritten_where Outcome _ input old (λ text. unprinted (test_of text) old))
+unwritten_by Test input old = lacking (unwritten_where Outcome _ input old (λ text. unprinted (test_of why_of text) old))
 unwritten_by Show input old = lacking (unwritten_where Outcome _ input old (λ text. unprinted (show_of text) old))
-unwritten_by Why input old = lacking (unwritten_where Outcome _ input old (λ text. unprinted (whys_of text) old))
+unwritten_by Why input old = lacking (unwritten_where Outcome _ input old (λ text. unprinted (whys_of why_of text) old))
 unwritten_by (Chart svg) input old =
     lacking (unwritten_where Outcome _ input old (λ text. (show_of text, (refl, λ wrong. refl), unprinted (show_of text) old)))
 unwritten_by (Explore most whys few_ends) input old = (Err Memory, refl, unwritten_where (Option Judged) _ input old (λ text. nothing_of old []))
 unwritten_by (Judge run most strict) input old = (Err Memory, refl, unwritten_where (Option Ruling) _ input old (λ text. unruled run most text old))
 unwritten_by (Trace live whys) None old = lacking tt
-unwritten_by (Trace live whys) (Some text) old = lacking (unprinted (trace_of (style_of live whys) text) old)
+unwritten_by (Trace live whys) (Some text) old = lacking (unprinted (trace_of why_of (style_of live whys) text) old)
 
 pub unwritten : (asked : Asked) (input old new : Option (List ℕ)) → new ≡ old → Reports asked input old new (Err Memory)
 unwritten asked input old new e = subst (λ n. Reports asked input old n (Err Memory)) (sym e) (unwritten_by asked input old)

@@ -19,6 +19,7 @@ use Rattle.sva_script_reports.specs.Scripts.{plain_of, test_of}
 use Rattle.sva_script_reports.specs.Shows.{show_of}
 use Rattle.sva_script_reports.specs.Whys.{whys_of}
 use Rattle.sva_script_traces.specs.Traces.{trace_of}
+use Rattle.sva_why.specs.Why.{why_of}
 use Rattle.sva_race_reports.specs.declared.judging.Judged.{Judged}
 use Rattle.sva_race_reports.specs.declared.judging.Judged.TheVariants.{Holds, Fails, Unknown}
 use Rattle.sva_race_reports.specs.declared.searching.Wanted.{Wanted}
@@ -148,14 +149,14 @@ Reports Check input old new =
     RunsTo (λ found. WhereKnown (λ text. Makes old new (check_of text) (check_outcome_of text) found) input old new found)
 Reports (Storm turns) input old new = RunsTo (λ found. WhereKnown (λ text. StormsOf text turns old new found) input old new found)
 Reports Plain input old new = RunsTo (λ found. WhereKnown (λ text. Prints (plain_of text) old new found) input old new found)
-Reports Test input old new = RunsTo (λ found. WhereKnown (λ text. Prints (test_of text) old new found) input old new found)
+Reports Test input old new = RunsTo (λ found. WhereKnown (λ text. Prints (test_of why_of text) old new found) input old new found)
 Reports Show input old new = RunsTo (λ found. WhereKnown (λ text. Prints (show_of text) old new found) input old new found)
-Reports Why input old new = RunsTo (λ found. WhereKnown (λ text. Prints (whys_of text) old new found) input old new found)
+Reports Why input old new = RunsTo (λ found. WhereKnown (λ text. Prints (whys_of why_of text) old new found) input old new found)
 Reports (Chart svg) input old new = RunsTo (λ found. WhereKnown (λ text. Charts text old new found) input old new found)
 Reports (Explore most whys few_ends) input old new =
-    ExploresTo (λ found. WhereKnown (λ text. Explores text (wanted_of most whys few_ends) old new found) input old new found)
+    ExploresTo (λ found. WhereKnown (λ text. Explores why_of text (wanted_of most whys few_ends) old new found) input old new found)
 Reports (Judge run most strict) input old new = RulesTo (λ found. WhereKnown (λ text. Rules run most text old new found) input old new found)
-Reports (Trace live whys) input old new = RunsTo (λ found. IfSome input (λ text. Prints (trace_of (style_of live whys) text) old new found))
+Reports (Trace live whys) input old new = RunsTo (λ found. IfSome input (λ text. Prints (trace_of why_of (style_of live whys) text) old new found))
 
 -- a text for the user: something is said, and where the value's own text is known and isn't empty, it is that one
 abbrev pub IsSaid : Option (List ℕ) → List ℕ → Type 0

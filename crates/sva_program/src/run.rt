@@ -25,6 +25,7 @@ use sva_scenario::{DriveFault, Outcome, Told, check, drive, write_all};
 use sva_script_reports::{Saying, print};
 use sva_script_traces::{Columns, Style, trace};
 use sva_search::Watch;
+use sva_why::Explainer;
 
 /// The steps were run, all claims of a race hold, a driver is safe, or help was shown.
 const DONE: u8 = 0;
@@ -121,10 +122,10 @@ fn perform<X: AllocGlobal + Threads + Wait + Sync, R: Read, W: Write, P: Watch>(
         Asked::Replay => ran(drive(rt.alloc(), reader, writer)),
         Asked::Check => ran(check(rt.alloc(), reader, writer)),
         Asked::Storm { turns } => ran(drive_storm(rt, rt.alloc(), turns, reader, writer)),
-        Asked::Plain => ran(print(rt.alloc(), Saying::Plain, reader, writer)),
-        Asked::Test => ran(print(rt.alloc(), Saying::Test, reader, writer)),
-        Asked::Show => ran(print(rt.alloc(), Saying::Show, reader, writer)),
-        Asked::Why => ran(print(rt.alloc(), Saying::Why, reader, writer)),
+        Asked::Plain => ran(print::<Explainer, R, W>(rt.alloc(), Saying::Plain, reader, writer)),
+        Asked::Test => ran(print::<Explainer, R, W>(rt.alloc(), Saying::Test, reader, writer)),
+        Asked::Show => ran(print::<Explainer, R, W>(rt.alloc(), Saying::Show, reader, writer)),
+        Asked::Why => ran(print::<Explainer, R, W>(rt.alloc(), Saying::Why, reader, writer)),
         Asked::Chart { svg } => ran(chart(rt.alloc(), drawing_of(svg), reader, writer)),
         Asked::Explore {
             most,
@@ -132,10 +133,15 @@ fn perform<X: AllocGlobal + Threads + Wait + Sync, R: Read, W: Write, P: Watch>(
             few_ends,
         } => {
             let wanted = wanted_of(most, whys, few_ends);
-            explored(explore(rt.alloc(), wanted, reader, writer, watch))
+            explored(explore::<Explainer, R, W, P>(rt.alloc(), wanted, reader, writer, watch))
         }
         Asked::Judge { run, most, .. } => ruled(rule(rt.alloc(), run, most, reader, writer, watch)),
-        Asked::Trace { live, whys } => ran(trace(rt.alloc(), style_of(live, whys), reader, writer)),
+        Asked::Trace { live, whys } => ran(trace::<Explainer, R, W>(
+            rt.alloc(),
+            style_of(live, whys),
+            reader,
+            writer,
+        )),
     }
 }
 

@@ -11,6 +11,7 @@ use std::alloc::{AllocError, Global};
 use sva_race::{Choice, Claim, End, Race};
 use sva_race_ends::put_counted;
 use sva_race_lines::Asked;
+use sva_reports::Explains;
 use sva_search::Found;
 
 /// How many claims of a race hold, fail and are unknown.
@@ -119,7 +120,7 @@ fn put_brief(
 }
 
 /// Appends the report of a race: the whole of it, or a line.
-pub(crate) fn put_report(
+pub(crate) fn put_report<E: Explains>(
     alloc: Global,
     out: &mut Vec<u8>,
     race: &Race,
@@ -129,11 +130,11 @@ pub(crate) fn put_report(
     found: &Found<Choice, End>,
 ) -> Result<(), AllocError>
     ensures { OnOk result (out.new.items
-        ≡ out.old.items ++ briefs.report_text race.now threads.now wanted asked.now found.now) }
+        ≡ out.old.items ++ briefs.report_text E.explained race.now threads.now wanted asked.now found.now) }
 {
     if wanted.is_brief {
         put_brief(alloc, out, race, asked, found)
     } else {
-        put_whole(alloc, out, race, threads, wanted, asked, found)
+        put_whole::<E>(alloc, out, race, threads, wanted, asked, found)
     }
 }

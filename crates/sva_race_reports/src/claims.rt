@@ -19,6 +19,7 @@ use std::alloc::{AllocError, Global};
 use sva_race::{Choice, Claim, Claiming, End, Race};
 use sva_race_ends::{put_counted, put_end_texts};
 use sva_race_lines::Asked;
+use sva_reports::Explains;
 use sva_script_reading::put_number;
 use sva_search::Found;
 
@@ -145,7 +146,7 @@ fn put_claims(
 }
 
 /// Appends what of a witness's own steps was held back, and which lines wait where it ends.
-fn put_behind(
+fn put_behind<E: Explains>(
     alloc: Global,
     out: &mut Vec<u8>,
     race: &Race,
@@ -154,14 +155,14 @@ fn put_behind(
     choices: &[Choice],
 ) -> Result<(), AllocError>
     ensures { OnOk result (out.new.items ≡ out.old.items
-        ++ (held_in race.now threads.now number choices.now ++ ends_text race.now number choices.now)) }
+        ++ (held_in E.explained race.now threads.now number choices.now ++ ends_text E.explained race.now number choices.now)) }
 {
-    put_held_in(alloc, out, race, threads, number, choices)?;
-    put_ends(alloc, out, race, number, choices)
+    put_held_in::<E>(alloc, out, race, threads, number, choices)?;
+    put_ends::<E>(alloc, out, race, number, choices)
 }
 
 /// Appends that, if it is wanted.
-fn put_behind_if(
+fn put_behind_if<E: Explains>(
     alloc: Global,
     out: &mut Vec<u8>,
     race: &Race,
@@ -171,10 +172,10 @@ fn put_behind_if(
     choices: &[Choice],
 ) -> Result<(), AllocError>
     ensures { OnOk result (out.new.items
-        ≡ out.old.items ++ behind_if race.now threads.now whys number choices.now) }
+        ≡ out.old.items ++ behind_if E.explained race.now threads.now whys number choices.now) }
 {
     if whys {
-        put_behind(alloc, out, race, threads, number, choices)
+        put_behind::<E>(alloc, out, race, threads, number, choices)
     } else {
         Ok(())
     }
@@ -182,7 +183,7 @@ fn put_behind_if(
 
 /// Appends a witness with its number; and behind it, where that is wanted, what of its own steps was held back, and which
 /// lines wait where it ends.
-fn put_witness_with(
+fn put_witness_with<E: Explains>(
     alloc: Global,
     out: &mut Vec<u8>,
     race: &Race,
@@ -192,14 +193,14 @@ fn put_witness_with(
     choices: &[Choice],
 ) -> Result<(), AllocError>
     ensures { OnOk result (out.new.items
-        ≡ out.old.items ++ witness_with race.now threads.now whys number choices.now) }
+        ≡ out.old.items ++ witness_with E.explained race.now threads.now whys number choices.now) }
 {
     put_witness(alloc, out, race, threads, number, choices)?;
-    put_behind_if(alloc, out, race, threads, whys, number, choices)
+    put_behind_if::<E>(alloc, out, race, threads, whys, number, choices)
 }
 
 /// Appends a witness, if there is one.
-fn put_witness_if(
+fn put_witness_if<E: Explains>(
     alloc: Global,
     out: &mut Vec<u8>,
     race: &Race,
@@ -210,11 +211,11 @@ fn put_witness_if(
 ) -> Result<(), AllocError>
     requires { before + 1 < 2 ^ 64 }
     ensures { OnOk result (out.new.items ≡ out.old.items
-        ++ witness_if race.now threads.now whys before (option_map (λ witness. witness.now) witness.entry)) }
+        ++ witness_if E.explained race.now threads.now whys before (option_map (λ witness. witness.now) witness.entry)) }
 {
     match witness {
         Some(choices) => {
-            put_witness_with(
+            put_witness_with::<E>(
                 alloc,
                 out,
                 race,
@@ -229,7 +230,7 @@ fn put_witness_if(
 }
 
 /// Appends the witnesses.
-fn put_witnesses(
+fn put_witnesses<E: Explains>(
     alloc: Global,
     out: &mut Vec<u8>,
     race: &Race,
@@ -239,12 +240,12 @@ fn put_witnesses(
     found: &Found<Choice, End>,
 ) -> Result<(), AllocError>
     ensures { OnOk result (out.new.items
-        ≡ out.old.items ++ witnesses_from race.now threads.now whys found.now 0 0 (asks asked.now)) }
+        ≡ out.old.items ++ witnesses_from E.explained race.now threads.now whys found.now 0 0 (asks asked.now)) }
 {
     let mut before = 0;
     for place in 0..asked.len() {
         let witness = witness_of(found, asked[place].is_of_ends, place);
-        put_witness_if(alloc, out, race, threads, whys, before, witness)?;
+        put_witness_if::<E>(alloc, out, race, threads, whys, before, witness)?;
         before = with_witness(before, witness);
     }
     Ok(())
@@ -252,7 +253,7 @@ fn put_witnesses(
 
 /// Appends the report of a race: how far the search came, what the ends come to, what that says of each claim, and the
 /// witnesses, each with what holds its own steps back, and the lines that wait where it ends, if that is wanted.
-pub(crate) fn put_whole(
+pub(crate) fn put_whole<E: Explains>(
     alloc: Global,
     out: &mut Vec<u8>,
     race: &Race,
@@ -262,14 +263,14 @@ pub(crate) fn put_whole(
     found: &Found<Choice, End>,
 ) -> Result<(), AllocError>
     ensures { OnOk result (out.new.items
-        ≡ out.old.items ++ whole_text race.now threads.now wanted asked.now found.now) }
+        ≡ out.old.items ++ whole_text E.explained race.now threads.now wanted asked.now found.now) }
 {
     let ends = found.ends.as_slice();
     put_reach(out, found, found.cut)?;
     out.extend_from_slice(b"\n")?;
     put_end_texts(alloc, out, race, threads, wanted.few_ends, ends)?;
     put_claims(out, race.claims.as_slice(), asked, found)?;
-    put_witnesses(alloc, out, race, threads, wanted.whys, asked, found)
+    put_witnesses::<E>(alloc, out, race, threads, wanted.whys, asked, found)
 }
 
 /// What is said of all claims together.

@@ -16,9 +16,9 @@ use crate::witnesses::choice_at;
 use std::alloc::{AllocError, Global};
 use sva_core::World;
 use sva_race::{Choice, Line, Moment, Race, Waiting};
+use sva_reports::Explains;
 use sva_script_reading::{put_number, put_reply};
 use sva_step::{Answer, Refusal, Step};
-use sva_why::put_why_in;
 
 /// Appends a reply, and a line end.
 fn put_reply_line(out: &mut Vec<u8>, reply: &Result<Answer, Refusal>) -> Result<(), AllocError>
@@ -47,7 +47,7 @@ fn put_case_line(
 }
 
 /// Appends a line whose step is answered so, and what holds it back.
-fn put_held(
+fn put_held<E: Explains>(
     alloc: Global,
     out: &mut Vec<u8>,
     world: &World,
@@ -56,10 +56,10 @@ fn put_held(
     reply: &Result<Answer, Refusal>,
 ) -> Result<(), AllocError>
     ensures { OnOk result (out.new.items
-        ≡ out.old.items ++ held_text number (joined_words (step_words step)) world.now step reply.now) }
+        ≡ out.old.items ++ held_text E.explained number (joined_words (step_words step)) world.now step reply.now) }
 {
     put_case_line(out, number, step, reply)?;
-    put_why_in(out, alloc, world, &step, reply)
+    E::put_explained(out, alloc, world, &step, reply)
 }
 
 /// Appends that a line has a name without a number.
@@ -72,26 +72,26 @@ fn put_no_number(out: &mut Vec<u8>, number: u64) -> Result<(), AllocError>
 }
 
 /// Appends what a line waits for.
-fn put_waiting(
+fn put_waiting<E: Explains>(
     alloc: Global,
     out: &mut Vec<u8>,
     world: &World,
     number: u64,
     waiting: Waiting,
 ) -> Result<(), AllocError>
-    ensures { OnOk result (out.new.items ≡ out.old.items ++ waiting_text number world.now waiting) }
+    ensures { OnOk result (out.new.items ≡ out.old.items ++ waiting_text E.explained number world.now waiting) }
 {
     match waiting {
         Waiting::Nothing => Ok(()),
         Waiting::Name => put_no_number(out, number),
         Waiting::Refused { step, refusal } => {
-            put_held(alloc, out, world, number, step, &Err(refusal))
+            put_held::<E>(alloc, out, world, number, step, &Err(refusal))
         }
     }
 }
 
 /// Appends what the line of a place waits for at a moment.
-fn put_wait(
+fn put_wait<E: Explains>(
     alloc: Global,
     out: &mut Vec<u8>,
     race: &Race,
@@ -99,38 +99,38 @@ fn put_wait(
     place: usize,
     line: &Line,
 ) -> Result<(), AllocError>
-    ensures { OnOk result (out.new.items ≡ out.old.items ++ wait_text race.now moment.now place line.now) }
+    ensures { OnOk result (out.new.items ≡ out.old.items ++ wait_text E.explained race.now moment.now place line.now) }
 {
     let waiting = moment.waiting(alloc, race, place, line)?;
-    put_waiting(alloc, out, moment.world(), line.number, waiting)
+    put_waiting::<E>(alloc, out, moment.world(), line.number, waiting)
 }
 
 /// Appends what each of these lines waits for at a moment.
-fn put_waits(
+fn put_waits<E: Explains>(
     alloc: Global,
     out: &mut Vec<u8>,
     race: &Race,
     moment: &Moment,
     lines: &[Line],
 ) -> Result<(), AllocError>
-    ensures { OnOk result (out.new.items ≡ out.old.items ++ rows (wait_text race.now moment.now) 0 lines.now) }
+    ensures { OnOk result (out.new.items ≡ out.old.items ++ rows (wait_text E.explained race.now moment.now) 0 lines.now) }
 {
     for (place, line) in lines.iter().enumerate() {
-        put_wait(alloc, out, race, moment, place, line)?;
+        put_wait::<E>(alloc, out, race, moment, place, line)?;
     }
     Ok(())
 }
 
 /// Appends what the lines of a race wait for at a moment.
-fn put_waits_at(
+fn put_waits_at<E: Explains>(
     alloc: Global,
     out: &mut Vec<u8>,
     race: &Race,
     moment: &Moment,
 ) -> Result<(), AllocError>
-    ensures { OnOk result (out.new.items ≡ out.old.items ++ waits_text race.now (Some moment.now)) }
+    ensures { OnOk result (out.new.items ≡ out.old.items ++ waits_text E.explained race.now (Some moment.now)) }
 {
-    put_waits(alloc, out, race, moment, race.lines.as_slice())
+    put_waits::<E>(alloc, out, race, moment, race.lines.as_slice())
 }
 
 /// Takes a list of choices as long as they are permitted, and says whether all of them are.
@@ -156,19 +156,19 @@ fn lead(
 }
 
 /// Appends what the lines of a race wait for behind a list of choices.
-fn put_all_waits(
+fn put_all_waits<E: Explains>(
     alloc: Global,
     out: &mut Vec<u8>,
     race: &Race,
     choices: &[Choice],
 ) -> Result<(), AllocError>
     ensures { OnOk result (out.new.items
-        ≡ out.old.items ++ waits_text race.now (moment_behind race.now choices.now)) }
+        ≡ out.old.items ++ waits_text E.explained race.now (moment_behind race.now choices.now)) }
 {
     let mut moment = Moment::starting(alloc, race)?;
     let all = lead(alloc, race, &mut moment, choices)?;
     if all {
-        put_waits_at(alloc, out, race, &moment)
+        put_waits_at::<E>(alloc, out, race, &moment)
     } else {
         Ok(())
     }
@@ -184,15 +184,15 @@ fn put_ends_line(out: &mut Vec<u8>, number: u64) -> Result<(), AllocError>
 }
 
 /// Appends which lines wait where a witness ends.
-pub(crate) fn put_ends(
+pub(crate) fn put_ends<E: Explains>(
     alloc: Global,
     out: &mut Vec<u8>,
     race: &Race,
     number: u64,
     choices: &[Choice],
 ) -> Result<(), AllocError>
-    ensures { OnOk result (out.new.items ≡ out.old.items ++ ends_text race.now number choices.now) }
+    ensures { OnOk result (out.new.items ≡ out.old.items ++ ends_text E.explained race.now number choices.now) }
 {
     put_ends_line(out, number)?;
-    put_all_waits(alloc, out, race, choices)
+    put_all_waits::<E>(alloc, out, race, choices)
 }

@@ -11,11 +11,12 @@ use crate::searching::{Wanted, explore_text};
 use std::alloc::Global;
 use std::io::{Read, Write};
 use sva_streams::{DriveFault, Told, read_all, write_all};
+use sva_reports::Explains;
 use sva_search::Watch;
 
 /// Reads a race to its end, and writes what comes of exploring it, as `explore_text` has it. After `Write` a prefix of the
 /// text was written, after `Read` or `Memory` nothing. The watch is told before that how far the search is.
-pub fn explore<R: Read, W: Write, P: Watch>(
+pub fn explore<E: Explains, R: Read, W: Write, P: Watch>(
     alloc: Global,
     wanted: Wanted,
     reader: &mut Told<R>,
@@ -25,7 +26,7 @@ pub fn explore<R: Read, W: Write, P: Watch>(
     requires reader { IsNew reader.old }
     requires writer { IsNew writer.old }
     ensures explored { IfSome (R.remaining reader.old.inner)
-        (λ input. Explores input wanted (W.contents writer.old.inner) (W.contents writer.new.inner) result) }
+        (λ input. Explores E.explained input wanted (W.contents writer.old.inner) (W.contents writer.new.inner) result) }
     ensures end { OnOk result ((reader.new.failures ≡ 0) × IsAtEnd (R.remaining reader.new.inner) × (writer.new.failures ≡ 0)) }
     ensures read { result ≡ Err DriveFault.Read → (writer.new ≡ writer.old)
         × ((reader.new.failures ≡ 1) ⊎ ((reader.new.failures ≡ 0) × (reader.new.calls ≡ MOST_TURNS))) }
@@ -34,11 +35,11 @@ pub fn explore<R: Read, W: Write, P: Watch>(
     ensures turns { reader.new.calls ≤ MOST_TURNS }
 {
     let text = read_all(alloc, reader)?;
-    tell(alloc, wanted, text.as_slice(), writer, watch)
+    tell::<E, W, P>(alloc, wanted, text.as_slice(), writer, watch)
 }
 
 /// Writes what comes of exploring a race.
-fn tell<W: Write, P: Watch>(
+fn tell<E: Explains, W: Write, P: Watch>(
     alloc: Global,
     wanted: Wanted,
     text: &[u8],
@@ -46,11 +47,11 @@ fn tell<W: Write, P: Watch>(
     watch: &mut P,
 ) -> Result<Option<Judged>, DriveFault>
     requires { IsNew writer.old }
-    ensures explored { Explores text.now wanted (W.contents writer.old.inner) (W.contents writer.new.inner) result }
+    ensures explored { Explores E.explained text.now wanted (W.contents writer.old.inner) (W.contents writer.new.inner) result }
     ensures told { Tells writer.old writer.new result }
 {
     let mut out = Vec::new(alloc);
-    match explore_text(alloc, wanted, text, &mut out, watch) {
+    match explore_text::<E, P>(alloc, wanted, text, &mut out, watch) {
         Ok(judged) => {
             write_all(writer, out.as_slice())?;
             Ok(judged)

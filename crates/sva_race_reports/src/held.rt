@@ -7,6 +7,7 @@ ghost use Rattle.sva_race_reports.specs.Held.{held_below, held_in, held_line};
 use crate::witnesses::put_scenario;
 use std::alloc::{AllocError, Global};
 use sva_race::{Choice, Race};
+use sva_reports::Explains;
 use sva_script_reading::put_number;
 use sva_script_reports::why;
 use sva_words::is;
@@ -43,21 +44,21 @@ fn put_held_below(out: &mut Vec<u8>, number: u64, said: &[u8]) -> Result<(), All
 }
 
 /// Appends what `why` says of a scenario, below that line.
-fn put_cases(
+fn put_cases<E: Explains>(
     alloc: Global,
     out: &mut Vec<u8>,
     number: u64,
     scenario: &[u8],
 ) -> Result<(), AllocError>
-    ensures { OnOk result (out.new.items ≡ out.old.items ++ held_below number (whys_of scenario.now).text) }
+    ensures { OnOk result (out.new.items ≡ out.old.items ++ held_below number (whys_of E.explained scenario.now).text) }
 {
     let mut said = Vec::new(alloc);
-    why(alloc, scenario, &mut said)?;
+    why::<E>(alloc, scenario, &mut said)?;
     put_held_below(out, number, said.as_slice())
 }
 
 /// Appends what of a witness's own steps was held back.
-pub(crate) fn put_held_in(
+pub(crate) fn put_held_in<E: Explains>(
     alloc: Global,
     out: &mut Vec<u8>,
     race: &Race,
@@ -65,9 +66,9 @@ pub(crate) fn put_held_in(
     number: u64,
     choices: &[Choice],
 ) -> Result<(), AllocError>
-    ensures { OnOk result (out.new.items ≡ out.old.items ++ held_in race.now threads.now number choices.now) }
+    ensures { OnOk result (out.new.items ≡ out.old.items ++ held_in E.explained race.now threads.now number choices.now) }
 {
     let mut scenario = Vec::new(alloc);
     put_scenario(alloc, &mut scenario, race, threads, choices)?;
-    put_cases(alloc, out, number, scenario.as_slice())
+    put_cases::<E>(alloc, out, number, scenario.as_slice())
 }

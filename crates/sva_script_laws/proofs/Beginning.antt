@@ -9,6 +9,7 @@ use Rattle.sva_labels.specs.Host.{first_wire}
 use Rattle.sva_grammar.specs.Grammar.{◌>>=◌, at_line, config_read, is_skipped, is_too_large, lines_of, said_lines, script_of, steps_of}
 use Rattle.sva_grammar.specs.Configs.{is_fit}
 use Rattle.sva_grammar.specs.Replies.{ended}
+use Rattle.sva_reports.specs.Explaining.{Explaining}
 use Rattle.sva_script.specs.Lines.{parts_of, script_words}
 use Rattle.sva_script_reading.specs.Lines.{are_end, is_end}
 use Rattle.sva_script_runs.specs.Runs.{Running}
@@ -29,7 +30,7 @@ use Rattle.sva_script_laws.proofs.StepLines.{config_part, left_part}
 use Rattle.sva_script_laws.proofs.Written.{Clean, comment_clean, config_line_read, config_not_skipped, not_skipped, silent, skipped, written}
 
 -- which lines are written of these, which config and steps they write, and what that is answered; the rows of these; what they expect
-pub record Begins (config : Config) (lines : List Line) (out text : List ℕ) : Type 0 where
+pub record Begins (explained : Explaining) (config : Config) (lines : List Line) (out text : List ℕ) : Type 0 where
   pub more : List (List ℕ)
   pub first : List ℕ
   pub steps : List Step
@@ -44,22 +45,23 @@ pub record Begins (config : Config) (lines : List Line) (out text : List ℕ) : 
   pub told : answers_from (start config) lines ≡ rows_report rows counts
   pub number : ℕ
   pub numbers : written_numbers lines ≡ number ∷ map (λ (it : LineRow). it.line) rows
-  pub traced : (style : Style) (before : ℕ) → trace_from style fresh before lines ≡ well (rows_text style rows counts)
-  pub none_skipped : map (λ (it : Expectation). it.line) (expectations_from 0 (start config) lines) ≡ expecting lines
-  pub tested : test_from 0 false (start config) lines
-      ≡ judged_by (lines_of (answers_from (start config) lines)) 0 (expectations_from 0 (start config) lines)
+  pub traced : (style : Style) (before : ℕ) → trace_from explained style fresh before lines ≡ well (rows_text style rows counts)
+  pub none_skipped : map (λ (it : Expectation). it.line) (expectations_from explained 0 (start config) lines) ≡ expecting lines
+  pub tested : test_from explained 0 false (start config) lines
+      ≡ judged_by (lines_of (answers_from (start config) lines)) 0 (expectations_from explained 0 (start config) lines)
 
 -- so for all that stands before them
-abbrev pub Begun : (before : ℕ) → Config → (left lines : List Line) → Type 0
-Begun before config left lines =
-    config_in before lines ≡ Ok (config, left) → (out text : List ℕ) → plain_from out (start config) lines ≡ well text → Begins config lines out text
+abbrev pub Begun : (explained : Explaining) (before : ℕ) → Config → (left lines : List Line) → Type 0
+Begun explained before config left lines =
+    config_in before lines ≡ Ok (config, left) → (out text : List ℕ) → plain_from out (start config) lines ≡ well text → Begins explained config lines out text
 
 -- ---- A line that says nothing
 
-begins_silent : (config : Config) (line : Line) (lines : List Line) (out text : List ℕ) → CleanLines (line ∷ lines) → script_words line.1 ≡ []
-    → Begins config lines (out ++ ended (comment_of line.1)) text → Begins config (line ∷ lines) out text
+begins_silent : (explained : Explaining) (config : Config) (line : Line) (lines : List Line) (out text : List ℕ) → CleanLines (line ∷ lines)
+    → script_words line.1 ≡ []
+    → Begins explained config lines (out ++ ended (comment_of line.1)) text → Begins explained config (line ∷ lines) out text
 unfolding answers_from trace_from test_from expectations_from
-begins_silent config line lines out text clean none left =
+begins_silent explained config line lines out text clean none left =
     let skips : is_skipped (comment_of line.1) ≡ true = silent line.1 none in
     let answers_same : answers_from (start config) (line ∷ lines) ≡ answers_from (start config) lines =
     ap (answer_line (start config) line (λ next. answers_from next lines)) none in
@@ -80,18 +82,18 @@ begins_silent config line lines out text clean none left =
       numbers =
           ap (λ words. map (λ (l : Line). l.0) (cond (is_written words) (line ∷ written_lines lines) (written_lines lines))) none ∙ left.numbers;
       traced = λ style before.
-          ap (λ words. trace_more (λ next. trace_from style next line.0 lines) (trace_line style fresh line.0 words)) none
+          ap (λ words. trace_more (λ next. trace_from explained style next line.0 lines) (trace_line explained style fresh line.0 words)) none
           ∙ left.traced style line.0;
       none_skipped =
           ap (λ words. map (λ (it : Expectation). it.line)
-          (expect_line 0 (start config) line.0 (λ next after. expectations_from next after lines) words)) none
+          (expect_line explained 0 (start config) line.0 (λ next after. expectations_from explained next after lines) words)) none
           ∙ left.none_skipped
           ∙ ap (λ words. map (λ (l : Line). l.0) (cond (expects words) (line ∷ expecting_lines lines) (expecting_lines lines))) (sym none);
       tested =
-          ap (test_line (start config) false line 0 (λ more is_past next. test_from more is_past next lines)) none
+          ap (test_line explained (start config) false line 0 (λ more is_past next. test_from explained more is_past next lines)) none
           ∙ left.tested
           ∙ (λ i. judged_by (lines_of (sym answers_same i)) 0
-          (ap (expect_line 0 (start config) line.0 (λ next after. expectations_from next after lines)) (sym none) i));
+          (ap (expect_line explained 0 (start config) line.0 (λ next after. expectations_from explained next after lines)) (sym none) i));
     }
 
 -- ---- The config
@@ -108,19 +110,20 @@ never_both : (test : Bool) → (test && false) ≡ false
 never_both true = refl
 never_both false = refl
 
-begins_here : (config : Config) (line : Line) (lines left : List Line) (word : List ℕ) (words : List (List ℕ)) (out text : List ℕ) → CleanLines lines
+begins_here : (explained : Explaining) (config : Config) (line : Line) (lines left : List Line) (word : List ℕ) (words : List (List ℕ))
+    (out text : List ℕ) → CleanLines lines
     → script_words line.1 ≡ word ∷ words → is_fit config ≡ true → faults_from [] false left ≡ []
     → config_with lines (config_by line.0 (word ∷ words) (config_read (joined_words (word ∷ words)))) ≡ Ok (config, left)
     → plain_from (out ++ ended (joined_words (word ∷ words))) (past_config (start config)) lines ≡ well text
-    → Begins config (line ∷ lines) out text
+    → Begins explained config (line ∷ lines) out text
 unfolding answers_from trace_from test_from expectations_from
-begins_here config line lines left word words out text clean said fit right found is =
+begins_here explained config line lines left word words out text clean said fit right found is =
     let joined = joined_words (word ∷ words) in
     let written_so : config_read joined ≡ Ok config = config_part line.0 (word ∷ words) lines left (config_read joined) config found in
     let read = config_line_read joined config written_so in
     let left_is = left_part lines left config (config_by line.0 (word ∷ words) (config_read joined)) found in
     let begin : Running = record { seen = first_wire config; known = [] } in
-    let more = follows lines clean false [] (ap (faults_from [] false) left_is ∙ right) begin (out ++ ended joined) text is in
+    let more = follows explained lines clean false [] (ap (faults_from [] false) left_is ∙ right) begin (out ++ ended joined) text is in
     let stands : (n : ℕ) → said_lines n (joined ∷ more.more) ≡ (n, joined) ∷ said_lines (n + 1) more.more =
     λ n. not_skipped n joined more.more (config_not_skipped joined config read.1) in
     let answers_same = ap (answer_line (start config) line (λ next. answers_from next lines)) said in
@@ -149,39 +152,40 @@ begins_here config line lines left word words out text clean said fit right foun
           ∙ ap (λ t. map (λ (l : Line). l.0) (cond (not t) (line ∷ written_lines lines) (written_lines lines))) no_end
           ∙ ap (λ ns. line.0 ∷ ns) more.numbers;
       traced = λ style before.
-          ap (λ ws. trace_more (λ next. trace_from style next line.0 lines) (trace_line style fresh line.0 ws)) said
-          ∙ ap (λ r. trace_more (λ next. trace_from style next line.0 lines) (trace_config fresh (config_by line.0 (word ∷ words) r))) written_so
-          ∙ config_traced style config (λ next. trace_from style next line.0 lines) fit
+          ap (λ ws. trace_more (λ next. trace_from explained style next line.0 lines) (trace_line explained style fresh line.0 ws)) said
+          ∙ ap (λ r. trace_more (λ next. trace_from explained style next line.0 lines) (trace_config fresh (config_by line.0 (word ∷ words) r))) written_so
+          ∙ config_traced style config (λ next. trace_from explained style next line.0 lines) fit
           ∙ more.traced style line.0;
       none_skipped =
           ap (λ ws. map (λ (it : Expectation). it.line)
-          (expect_line 0 (start config) line.0 (λ next after. expectations_from next after lines) ws)) said
+          (expect_line explained 0 (start config) line.0 (λ next after. expectations_from explained next after lines) ws)) said
           ∙ more.none_skipped 0
           ∙ ap (λ t. map (λ (l : Line). l.0) (cond t (line ∷ expecting_lines lines) (expecting_lines lines)))
           (sym (ap expects said ∙ config_expects line.1 word words config said read.1));
       tested =
-          ap (test_line (start config) false line 0 (λ more is_past next. test_from more is_past next lines)) said
+          ap (test_line explained (start config) false line 0 (λ more is_past next. test_from explained more is_past next lines)) said
           ∙ more.tested [] 0
           ∙ (λ i. judged_by (lines_of (sym answers_same i)) 0
-          (ap (expect_line 0 (start config) line.0 (λ next after. expectations_from next after lines)) (sym said) i));
+          (ap (expect_line explained 0 (start config) line.0 (λ next after. expectations_from explained next after lines)) (sym said) i));
     }
 
 -- ---- All lines
 
-pub begins : (before : ℕ) (lines : List Line) (config : Config) (left : List Line) → CleanLines lines → is_fit config ≡ true → faults_from [] false left ≡ []
-    → Begun before config left lines
+pub begins : (explained : Explaining) (before : ℕ) (lines : List Line) (config : Config) (left : List Line) → CleanLines lines → is_fit config ≡ true
+    → faults_from [] false left ≡ []
+    → Begun explained before config left lines
 unfolding config_in plain_from
-begins before [] config left clean fit right found out text is = absurd (cc found)
-begins before (line ∷ lines) config left clean fit right found out text is =
-    by_words (script_words line.1) refl found is (begins line.0 lines config left clean.1 fit right)
+begins explained before [] config left clean fit right found out text is = absurd (cc found)
+begins explained before (line ∷ lines) config left clean fit right found out text is =
+    by_words (script_words line.1) refl found is (begins explained line.0 lines config left clean.1 fit right)
   where
     by_words : (words : List (List ℕ)) → script_words line.1 ≡ words → config_at line lines (config_in line.0 lines) words ≡ Ok (config, left)
         → plain_line (start config) line out (λ more next. plain_from more next lines) words ≡ well text
-        → Begun line.0 config left lines
-        → Begins config (line ∷ lines) out text
+        → Begun explained line.0 config left lines
+        → Begins explained config (line ∷ lines) out text
     by_words [] none found is behind_it =
-        begins_silent config line lines out text clean none (behind_it found (out ++ ended (comment_of line.1)) text is)
-    by_words (word ∷ words) said found is behind_it = begins_here config line lines left word words out text clean.1 said fit right found is
+        begins_silent explained config line lines out text clean none (behind_it found (out ++ ended (comment_of line.1)) text is)
+    by_words (word ∷ words) said found is behind_it = begins_here explained config line lines left word words out text clean.1 said fit right found is
 
 -- ---- A script that has a scenario
 

@@ -5,6 +5,7 @@ use Rattle.std.specs.List.{list_all}
 use Rattle.std.specs.Option.{option_map_or}
 use Rattle.std.proofs.lemmas.Bool.{and_parts}
 use Rattle.sva_grammar.specs.Grammar.{words_of}
+use Rattle.sva_reports.specs.Explaining.{Explaining}
 use Rattle.sva_script.specs.Expect.{are_as_expected}
 use Rattle.sva_script_reading.specs.Lines.{Plain}
 use Rattle.sva_script_reading.specs.Said.{Said, bad, well}
@@ -30,30 +31,32 @@ place_next (first ∷ front) line = let more = place_next front line in omega (a
 -- ---- A line's expectation
 
 -- what a line expects is judged by the line of the report at its place
-pub judged_so : (report : List (List ℕ)) (line place count : ℕ) (seen : Wire) (step : Option Plain) (answer : List ℕ) (others : List Expectation)
+pub judged_so : (explained : Explaining) (report : List (List ℕ)) (line place count : ℕ) (seen : Wire) (step : Option Plain) (answer : List ℕ)
+    (others : List Expectation)
     (rest : ℕ → Said)
     (expected : Option (List ℕ))
     → slice_get report place ≡ Some answer → slice_index_or report place [] ≡ answer → ((more : ℕ) → rest more ≡ judged_by report more others)
-    → compared count line (told_step step) answer (held_at seen step) rest expected
-    ≡ judged_by report count (expectation line place seen step expected ++ others)
-judged_so report line place count seen step answer others rest None at is behind = behind count
-judged_so report line place count seen step answer others rest (Some expected) at is behind =
+    → compared count line (told_step step) answer (held_at explained seen step) rest expected
+    ≡ judged_by report count (expectation explained line place seen step expected ++ others)
+judged_so explained report line place count seen step answer others rest None at is behind = behind count
+judged_so explained report line place count seen step answer others rest (Some expected) at is behind =
     (λ i. cond (is_expected (drop 1 expected) answer) (behind (count + 1) i)
-    (bad (miss_text line (told_step step) (drop 1 expected) (sym is i) ++ held_at seen step)))
+    (bad (miss_text line (told_step step) (drop 1 expected) (sym is i) ++ held_at explained seen step)))
     ∙ ap (λ t. cond t (judged_by report (count + 1) others)
-    (bad (miss_text line (told_step step) (drop 1 expected) (slice_index_or report place []) ++ held_at seen step)))
+    (bad (miss_text line (told_step step) (drop 1 expected) (slice_index_or report place []) ++ held_at explained seen step)))
     (sym (ap (λ found. option_map_or (λ a. are_as_expected (words_of (drop 1 expected)) (words_of a)) found false) at))
 
 -- and stands among the lines that say what they expect
-pub expecting_so : (line place : ℕ) (text : List ℕ) (seen : Wire) (step : Option Plain) (expected : Option (List ℕ)) (words : List (List ℕ))
+pub expecting_so : (explained : Explaining) (line place : ℕ) (text : List ℕ) (seen : Wire) (step : Option Plain) (expected : Option (List ℕ))
+    (words : List (List ℕ))
     (others : List Expectation) (left : List Line)
     → expects words ≡ is_some expected
     → map (λ (it : Expectation). it.line) others ≡ map (λ (l : Line). l.0) left
-    → map (λ (it : Expectation). it.line) (expectation line place seen step expected ++ others)
+    → map (λ (it : Expectation). it.line) (expectation explained line place seen step expected ++ others)
     ≡ map (λ (l : Line). l.0) (cond (expects words) ((line, text) ∷ left) left)
-expecting_so line place text seen step None words others left says rest =
+expecting_so explained line place text seen step None words others left says rest =
     rest ∙ ap (λ t. map (λ (l : Line). l.0) (cond t ((line, text) ∷ left) left)) (sym says)
-expecting_so line place text seen step (Some expected) words others left says rest =
+expecting_so explained line place text seen step (Some expected) words others left says rest =
     ap (λ ls. line ∷ ls) rest ∙ ap (λ t. map (λ (l : Line). l.0) (cond t ((line, text) ∷ left) left)) (sym says)
 
 -- ---- All are met

@@ -35,7 +35,7 @@ use Rattle.sva_script_laws.proofs.Following.{small_by}
 use Rattle.sva_script_laws.proofs.Judging.{never}
 use Rattle.sva_script_laws.proofs.KeptLines.{config_line_is, step_line_is}
 use Rattle.sva_script_laws.proofs.LineTexts.{lines_whole, skipped_silent}
-use Rattle.sva_script_laws.proofs.Replaying.{begins_all, lines_are, read_whole}
+use Rattle.sva_script_laws.proofs.Replaying.{begins_all, lines_are, read_whole, unexplained}
 use Rattle.sva_script_laws.proofs.Written.{Clean, comment_kept, lines_clean, lines_written, not_skipped, skipped, written}
 
 -- ---- What was read in parts
@@ -251,10 +251,10 @@ plains_are_same text plain script is given = by_fit (is_fit script.config) refl
 pub plains_stay : PlainsStay
 plains_stay text plain is =
     let run = runs text plain is in
-    let all = begins_all text plain run in
+    let all = begins_all unexplained text plain run in
     let lines = lines_from 1 text in
     let ended_so : whole plain ≡ plain =
-    sym (lines_whole plain) ∙ ap written (lines_are run.config lines plain all) ∙ sym all.whole in
-    scenarios_are_plain plain (record { config = run.config; steps = all.steps }) (read_whole run.config lines plain all) run.fit
+    sym (lines_whole plain) ∙ ap written (lines_are unexplained run.config lines plain all) ∙ sym all.whole in
+    scenarios_are_plain plain (record { config = run.config; steps = all.steps }) (read_whole unexplained run.config lines plain all) run.fit
     ∙ ap if_small ended_so
     ∙ ap (λ t. cond t (bad (ended (codes "line 0: the scenario has more than 1048576 bytes or 65536 lines"))) (well plain)) all.small

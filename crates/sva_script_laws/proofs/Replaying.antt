@@ -19,6 +19,7 @@ use Rattle.sva_grammar.specs.Grammar.{fault, lines_of, said_lines, scenario_of, 
 use Rattle.sva_reports.specs.Report.{counts_text, report_by, report_of, script_report, steps_report}
 use Rattle.sva_grammar.specs.Configs.{is_fit}
 use Rattle.sva_grammar.specs.Replies.{ended, reply_text}
+use Rattle.sva_reports.specs.Explaining.{Explaining}
 use Rattle.sva_reports.proofs.ScriptLemmas.{configs_are_tested, fit_report}
 use Rattle.sva_script_reading.specs.Said.{Said, bad, well}
 use Rattle.sva_script_reading.specs.Begins.{Line, config_alone, config_in, first_config, lines_from, said_by, too_large}
@@ -33,6 +34,10 @@ use Rattle.sva_script_laws.proofs.Judging.{all_met, met_all}
 use Rattle.sva_script_laws.proofs.Written.{lines_clean, lines_written}
 
 -- ---- The report
+
+-- what explains nothing: what is said of reports alone holds whatever explains
+pub unexplained : Explaining
+unexplained wire step reply = []
 
 counted : (config : Config) (steps : List Step) → Fits config
     → counts_text (counts (world_after PerSpace config steps)) ≡ counts_at (run_of (first_wire config) steps)
@@ -55,49 +60,50 @@ reported config steps fit =
     (fit_report config steps fits).0
     ∙ (λ i. flat_map (λ reply. ended (reply_text reply)) (runs.0 i) ++ ended (counted config steps fits i))
 
-pub lines_are : (config : Config) (lines : List Line) (plain : List ℕ) (begins : Begins config lines [] plain) → lines_of plain ≡ begins.more
-lines_are config lines plain begins = ap lines_of begins.whole ∙ lines_written begins.more begins.clean
+pub lines_are : (explained : Explaining) (config : Config) (lines : List Line) (plain : List ℕ) (begins : Begins explained config lines [] plain)
+    → lines_of plain ≡ begins.more
+lines_are explained config lines plain begins = ap lines_of begins.whole ∙ lines_written begins.more begins.clean
 
-pub read_whole : (config : Config) (lines : List Line) (plain : List ℕ) (begins : Begins config lines [] plain)
+pub read_whole : (explained : Explaining) (config : Config) (lines : List Line) (plain : List ℕ) (begins : Begins explained config lines [] plain)
     → scenario_of plain ≡ Ok (record { config = config; steps = begins.steps })
 unfolding scenario_of
-read_whole config lines plain begins =
+read_whole explained config lines plain begins =
     ap (λ t. cond t (fault 0 TooLarge) (script_of (length (lines_of plain)) (said_lines 1 (lines_of plain)))) begins.small
-    ∙ ap (λ lines. script_of (length lines) (said_lines 1 lines)) (lines_are config lines plain begins)
+    ∙ ap (λ lines. script_of (length lines) (said_lines 1 lines)) (lines_are explained config lines plain begins)
     ∙ begins.read 1 (length begins.more)
 
 -- what the lines of a script that has a scenario say
-pub begins_all : (text plain : List ℕ) (run : Runs text plain) → Begins run.config (lines_from 1 text) [] plain
-begins_all text plain run =
-    begins 0 (lines_from 1 text) run.config run.left (numbered 1 (lines_of text) (lines_clean text)) run.fit run.right run.found [] plain run.writes
+pub begins_all : (explained : Explaining) (text plain : List ℕ) (run : Runs text plain) → Begins explained run.config (lines_from 1 text) [] plain
+begins_all explained text plain run =
+    begins explained 0 (lines_from 1 text) run.config run.left (numbered 1 (lines_of text) (lines_clean text)) run.fit run.right run.found [] plain run.writes
 
-report_is : (text plain : List ℕ) (run : Runs text plain) → report_of plain ≡ answers_from (start run.config) (lines_from 1 text)
-report_is text plain run =
-    let all = begins_all text plain run in
-    ap report_by (read_whole run.config (lines_from 1 text) plain all) ∙ reported run.config all.steps run.fit ∙ all.answers
+report_is : (explained : Explaining) (text plain : List ℕ) (run : Runs text plain) → report_of plain ≡ answers_from (start run.config) (lines_from 1 text)
+report_is explained text plain run =
+    let all = begins_all explained text plain run in
+    ap report_by (read_whole explained run.config (lines_from 1 text) plain all) ∙ reported run.config all.steps run.fit ∙ all.answers
 
 pub scripts_replay : ScriptsReplay
 scripts_replay text plain is =
     let run = runs text plain is in
     let tell : Config → Said = λ config. well (answers_from (start config) (lines_from 1 text)) in
-    report_is text plain run
+    report_is unexplained text plain run
     ∙ sym (ap (λ begin. (said_by tell begin).text) run.begin
     ∙ ap (λ t. (cond t (tell run.config) (bad (ended (refusal_text BadConfig)))).text) run.fit)
 
 -- ---- A trace
 
 pub traces_answer : TracesAnswer
-traces_answer text plain is =
+traces_answer explained text plain is =
     let run = runs text plain is in
-    let all = begins_all text plain run in (
+    let all = begins_all explained text plain run in (
       all.number,
       all.first,
       all.rows,
       all.counts,
       all.numbers,
-      ap (said_texts 1) (lines_are run.config (lines_from 1 text) plain all) ∙ all.said 1,
+      ap (said_texts 1) (lines_are explained run.config (lines_from 1 text) plain all) ∙ all.said 1,
       λ style. all.traced style 0,
-      report_is text plain run ∙ all.told,
+      report_is explained text plain run ∙ all.told,
     )
 
 -- ---- A test
@@ -107,30 +113,31 @@ config_alone_is : (text plain : List ℕ) (run : Runs text plain) → first_conf
 config_alone_is text plain run =
     ap (λ t. cond t (Err too_large) (config_alone (config_in 0 (lines_from 1 text)))) run.small ∙ ap config_alone run.found
 
-test_is : (text plain : List ℕ) (run : Runs text plain) → test_of text ≡ test_from 0 false (start run.config) (lines_from 1 text)
-test_is text plain run =
-    let whole : Config → Said = λ config. test_from 0 false (start config) (lines_from 1 text) in
-    ap (tested text) (config_alone_is text plain run)
+test_is : (explained : Explaining) (text plain : List ℕ) (run : Runs text plain) → test_of explained text ≡ test_from explained 0 false
+    (start run.config) (lines_from 1 text)
+test_is explained text plain run =
+    let whole : Config → Said = λ config. test_from explained 0 false (start config) (lines_from 1 text) in
+    ap (tested explained text) (config_alone_is text plain run)
     ∙ ap (λ begin. or_wrong begin (said_by whole (Ok run.config))) run.begin
     ∙ ap (λ t. cond t (whole run.config) (bad (ended (refusal_text BadConfig)))) run.fit
 
 pub tests_compare : TestsCompare
-tests_compare text plain is =
+tests_compare explained text plain is =
     let run = runs text plain is in
-    let all = begins_all text plain run in
-    test_is text plain run ∙ all.tested
-    ∙ (λ i. judged_by (lines_of (sym (report_is text plain run) i)) 0 (ap (expectations_by text) (sym run.begin) i))
+    let all = begins_all explained text plain run in
+    test_is explained text plain run ∙ all.tested
+    ∙ (λ i. judged_by (lines_of (sym (report_is explained text plain run) i)) 0 (ap (expectations_by explained text) (sym run.begin) i))
 
 pub tests_pass : TestsPass
-tests_pass text plain is =
+tests_pass explained text plain is =
     let report = lines_of (report_of plain) in
-    let told = tests_compare text plain is in
-    let none : 0 + length (expectations_of text) ≡ length (expectations_of text) = omega arith in (
-      λ passes. met_all report 0 (expectations_of text) (verdict_text (length (expectations_of text))) (sym told ∙ passes),
-      λ met. told ∙ all_met report 0 (expectations_of text) met ∙ ap (λ n. well (verdict_text n)) none,
+    let told = tests_compare explained text plain is in
+    let none : 0 + length (expectations_of explained text) ≡ length (expectations_of explained text) = omega arith in (
+      λ passes. met_all report 0 (expectations_of explained text) (verdict_text (length (expectations_of explained text))) (sym told ∙ passes),
+      λ met. told ∙ all_met report 0 (expectations_of explained text) met ∙ ap (λ n. well (verdict_text n)) none,
     )
 
 pub none_is_skipped : NoneIsSkipped
-none_is_skipped text plain is =
+none_is_skipped explained text plain is =
     let run = runs text plain is in
-    ap (λ begin. map (λ (it : Expectation). it.line) (expectations_by text begin)) run.begin ∙ (begins_all text plain run).none_skipped
+    ap (λ begin. map (λ (it : Expectation). it.line) (expectations_by explained text begin)) run.begin ∙ (begins_all explained text plain run).none_skipped

@@ -7,10 +7,10 @@ use Rattle.sva_step.specs.declared.steps.Step.TheVariants.{Deliver}
 use Rattle.sva_model.specs.Message.{Message}
 use Rattle.sva_model.specs.Wire.{Wire}
 use Rattle.sva_grammar.specs.Replies.{reply_text}
+use Rattle.sva_reports.specs.Explaining.{Explaining}
 use Rattle.sva_script_traces.specs.declared.rows.Columns.{Columns}
 use Rattle.sva_script_traces.specs.declared.rows.Style.{Style}
 use Rattle.sva_script_traces.specs.Rows.{Row, column, delivered_text, messages_text, row_text, sends, sent_text, step_text, whys_if}
-use Rattle.sva_why.specs.Why.{why_of}
 use Rattle.sva_script_traces.proofs.TraceLemmas.{none_of}
 use Rattle.sva_script_laws.specs.Traces.{LineRow, behind_step, line_text}
 
@@ -19,13 +19,13 @@ abbrev pub messages_by : (test : Bool) → Row → Option (List ℕ)
 messages_by true row = Some (messages_text row)
 messages_by false row = None
 
-abbrev pub row_made : (line : ℕ) → (plain : List ℕ) → Wire → Row → LineRow
-row_made line plain wire row = record {
+abbrev pub row_made : (explained : Explaining) (line : ℕ) → (plain : List ℕ) → Wire → Row → LineRow
+row_made explained line plain wire row = record {
   line = line;
   plain = plain;
   answer = reply_text row.told.reply;
   messages = messages_by (is_some row.delivered || sends row.told) row;
-  whys = why_of wire row.step row.told.reply;
+  whys = explained wire row.step row.told.reply;
 }
 
 is_none : (delivered : Option Message) → is_some delivered ≡ false → delivered ≡ None
@@ -68,6 +68,6 @@ row_is columns line plain row = by_test (is_some row.delivered || sends row.told
         ∙ append_assoc front answer (10 ∷ [])
 
 -- and what is said behind it
-pub step_told : (style : Style) (line : ℕ) (plain : List ℕ) (wire : Wire) (row : Row)
-    → step_text style line plain wire row ≡ line_text style (row_made line plain wire row)
-step_told style line plain wire row = ap (λ l. l ++ whys_if style.whys wire row) (row_is style.columns line plain row)
+pub step_told : (explained : Explaining) (style : Style) (line : ℕ) (plain : List ℕ) (wire : Wire) (row : Row)
+    → step_text explained style line plain wire row ≡ line_text style (row_made explained line plain wire row)
+step_told explained style line plain wire row = ap (λ l. l ++ whys_if explained style.whys wire row) (row_is style.columns line plain row)

@@ -4,6 +4,7 @@ use Rattle.std.specs.Prelude.{Bool, false, Option, Some, None}
 use Rattle.sva_grammar.specs.Grammar.{lines_of, said_lines}
 use Rattle.sva_reports.specs.Report.{report_of}
 use Rattle.sva_grammar.specs.Replies.{ended}
+use Rattle.sva_reports.specs.Explaining.{Explaining}
 use Rattle.sva_script.specs.Lines.{parts_of, script_words}
 use Rattle.sva_script_reading.specs.Lines.{is_end}
 use Rattle.sva_script_reading.specs.Begins.{Line, lines_from}
@@ -64,9 +65,9 @@ written_numbers lines = map (λ line. line.0) (filter (λ line. is_written (scri
 -- stands at its place in the report. Last both have the same counts.
 abbrev pub TracesAnswer : Type 0
 TracesAnswer =
-    (text plain : List ℕ) → plain_of text ≡ well plain
+    (explained : Explaining) (text plain : List ℕ) → plain_of text ≡ well plain
     → (number : ℕ) × (config : List ℕ) × (rows : List LineRow) × (counts : List ℕ)
     × (written_numbers (lines_from 1 text) ≡ number ∷ map (λ (it : LineRow). it.line) rows)
     × (said_texts 1 (lines_of plain) ≡ config ∷ map (λ (it : LineRow). it.plain) rows)
-    × ((style : Style) → trace_of style text ≡ well (rows_text style rows counts))
+    × ((style : Style) → trace_of explained style text ≡ well (rows_text style rows counts))
     × (report_of plain ≡ rows_report rows counts)

@@ -8,6 +8,7 @@ use Rattle.sva_grammar.specs.Grammar.{lines_of}
 use Rattle.sva_streams.specs.declared.streams.DriveFault.{DriveFault}
 use Rattle.sva_streams.specs.declared.streams.Outcome.{Outcome}
 use Rattle.sva_grammar.specs.Replies.{ended}
+use Rattle.sva_reports.specs.Explaining.{Explaining}
 use Rattle.sva_script_reports.specs.declared.printing.Saying.{Saying}
 use Rattle.sva_script_reports.specs.declared.printing.Saying.TheVariants.{Plain, Show, Test, Why}
 use Rattle.sva_script_reading.specs.Said.{Prints}
@@ -40,24 +41,25 @@ no_config text long =
     ap (λ t. cond (t || ltb 65536 (length (lines_of text))) (Err large) (config_alone (config_in 0 (lines_from 1 text))))
     (lt-ltb 1048576 (length text) long)
 
-test_front : (text : List ℕ) (long : Bool) → ltb 1048576 (length text) ≡ long → test_of (take 1048577 text) ≡ test_of text
-test_front text true e =
+test_front : (explained : Explaining) (text : List ℕ) (long : Bool) → ltb 1048576 (length text) ≡ long → test_of explained (take 1048577 text)
+    ≡ test_of explained text
+test_front explained text true e =
     let long : 1048576 < length text = grind (arith, lt-ltb) in
     let front : 1048576 < length (take 1048577 text) = omega (arith, length-take 1048577 text) in
-    ap (tested (take 1048577 text)) (no_config (take 1048577 text) front) ∙ sym (ap (tested text) (no_config text long))
-test_front text false e =
+    ap (tested explained (take 1048577 text)) (no_config (take 1048577 text) front) ∙ sym (ap (tested explained text) (no_config text long))
+test_front explained text false e =
     let short : length text ≤ 1048577 = omega (arith, ltb-false 1048576 (length text) e) in
-    ap test_of (take_all 1048577 text short)
+    ap (test_of explained) (take_all 1048577 text short)
 
-front_said : (saying : Saying) (text : List ℕ) → said_of saying (take 1048577 text) ≡ said_of saying text
-front_said Plain text = by_size (λ kept config. plain_from [] (start config) (lines_from 1 kept)) text (ltb 1048576 (length text)) refl
-front_said Test text = test_front text (ltb 1048576 (length text)) refl
-front_said Show text = by_size (λ kept config. show_from (start config) (lines_from 1 kept)) text (ltb 1048576 (length text)) refl
-front_said Why text = by_size (λ kept config. why_from [] (start config) (lines_from 1 kept)) text (ltb 1048576 (length text)) refl
+front_said : (explained : Explaining) (saying : Saying) (text : List ℕ) → said_of explained saying (take 1048577 text) ≡ said_of explained saying text
+front_said explained Plain text = by_size (λ kept config. plain_from [] (start config) (lines_from 1 kept)) text (ltb 1048576 (length text)) refl
+front_said explained Test text = test_front explained text (ltb 1048576 (length text)) refl
+front_said explained Show text = by_size (λ kept config. show_from (start config) (lines_from 1 kept)) text (ltb 1048576 (length text)) refl
+front_said explained Why text = by_size (λ kept config. why_from explained [] (start config) (lines_from 1 kept)) text (ltb 1048576 (length text)) refl
 
-pub kept_print : (saying : Saying) (known old new : Option (List ℕ)) (kept text : List ℕ) (result : Result Outcome DriveFault)
-    → text ≡ kept → IfSome known (λ input. kept ≡ take 1048577 input) → Prints (said_of saying text) old new result
-    → IfSome known (λ input. Prints (said_of saying input) old new result)
-kept_print saying None old new kept text result e h printed = tt
-kept_print saying (Some input) old new kept text result e h printed =
-    subst (λ said. Prints said old new result) (ap (said_of saying) (e ∙ h) ∙ front_said saying input) printed
+pub kept_print : (explained : Explaining) (saying : Saying) (known old new : Option (List ℕ)) (kept text : List ℕ) (result : Result Outcome DriveFault)
+    → text ≡ kept → IfSome known (λ input. kept ≡ take 1048577 input) → Prints (said_of explained saying text) old new result
+    → IfSome known (λ input. Prints (said_of explained saying input) old new result)
+kept_print explained saying None old new kept text result e h printed = tt
+kept_print explained saying (Some input) old new kept text result e h printed =
+    subst (λ said. Prints said old new result) (ap (said_of explained saying) (e ∙ h) ∙ front_said explained saying input) printed

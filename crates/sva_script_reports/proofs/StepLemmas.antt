@@ -6,6 +6,7 @@ use Rattle.sva_model.specs.Wire.{Wire}
 use Rattle.sva_grammar.specs.Grammar.{◌>>=◌}
 use Rattle.sva_reports.specs.Report.{counts_text}
 use Rattle.sva_grammar.specs.Replies.{ended, reply_text}
+use Rattle.sva_reports.specs.Explaining.{Explaining}
 use Rattle.sva_script.specs.declared.faults.Stop.{Stop}
 use Rattle.sva_script.specs.declared.faults.Stop.TheVariants as stop
 use Rattle.sva_script.specs.declared.faults.Wrong.{Wrong}
@@ -27,7 +28,6 @@ use Rattle.sva_reports.specs.Counts.{counts_at}
 use Rattle.sva_script_reports.specs.Scripts.{At, answer_at, compared, held_at, judged, plain_read, plain_step, step_line, test_read}
 use Rattle.sva_script_reports.specs.Scripts.{is_expected, miss_text, test_made, test_step, told_step}
 use Rattle.sva_script_reports.specs.Lines.{AnswersLine, Compares, StepsPlain, behind_line, held_by, stopped}
-use Rattle.sva_why.specs.Why.{why_of}
 use Rattle.sva_script_reports.specs.declared.testing.Compared.TheVariants.{Differs}
 
 ok_inj : {A E : Type 0} {a b : A} → ◌≡◌ {A = Result A E} (Ok a) (Ok b) → a ≡ b
@@ -72,18 +72,20 @@ plain_wrong before after line words text expected out rest wrong takes =
 
 -- ---- The test
 
-test_wrong_by : (before after : Running) (line : ℕ) (words : List (List ℕ)) (text expected : List ℕ) (count : ℕ) (rest : ℕ → Bool → At → Said)
+test_wrong_by : (explained : Explaining) (before after : Running) (line : ℕ) (words : List (List ℕ)) (text expected : List ℕ) (count : ℕ)
+    (rest : ℕ → Bool → At → Said)
     (read : Result LineRead Wrong) (wrong : Wrong) → TakesRead before line (parts_of words) after text expected read (Err (stop.Wrong wrong))
-    → test_read before line words count rest read ≡ faulty (fault_of before.known line words wrong ∷ [])
-test_wrong_by before after line words text expected count rest (Ok read) wrong takes = absurd takes
-test_wrong_by before after line words text expected count rest (Err found) wrong takes =
+    → test_read explained before line words count rest read ≡ faulty (fault_of before.known line words wrong ∷ [])
+test_wrong_by explained before after line words text expected count rest (Ok read) wrong takes = absurd takes
+test_wrong_by explained before after line words text expected count rest (Err found) wrong takes =
     ap (λ w. faulty (fault_of before.known line words w ∷ [])) (sym takes.0)
 
-pub test_wrong : (before after : Running) (line : ℕ) (words : List (List ℕ)) (text expected : List ℕ) (count : ℕ) (rest : ℕ → Bool → At → Said) (wrong : Wrong)
+pub test_wrong : (explained : Explaining) (before after : Running) (line : ℕ) (words : List (List ℕ)) (text expected : List ℕ) (count : ℕ)
+    (rest : ℕ → Bool → At → Said) (wrong : Wrong)
     → Takes before line (parts_of words) after text expected (Err (stop.Wrong wrong))
-    → test_step before line words count rest ≡ faulty (fault_of before.known line words wrong ∷ [])
-test_wrong before after line words text expected count rest wrong takes =
-    test_wrong_by before after line words text expected count rest (read_at before (parts_of words)) wrong takes
+    → test_step explained before line words count rest ≡ faulty (fault_of before.known line words wrong ∷ [])
+test_wrong explained before after line words text expected count rest wrong takes =
+    test_wrong_by explained before after line words text expected count rest (read_at before (parts_of words)) wrong takes
 
 -- an answer is expected of a line that was read exactly where one is written
 expected_kind : (known : Known) (at : ℕ) (words : Option (List (List ℕ))) (found : Option (List ℕ)) → expected_in known at words ≡ Ok found
@@ -140,48 +142,54 @@ last_is before None (Some taken) tells = absurd tells
 last_is before (Some plain) None tells = absurd tells
 
 -- what holds the step back that was taken
-abbrev pub whys_of : Wire → Option Taken → List ℕ
-whys_of wire None = []
-whys_of wire (Some taken) = why_of wire taken.step taken.told.reply
+abbrev pub whys_of : (explained : Explaining) → Wire → Option Taken → List ℕ
+whys_of explained wire None = []
+whys_of explained wire (Some taken) = explained wire taken.step taken.told.reply
 
-whys_are : (before after : Running) (line : ℕ) (name : Option (List ℕ)) (step : Option Plain) (taken : Option Taken) → TellsStep before.seen step taken
-    → after ≡ behind before line name step → held_at before.seen step ≡ whys_of after.seen taken
-whys_are before after line name None None tells is = refl
-whys_are before after line name (Some plain) (Some taken) tells is =
-    λ i. why_of (sym is i).seen (sym tells.is_step i) (sym (ap (λ (t : Told). t.reply) tells.told) i)
-whys_are before after line name None (Some taken) tells is = absurd tells
-whys_are before after line name (Some plain) None tells is = absurd tells
+whys_are : (explained : Explaining) (before after : Running) (line : ℕ) (name : Option (List ℕ)) (step : Option Plain) (taken : Option Taken)
+    → TellsStep before.seen step taken
+    → after ≡ behind before line name step → held_at explained before.seen step ≡ whys_of explained after.seen taken
+whys_are explained before after line name None None tells is = refl
+whys_are explained before after line name (Some plain) (Some taken) tells is =
+    λ i. explained (sym is i).seen (sym tells.is_step i) (sym (ap (λ (t : Told). t.reply) tells.told) i)
+whys_are explained before after line name None (Some taken) tells is = absurd tells
+whys_are explained before after line name (Some plain) None tells is = absurd tells
 
 by_expected : (line : ℕ) (told answer whys expected : List ℕ) (count : ℕ) (rest : ℕ → Said) (found : Option (List ℕ)) → expected ≡ expected_text found
     → compared count line told answer whys rest found ≡ test_made (not (is_none found)) line told answer whys expected count rest
 by_expected line told answer whys expected count rest None is = refl
 by_expected line told answer whys expected count rest (Some text) is = ap (λ own. judged count line told answer whys (drop 1 own) rest) (sym is)
 
-made_by : (before after : Running) (line : ℕ) (words : List (List ℕ)) (text expected : List ℕ) (count : ℕ) (rest : ℕ → Bool → At → Said)
+made_by : (explained : Explaining) (before after : Running) (line : ℕ) (words : List (List ℕ)) (text expected : List ℕ) (count : ℕ)
+    (rest : ℕ → Bool → At → Said)
     (read : Result LineRead Wrong) (taken : Option Taken) → read_at before (parts_of words) ≡ read
     → TakesRead before line (parts_of words) after text expected read (Ok taken)
-    → test_read before line words count rest read
-    ≡ test_made (not (is_none (parts_of words).expected)) line (step_told taken text) (answered before.seen taken) (whys_of after.seen taken) expected count
+    → test_read explained before line words count rest read
+    ≡ test_made (not (is_none (parts_of words).expected)) line (step_told taken text) (answered before.seen taken)
+    (whys_of explained after.seen taken) expected count
     (λ more. rest more (is_none taken) (behind_line after))
-made_by before after line words text expected count rest (Ok read) taken is takes =
+made_by explained before after line words text expected count rest (Ok read) taken is takes =
     let kind = read_kind before.known (link_of (Some before.seen)) (parts_of words) read is in
     let last = last_is before read.step taken takes.0 in
-    ap (λ running. compared count line (told_step read.step) (answer_at before.seen read.step) (held_at before.seen read.step)
+    ap (λ running. compared count line (told_step read.step) (answer_at before.seen read.step) (held_at explained before.seen read.step)
     (λ more. rest more (is_none read.step) (behind_line running)) read.expected) (sym takes.1)
-    ∙ by_expected line (told_step read.step) (answer_at before.seen read.step) (held_at before.seen read.step) expected count
+    ∙ by_expected line (told_step read.step) (answer_at before.seen read.step) (held_at explained before.seen read.step) expected count
     (λ more. rest more (is_none read.step) (behind_line after)) read.expected takes.3
     ∙ (λ i. test_made (not (sym kind i)) line (told_is before read.step taken text takes.0 takes.2 i) (answer_is before read.step taken takes.0 i)
-    (whys_are before after line (parts_of words).name read.step taken takes.0 takes.1 i) expected count (λ more. rest more (last i) (behind_line after)))
-made_by before after line words text expected count rest (Err wrong) taken is takes = absurd takes.0
+    (whys_are explained before after line (parts_of words).name read.step taken takes.0 takes.1 i) expected count
+    (λ more. rest more (last i) (behind_line after)))
+made_by explained before after line words text expected count rest (Err wrong) taken is takes = absurd takes.0
 
-pub test_done : (before after : Running) (line : ℕ) (words : List (List ℕ)) (text expected : List ℕ) (count : ℕ) (rest : ℕ → Bool → At → Said)
+pub test_done : (explained : Explaining) (before after : Running) (line : ℕ) (words : List (List ℕ)) (text expected : List ℕ) (count : ℕ)
+    (rest : ℕ → Bool → At → Said)
     (taken : Option Taken)
     → Takes before line (parts_of words) after text expected (Ok taken)
-    → test_step before line words count rest
-    ≡ test_made (not (is_none (parts_of words).expected)) line (step_told taken text) (answered before.seen taken) (whys_of after.seen taken) expected count
+    → test_step explained before line words count rest
+    ≡ test_made (not (is_none (parts_of words).expected)) line (step_told taken text) (answered before.seen taken)
+    (whys_of explained after.seen taken) expected count
     (λ more. rest more (is_none taken) (behind_line after))
-test_done before after line words text expected count rest taken takes =
-    made_by before after line words text expected count rest (read_at before (parts_of words)) taken refl takes
+test_done explained before after line words text expected count rest taken takes =
+    made_by explained before after line words text expected count rest (read_at before (parts_of words)) taken refl takes
 
 -- ---- A line that is wrong
 
@@ -218,34 +226,36 @@ plain_failed before after line words given text expected old cleared new known w
     )
 
 -- the same of a test
-pub line_failed : (before after : Running) (line : ℕ) (words given : List (List ℕ)) (told answer expected old new : List ℕ) (is_last : Bool) (known : Known)
+pub line_failed : (explained : Explaining) (before after : Running) (line : ℕ) (words given : List (List ℕ)) (told answer expected old new : List ℕ)
+    (is_last : Bool) (known : Known)
     (taken : Taken) (wrong : Wrong)
     → given ≡ words → AnswersLine before line given after told answer expected taken (Err (stop.Wrong wrong)) → known ≡ after.known
     → new ≡ old ++ fault_text (fault_of known line given wrong)
-    → Compares before line words old new is_last after (Ok Differs)
-line_failed before after line words given told answer expected old new is_last known taken wrong same answers is appended =
-    subst (λ ws. Compares before line ws old new is_last after (Ok Differs)) same (
+    → Compares explained before line words old new is_last after (Ok Differs)
+line_failed explained before after line words given told answer expected old new is_last known taken wrong same answers is appended =
+    subst (λ ws. Compares explained before line ws old new is_last after (Ok Differs)) same (
       faulty (fault_of before.known line given wrong ∷ []),
       refl,
       told_wrong before after line given known wrong old new answers.0 is appended,
-      answers.1,
+      answers.1 explained,
     )
 
 -- an answer that differs, and what holds the step back
-pub line_differs : (before after : Running) (line : ℕ) (words given : List (List ℕ)) (told answer expected shown old missed new : List ℕ) (is_last : Bool)
+pub line_differs : (explained : Explaining) (before after : Running) (line : ℕ) (words given : List (List ℕ))
+    (told answer expected shown old missed new : List ℕ) (is_last : Bool)
     (taken : Taken)
     → given ≡ words → AnswersLine before line given after told answer expected taken (Ok is_last) → is_none (parts_of given).expected ≡ false
     → shown ≡ drop 1 expected → is_expected shown answer ≡ false → missed ≡ old ++ miss_text line told shown answer
-    → new ≡ missed ++ held_by is_last after.seen taken
-    → Compares before line words old new is_last after (Ok Differs)
-line_differs before after line words given told answer expected shown old missed new is_last taken same answers some is differs told_so behind_it =
-    let whys = held_by is_last after.seen taken in
-    subst (λ ws. Compares before line ws old new is_last after (Ok Differs)) same (
+    → new ≡ missed ++ held_by explained is_last after.seen taken
+    → Compares explained before line words old new is_last after (Ok Differs)
+line_differs explained before after line words given told answer expected shown old missed new is_last taken same answers some is differs told_so behind_it =
+    let whys = held_by explained is_last after.seen taken in
+    subst (λ ws. Compares explained before line ws old new is_last after (Ok Differs)) same (
       bad (miss_text line told shown answer ++ whys),
       refl,
       behind_it ∙ ap (λ l. l ++ whys) told_so ∙ append_assoc old (miss_text line told shown answer) whys,
       λ count rest.
-          answers count rest
+          answers explained count rest
           ∙ ap (λ b. test_made (not b) line told answer whys expected count (λ more. rest more is_last (behind_line after))) some
           ∙ ap (λ text. judged count line told answer whys text (λ more. rest more is_last (behind_line after))) (sym is)
           ∙ ap (λ t. cond t (rest (count + 1) is_last (behind_line after)) (bad (miss_text line told shown answer ++ whys))) differs,
@@ -255,9 +265,9 @@ line_differs before after line words given told answer expected shown old missed
 pub step_answered : (before after : Running) (line : ℕ) (words : List (List ℕ)) (text expected cleared answer : List ℕ) (taken : Taken)
     → Takes before line (parts_of words) after text expected (Ok (Some taken)) → cleared ≡ [] → answer ≡ cleared ++ reply_text taken.told.reply
     → AnswersLine before line words after text answer expected taken (Ok false)
-step_answered before after line words text expected cleared answer taken takes none is count rest =
-    test_done before after line words text expected count rest (Some taken) takes
-    ∙ ap (λ a. test_made (not (is_none (parts_of words).expected)) line text a (why_of after.seen taken.step taken.told.reply) expected count
+step_answered before after line words text expected cleared answer taken takes none is explained count rest =
+    test_done explained before after line words text expected count rest (Some taken) takes
+    ∙ ap (λ a. test_made (not (is_none (parts_of words).expected)) line text a (explained after.seen taken.step taken.told.reply) expected count
     (λ more. rest more false (behind_line after)))
     (sym (is ∙ ap (λ l. l ++ reply_text taken.told.reply) none))
 
@@ -277,13 +287,13 @@ pub end_answered : (before after : Running) (line : ℕ) (words : List (List ℕ
     → Takes before line (parts_of words) after text expected (Ok None) → cleared ≡ [] → Counted after.seen.places found → told ≡ text ++ codes "end"
     → answer ≡ cleared ++ counts_text (record { free = found.free; mapped = found.mapped; withheld = found.withheld })
     → AnswersLine before line words after told answer expected stale (Ok true)
-end_answered before after line words text expected cleared told answer found stale takes none counted ends is count rest =
+end_answered before after line words text expected cleared told answer found stale takes none counted ends is explained count rest =
     let same = ended_by before after line (parts_of words) text expected (read_at before (parts_of words)) takes in
     let all : answer ≡ counts_at before.seen =
     is ∙ ap (λ l. l ++ counts_text (record { free = found.free; mapped = found.mapped; withheld = found.withheld })) none
     ∙ (λ i. counts_text (record { free = counted.free i; mapped = counted.mapped i; withheld = counted.withheld i }))
     ∙ ap (λ (r : Running). counts_at r.seen) same.0 in
-    test_done before after line words text expected count rest None takes
+    test_done explained before after line words text expected count rest None takes
     ∙ (λ i. test_made (not (is_none (parts_of words).expected)) line (sym (ends ∙ ap (λ l. l ++ codes "end") same.1) i) (sym all i) [] expected count
     (λ more. rest more true (behind_line after)))
 

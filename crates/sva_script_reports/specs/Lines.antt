@@ -3,6 +3,7 @@ use Rattle.std.specs.Prelude.{◌≡◌, ℕ, ◌+◌, Bool, true, false, is_non
 use Rattle.std.specs.declared.alloc.AllocError.{AllocError}
 use Rattle.sva_step.specs.declared.limits.Config.{Config}
 use Rattle.sva_streams.specs.declared.streams.Outcome.TheVariants.{Faulted}
+use Rattle.sva_reports.specs.Explaining.{Explaining}
 use Rattle.sva_script.specs.declared.faults.Stop.{Stop}
 use Rattle.sva_script.specs.declared.faults.Stop.TheVariants as stop
 use Rattle.sva_script_reading.specs.Said.{IsSaid, Said, faulty}
@@ -14,7 +15,6 @@ use Rattle.sva_script_reports.specs.declared.testing.Compared.TheVariants.{Diffe
 use Rattle.sva_script_runs.specs.declared.running.Taken.{Taken}
 use Rattle.sva_script_runs.specs.Runs.{Running}
 use Rattle.sva_model.specs.Wire.{Wire}
-use Rattle.sva_why.specs.Why.{why_of}
 
 -- behind a line of the script
 abbrev pub behind_line : Running → At
@@ -30,16 +30,16 @@ StepsPlain before line words old new after (Ok false) =
 StepsPlain before line words old new after (Err lack) = Unit {0}
 
 -- the answer is as expected, or nothing is expected of it, or it differs or the line is wrong, and that alone is written
-abbrev pub Compares : Running → (line : ℕ) → List (List ℕ) → (old new : List ℕ) → (is_last : Bool) → Running → Result Compared AllocError → Type 0
-Compares before line words old new is_last after (Ok Same) =
+abbrev pub Compares : Explaining → Running → (line : ℕ) → List (List ℕ) → (old new : List ℕ) → (is_last : Bool) → Running → Result Compared AllocError → Type 0
+Compares explained before line words old new is_last after (Ok Same) =
     (new ≡ old)
-    × ((count : ℕ) (rest : ℕ → Bool → At → Said) → test_step before line words count rest ≡ rest (count + 1) is_last (behind_line after))
-Compares before line words old new is_last after (Ok NotExpected) =
-    (new ≡ old) × ((count : ℕ) (rest : ℕ → Bool → At → Said) → test_step before line words count rest ≡ rest count is_last (behind_line after))
-Compares before line words old new is_last after (Ok Differs) =
+    × ((count : ℕ) (rest : ℕ → Bool → At → Said) → test_step explained before line words count rest ≡ rest (count + 1) is_last (behind_line after))
+Compares explained before line words old new is_last after (Ok NotExpected) =
+    (new ≡ old) × ((count : ℕ) (rest : ℕ → Bool → At → Said) → test_step explained before line words count rest ≡ rest count is_last (behind_line after))
+Compares explained before line words old new is_last after (Ok Differs) =
     (said : Said) × (said.outcome ≡ Faulted) × (new ≡ old ++ said.text)
-    × ((count : ℕ) (rest : ℕ → Bool → At → Said) → test_step before line words count rest ≡ said)
-Compares before line words old new is_last after (Err lack) = Unit {0}
+    × ((count : ℕ) (rest : ℕ → Bool → At → Said) → test_step explained before line words count rest ≡ said)
+Compares explained before line words old new is_last after (Err lack) = Unit {0}
 
 -- what is wrong with the lines of a script was written in place of what was there, if something is
 abbrev pub IsToldOf : Result Config Said → (old new : List ℕ) → Type 0
@@ -52,20 +52,21 @@ stopped is_last (Ok done) = Ok is_last
 stopped is_last (Err lack) = Err stop.Memory
 
 -- what holds the step back that was taken, where it has left this; the last line has no step
-abbrev pub held_by : (is_last : Bool) → Wire → Taken → List ℕ
-held_by true wire taken = []
-held_by false wire taken = why_of wire taken.step taken.told.reply
+abbrev pub held_by : Explaining → (is_last : Bool) → Wire → Taken → List ℕ
+held_by explained true wire taken = []
+held_by explained false wire taken = explained wire taken.step taken.told.reply
 
--- a line was taken, and what it expects is to be compared with its answer; or it is wrong, and changes nothing
+-- a line was taken, and what it expects is to be compared with its answer, whatever explains; or it is wrong, and changes nothing
 abbrev pub AnswersLine : Running → (line : ℕ) → List (List ℕ) → Running → (told answer expected : List ℕ) → Taken → Result Bool Stop → Type 0
 AnswersLine before line words after told answer expected taken (Ok is_last) =
-    (count : ℕ) (rest : ℕ → Bool → At → Said) → test_step before line words count rest
-    ≡ test_made (not (is_none (parts_of words).expected)) line told answer (held_by is_last after.seen taken) expected count
+    (explained : Explaining) (count : ℕ) (rest : ℕ → Bool → At → Said) → test_step explained before line words count rest
+    ≡ test_made (not (is_none (parts_of words).expected)) line told answer (held_by explained is_last after.seen taken) expected count
     (λ more. rest more is_last (behind_line after))
 AnswersLine before line words after told answer expected taken (Err stop.Memory) = Unit {0}
 AnswersLine before line words after told answer expected taken (Err (stop.Wrong wrong)) =
     (after ≡ before)
-    × ((count : ℕ) (rest : ℕ → Bool → At → Said) → test_step before line words count rest ≡ faulty (fault_of before.known line words wrong ∷ []))
+    × ((explained : Explaining) (count : ℕ) (rest : ℕ → Bool → At → Said) → test_step explained before line words count rest ≡ faulty
+    (fault_of before.known line words wrong ∷ []))
 
 -- ---- The words of a line, be it a step, the config or nothing
 
@@ -79,15 +80,16 @@ WordsPlain before line old new after (Ok false) =
 WordsPlain before line old new after (Err lack) = Unit {0}
 
 -- the answer is as expected, or nothing is expected, or it differs or the line is wrong, and that alone is written
-abbrev pub ComparesWords : At → (was_past : Bool) → (line : ℕ) → List (List ℕ) → (old new : List ℕ) → (is_past : Bool) → At → Result Compared AllocError
+abbrev pub ComparesWords : Explaining → At → (was_past : Bool) → (line : ℕ) → List (List ℕ) → (old new : List ℕ) → (is_past : Bool) → At
+    → Result Compared AllocError
     → Type 0
-ComparesWords before was_past line words old new is_past after (Ok Same) =
+ComparesWords explained before was_past line words old new is_past after (Ok Same) =
     (new ≡ old) × ((text : List ℕ) (count : ℕ) (rest : ℕ → Bool → At → Said)
-    → test_line before was_past (line, text) count rest words ≡ rest (count + 1) is_past after)
-ComparesWords before was_past line words old new is_past after (Ok NotExpected) =
+    → test_line explained before was_past (line, text) count rest words ≡ rest (count + 1) is_past after)
+ComparesWords explained before was_past line words old new is_past after (Ok NotExpected) =
     (new ≡ old) × ((text : List ℕ) (count : ℕ) (rest : ℕ → Bool → At → Said)
-    → test_line before was_past (line, text) count rest words ≡ rest count is_past after)
-ComparesWords before was_past line words old new is_past after (Ok Differs) =
+    → test_line explained before was_past (line, text) count rest words ≡ rest count is_past after)
+ComparesWords explained before was_past line words old new is_past after (Ok Differs) =
     (said : Said) × (said.outcome ≡ Faulted) × (new ≡ old ++ said.text)
-    × ((text : List ℕ) (count : ℕ) (rest : ℕ → Bool → At → Said) → test_line before was_past (line, text) count rest words ≡ said)
-ComparesWords before was_past line words old new is_past after (Err lack) = Unit {0}
+    × ((text : List ℕ) (count : ℕ) (rest : ℕ → Bool → At → Said) → test_line explained before was_past (line, text) count rest words ≡ said)
+ComparesWords explained before was_past line words old new is_past after (Err lack) = Unit {0}

@@ -7,6 +7,7 @@ use Rattle.sva_labels.specs.Host.{first_wire, next_of, reply_of}
 use Rattle.sva_model.specs.Wire.{Wire}
 use Rattle.sva_grammar.specs.Grammar.{is_too_large, words_of}
 use Rattle.sva_grammar.specs.Replies.{ended, reply_text}
+use Rattle.sva_reports.specs.Explaining.{Explaining}
 use Rattle.sva_script.specs.declared.faults.Wanted.TheVariants as wanted
 use Rattle.sva_script.specs.declared.faults.Wrong.{Wrong}
 use Rattle.sva_script.specs.Expect.{are_as_expected}
@@ -18,7 +19,6 @@ use Rattle.sva_reports.specs.Counts.{counts_at}
 use Rattle.sva_script_reading.specs.Said.{Said, bad, faulty, well}
 use Rattle.sva_script_reading.specs.Lines.{LineRead, Plain}
 use Rattle.sva_script_runs.specs.Runs.{Running, behind, read_at}
-use Rattle.sva_why.specs.Why.{why_of}
 
 -- ---- In the run
 
@@ -83,9 +83,9 @@ answer_at wire None = counts_at wire
 answer_at wire (Some plain) = reply_text (reply_of wire plain.step)
 
 -- what holds its step back where that has left this; of a step that isn't held back, and of the last line, nothing
-abbrev pub held_at : Wire → Option Plain → List ℕ
-held_at wire None = []
-held_at wire (Some plain) = why_of (next_of wire plain.step) plain.step (reply_of wire plain.step)
+abbrev pub held_at : Explaining → Wire → Option Plain → List ℕ
+held_at explained wire None = []
+held_at explained wire (Some plain) = explained (next_of wire plain.step) plain.step (reply_of wire plain.step)
 
 -- is the answer as expected, word by word?
 abbrev pub is_expected : (expected answer : List ℕ) → Bool
@@ -121,28 +121,28 @@ test_made false line told answer whys expected count rest = rest count
 test_made true line told answer whys expected count rest = judged count line told answer whys (drop 1 expected) rest
 
 -- what a line comes to where so many answers were as expected; `rest` is what those behind it come to
-abbrev pub test_read : Running → (line : ℕ) → List (List ℕ) → (count : ℕ) → (rest : ℕ → Bool → At → Said) → Result LineRead Wrong → Said
-test_read running line words count rest (Ok read) =
-    compared count line (told_step read.step) (answer_at running.seen read.step) (held_at running.seen read.step)
+abbrev pub test_read : Explaining → Running → (line : ℕ) → List (List ℕ) → (count : ℕ) → (rest : ℕ → Bool → At → Said) → Result LineRead Wrong → Said
+test_read explained running line words count rest (Ok read) =
+    compared count line (told_step read.step) (answer_at running.seen read.step) (held_at explained running.seen read.step)
     (λ more. rest more (is_none read.step) (past_line running line (parts_of words) read)) read.expected
-test_read running line words count rest (Err wrong) = faulty (fault_of running.known line words wrong ∷ [])
+test_read explained running line words count rest (Err wrong) = faulty (fault_of running.known line words wrong ∷ [])
 
-abbrev pub test_step : Running → (line : ℕ) → List (List ℕ) → (count : ℕ) → (rest : ℕ → Bool → At → Said) → Said
-test_step running line words count rest = test_read running line words count rest (read_at running (parts_of words))
+abbrev pub test_step : Explaining → Running → (line : ℕ) → List (List ℕ) → (count : ℕ) → (rest : ℕ → Bool → At → Said) → Said
+test_step explained running line words count rest = test_read explained running line words count rest (read_at running (parts_of words))
 
 -- behind `end => ..` no line may say anything
-abbrev pub test_line : At → (is_past : Bool) → Line → (count : ℕ) → (rest : ℕ → Bool → At → Said) → List (List ℕ) → Said
-test_line at is_past line count rest [] = rest count is_past at
-test_line at is_past line count rest words =
+abbrev pub test_line : Explaining → At → (is_past : Bool) → Line → (count : ℕ) → (rest : ℕ → Bool → At → Said) → List (List ℕ) → Said
+test_line explained at is_past line count rest [] = rest count is_past at
+test_line explained at is_past line count rest words =
     if at.is_config then rest count is_past (past_config at)
     else if is_past then faulty (fault_of at.running.known line.0 words (at_word 0 wanted.NoLine) ∷ [])
-    else test_step at.running line.0 words count rest
+    else test_step explained at.running line.0 words count rest
 
 -- what is said where so many answers were as expected, the last line was there or not, and these lines are left
-unfoldable pub test_from : (count : ℕ) → (is_past : Bool) → At → List Line → Said
-test_from count is_past at [] = well (verdict_text count)
-test_from count is_past at (line ∷ lines) =
-    test_line at is_past line count (λ more past next. test_from more past next lines) (script_words line.1)
+unfoldable pub test_from : Explaining → (count : ℕ) → (is_past : Bool) → At → List Line → Said
+test_from explained count is_past at [] = well (verdict_text count)
+test_from explained count is_past at (line ∷ lines) =
+    test_line explained at is_past line count (λ more past next. test_from explained more past next lines) (script_words line.1)
 
 -- what is wrong with the lines of a script is told in place of the first answer that differs, and all of it
 abbrev pub told_by : Outcome → (said wrong : Said) → Said
@@ -153,10 +153,10 @@ abbrev pub or_wrong : Result Config Said → Said → Said
 or_wrong (Ok config) said = said
 or_wrong (Err wrong) said = told_by said.outcome said wrong
 
-abbrev pub tested : List ℕ → Result Config Said → Said
-tested text (Ok config) = or_wrong (begin_of text) (said_by (λ config. test_from 0 false (start config) (lines_from 1 text)) (Ok config))
-tested text (Err said) = said
+abbrev pub tested : Explaining → List ℕ → Result Config Said → Said
+tested explained text (Ok config) = or_wrong (begin_of text) (said_by (λ config. test_from explained 0 false (start config) (lines_from 1 text)) (Ok config))
+tested explained text (Err said) = said
 
 -- what `test` says of a script
-abbrev pub test_of : List ℕ → Said
-test_of text = tested text (first_config text)
+abbrev pub test_of : Explaining → List ℕ → Said
+test_of explained text = tested explained text (first_config text)

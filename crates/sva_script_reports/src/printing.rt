@@ -15,6 +15,7 @@ use crate::whying::why;
 use std::alloc::{AllocError, Global};
 use std::io::{Read, Write};
 use sva_streams::{DriveFault, Outcome, Told, read_all, write_all};
+use sva_reports::Explains;
 
 /// What is said of a script.
 #[derive(Clone, Copy, PartialEq, Eq)]
@@ -31,7 +32,7 @@ pub enum Saying {
 
 /// Reads a script to its end, and writes what is said of it. `Faulted` tells that a line is wrong, the config out of its
 /// limits, or an answer not as expected. After `Write` or `Memory` a prefix of the text was written, after `Read` nothing.
-pub fn print<R: Read, W: Write>(
+pub fn print<E: Explains, R: Read, W: Write>(
     alloc: Global,
     saying: Saying,
     reader: &mut Told<R>,
@@ -40,7 +41,7 @@ pub fn print<R: Read, W: Write>(
     requires reader { IsNew reader.old }
     requires writer { IsNew writer.old }
     ensures printed { IfSome (R.remaining reader.old.inner)
-        (λ input. Prints (said_of saying input) (W.contents writer.old.inner) (W.contents writer.new.inner) result) }
+        (λ input. Prints (said_of E.explained saying input) (W.contents writer.old.inner) (W.contents writer.new.inner) result) }
     ensures end { OnOk result ((reader.new.failures ≡ 0) × IsAtEnd (R.remaining reader.new.inner) × (writer.new.failures ≡ 0)) }
     ensures read { result ≡ Err DriveFault.Read → (writer.new ≡ writer.old)
         × ((reader.new.failures ≡ 1) ⊎ ((reader.new.failures ≡ 0) × (reader.new.calls ≡ MOST_TURNS))) }
@@ -51,22 +52,22 @@ pub fn print<R: Read, W: Write>(
     ensures turns { reader.new.calls ≤ MOST_TURNS }
 {
     let text = read_all(alloc, reader)?;
-    print_text(alloc, saying, text.as_slice(), writer)
+    print_text::<E, W>(alloc, saying, text.as_slice(), writer)
 }
 
 /// Writes what is said of a script.
-fn print_text<W: Write>(
+fn print_text<E: Explains, W: Write>(
     alloc: Global,
     saying: Saying,
     text: &[u8],
     writer: &mut Told<W>,
 ) -> Result<Outcome, DriveFault>
     requires { IsNew writer.old }
-    ensures printed { Prints (said_of saying text.now) (W.contents writer.old.inner) (W.contents writer.new.inner) result }
+    ensures printed { Prints (said_of E.explained saying text.now) (W.contents writer.old.inner) (W.contents writer.new.inner) result }
     ensures told { Tells writer.old writer.new result }
 {
     let mut out = Vec::new(alloc);
-    match say(alloc, saying, text, &mut out) {
+    match say::<E>(alloc, saying, text, &mut out) {
         Ok(outcome) => {
             write_all(writer, out.as_slice())?;
             Ok(outcome)
@@ -76,14 +77,19 @@ fn print_text<W: Write>(
 }
 
 /// Appends what is said of a script.
-fn say(alloc: Global, saying: Saying, text: &[u8], out: &mut Vec<u8>) -> Result<Outcome, AllocError>
+fn say<E: Explains>(
+    alloc: Global,
+    saying: Saying,
+    text: &[u8],
+    out: &mut Vec<u8>,
+) -> Result<Outcome, AllocError>
     requires { out.old.items ≡ [] }
-    ensures { IsSaid (said_of saying text.now) out.new.items result }
+    ensures { IsSaid (said_of E.explained saying text.now) out.new.items result }
 {
     match saying {
         Saying::Plain => plain(alloc, text, out),
-        Saying::Test => test(alloc, text, out),
+        Saying::Test => test::<E>(alloc, text, out),
         Saying::Show => show(alloc, text, out),
-        Saying::Why => why(alloc, text, out),
+        Saying::Why => why::<E>(alloc, text, out),
     }
 }

@@ -10,31 +10,35 @@ ghost use Rattle.sva_script_reports.specs.Whys.{why_from, whys_of};
 
 use std::alloc::{AllocError, Global};
 use sva_streams::Outcome;
+use sva_reports::{Explains, is_held};
 use sva_script::{Stop, split};
 use sva_script_reading::{
     Desk, Lines, put_bad_config, put_number, put_reply, put_wrong, read_script,
 };
 use sva_script_runs::{Came, Run, Taken};
 use sva_step::{Answer, Config, Refusal};
-use sva_why::{is_held, put_why_in};
 
 /// Said where no step was held back.
 const NOTHING: &[u8] = b"nothing was refused, blocked or withheld\n";
 
-/// Runs a script, and writes for each step that was refused, blocked or withheld what holds it back. Where a line is
-/// wrong, or the config out of its limits, that is written instead, and the result is `Faulted`.
-pub fn why(alloc: Global, text: &[u8], out: &mut Vec<u8>) -> Result<Outcome, AllocError>
+/// Runs a script, and writes for each step that was refused, blocked or withheld what holds it back, as `E` explains it.
+/// Where a line is wrong, or the config out of its limits, that is written instead, and the result is `Faulted`.
+pub fn why<E: Explains>(
+    alloc: Global,
+    text: &[u8],
+    out: &mut Vec<u8>,
+) -> Result<Outcome, AllocError>
     requires { out.old.items ≡ [] }
-    ensures { IsSaid (whys_of text.now) out.new.items result }
+    ensures { IsSaid (whys_of E.explained text.now) out.new.items result }
 {
     match read_script(alloc, text, out)? {
-        Some(config) => why_script(alloc, config, text, out),
+        Some(config) => why_script::<E>(alloc, config, text, out),
         None => Ok(Outcome::Faulted),
     }
 }
 
 /// Runs a script whose lines can be read.
-fn why_script(
+fn why_script<E: Explains>(
     alloc: Global,
     config: Config,
     text: &[u8],
@@ -42,11 +46,11 @@ fn why_script(
 ) -> Result<Outcome, AllocError>
     requires short { length text.now ≤ 1048576 }
     requires empty { out.old.items ≡ [] }
-    ensures { IsSaid (said_by (λ config. why_from [] (start config) (lines_from 1 text.now)) (Ok config))
+    ensures { IsSaid (said_by (λ config. why_from E.explained [] (start config) (lines_from 1 text.now)) (Ok config))
         out.new.items result }
 {
     match Run::open(alloc, config) {
-        Ok(mut run) => why_lines(alloc, &mut run, text, out),
+        Ok(mut run) => why_lines::<E>(alloc, &mut run, text, out),
         Err(Refusal::BadConfig) => {
             put_bad_config(out)?;
             Ok(Outcome::Faulted)
@@ -56,7 +60,7 @@ fn why_script(
 }
 
 /// Takes the lines, and appends the case of each step that is held back. The first that says something is the config.
-fn why_lines(
+fn why_lines<E: Explains>(
     alloc: Global,
     run: &mut Run,
     text: &[u8],
@@ -64,7 +68,7 @@ fn why_lines(
 ) -> Result<Outcome, AllocError>
     requires short { length text.now ≤ 1048576 }
     requires empty { out.old.items ≡ [] }
-    ensures { IsSaid (why_from [] (record { is_config = true; running = run.old }) (lines_from 1 text.now))
+    ensures { IsSaid (why_from E.explained [] (record { is_config = true; running = run.old }) (lines_from 1 text.now))
         out.new.items result }
 {
     let mut lines = Lines::new(text);
@@ -72,7 +76,7 @@ fn why_lines(
     let mut is_config = true;
     while let Some((number, line)) = lines.next() {
         split(line, &mut desk.words)?;
-        if !why_words(alloc, run, number, &mut is_config, &mut desk, out)? {
+        if !why_words::<E>(alloc, run, number, &mut is_config, &mut desk, out)? {
             return Ok(Outcome::Faulted);
         }
     }
@@ -90,7 +94,7 @@ fn end_cases(out: &mut Vec<u8>) -> Result<Outcome, AllocError>
 }
 
 /// Takes the words of a line. Where they are wrong, that is said instead of all before: `false`.
-fn why_words(
+fn why_words<E: Explains>(
     alloc: Global,
     run: &mut Run,
     number: u64,
@@ -98,7 +102,7 @@ fn why_words(
     desk: &mut Desk<'_>,
     out: &mut Vec<u8>,
 ) -> Result<bool, AllocError>
-    ensures { WordsWhy (record { is_config = is_config.old; running = run.old }) number
+    ensures { WordsWhy E.explained (record { is_config = is_config.old; running = run.old }) number
         (map (λ word. word.now) desk.old.words.items) out.old.items out.new.items
         (record { is_config = is_config.new; running = run.new }) result }
 {
@@ -109,19 +113,19 @@ fn why_words(
         *is_config = false;
         return Ok(true);
     }
-    why_step(alloc, run, number, desk, out)
+    why_step::<E>(alloc, run, number, desk, out)
 }
 
 /// Takes the words of a step's line, and appends its case. Where they are wrong, that is said instead of all before:
 /// `false`.
-fn why_step(
+fn why_step<E: Explains>(
     alloc: Global,
     run: &mut Run,
     number: u64,
     desk: &mut Desk<'_>,
     out: &mut Vec<u8>,
 ) -> Result<bool, AllocError>
-    ensures { StepsWhy run.old number (map (λ word. word.now) desk.old.words.items) out.old.items out.new.items
+    ensures { StepsWhy E.explained run.old number (map (λ word. word.now) desk.old.words.items) out.old.items out.new.items
         run.new result }
 {
     let words = desk.words.as_slice();
@@ -135,7 +139,7 @@ fn why_step(
         &mut taken,
     ) {
         Ok(Came::Step) => {
-            put_case(alloc, run, number, desk.plain.as_slice(), &taken, out)?;
+            put_case::<E>(alloc, run, number, desk.plain.as_slice(), &taken, out)?;
             Ok(true)
         }
         Ok(Came::End) => Ok(true),
@@ -175,7 +179,7 @@ fn put_case_line(
 }
 
 /// Appends the case of a step that is held back.
-fn put_held(
+fn put_held<E: Explains>(
     alloc: Global,
     run: &Run,
     number: u64,
@@ -184,14 +188,14 @@ fn put_held(
     out: &mut Vec<u8>,
 ) -> Result<(), AllocError>
     ensures { OnOk result (out.new.items ≡ out.old.items
-        ++ held_text number plain.now run.now.seen taken.now.step taken.now.told.reply) }
+        ++ held_text E.explained number plain.now run.now.seen taken.now.step taken.now.told.reply) }
 {
     put_case_line(out, number, plain, &taken.told.reply)?;
-    put_why_in(out, alloc, run.world(), &taken.step, &taken.told.reply)
+    E::put_explained(out, alloc, run.world(), &taken.step, &taken.told.reply)
 }
 
 /// Appends the case of a step, if it is held back.
-fn put_case(
+fn put_case<E: Explains>(
     alloc: Global,
     run: &Run,
     number: u64,
@@ -200,10 +204,10 @@ fn put_case(
     out: &mut Vec<u8>,
 ) -> Result<(), AllocError>
     ensures { OnOk result (out.new.items ≡ out.old.items
-        ++ case_text number plain.now run.now.seen taken.now.step taken.now.told.reply) }
+        ++ case_text E.explained number plain.now run.now.seen taken.now.step taken.now.told.reply) }
 {
     if is_held(&taken.told.reply) {
-        put_held(alloc, run, number, plain, taken, out)
+        put_held::<E>(alloc, run, number, plain, taken, out)
     } else {
         Ok(())
     }

@@ -11,6 +11,7 @@ use Rattle.sva_grammar.specs.Configs.{is_fit}
 use Rattle.sva_grammar.specs.Replies.{ended}
 use Rattle.sva_reports.proofs.ScriptLemmas.{configs_are_tested}
 use Rattle.sva_grammar.proofs.ConfigLemmas.{unfit_from}
+use Rattle.sva_reports.specs.Explaining.{Explaining}
 use Rattle.sva_script.specs.declared.faults.Wrong.{Wrong}
 use Rattle.sva_script.specs.Lines.{parts_of}
 use Rattle.sva_script_runs.specs.declared.running.Taken.{Taken}
@@ -74,52 +75,56 @@ config_refused now seen (Err fault) config old mid new same none reads unfit tol
 row_is : (wire : Wire) (plain : Plain) (taken : Taken) → IsTaken wire plain.step taken → row_seen taken ≡ row_of wire plain
 row_is wire plain taken is = λ i. record { step = is.is_step i; told = is.told i; delivered = is.delivered i; first_sent = is.first_sent i }
 
-row_by : (now : Tracer) (running after : Running) (words : List (List ℕ)) (text expected : List ℕ) (taken : Taken) (read : Result LineRead Wrong)
+row_by : (explained : Explaining) (now : Tracer) (running after : Running) (words : List (List ℕ)) (text expected : List ℕ) (taken : Taken)
+    (read : Result LineRead Wrong)
     → TakesRead running now.lines (parts_of words) after text expected read (Ok (Some taken))
-    → trace_read now.style now.tracing running now.lines words read
+    → trace_read explained now.style now.tracing running now.lines words read
     ≡ (
       record { run = Some after; has_ended = now.tracing.has_ended; has_faulted = now.tracing.has_faulted },
-      step_text now.style now.lines text after.seen (row_seen taken),
+      step_text explained now.style now.lines text after.seen (row_seen taken),
     )
-row_by now running after words text expected taken (Ok read) takes = by_step read.step refl takes.0 takes.1 takes.2
+row_by explained now running after words text expected taken (Ok read) takes = by_step read.step refl takes.0 takes.1 takes.2
   where
     by_step : (step : Option Plain) → read.step ≡ step → TellsStep running.seen step (Some taken) → after ≡ behind running now.lines (parts_of words).name step
         → text ≡ plain_text step
-        → trace_read now.style now.tracing running now.lines words (Ok read)
+        → trace_read explained now.style now.tracing running now.lines words (Ok read)
         ≡ (
           record { run = Some after; has_ended = now.tracing.has_ended; has_faulted = now.tracing.has_faulted },
-          step_text now.style now.lines text after.seen (row_seen taken),
+          step_text explained now.style now.lines text after.seen (row_seen taken),
         )
     by_step None is tells next same = absurd tells
     by_step (Some plain) is tells next same =
-        ap (trace_step now.style now.tracing running now.lines words) is
+        ap (trace_step explained now.style now.tracing running now.lines words) is
         ∙ (λ i. (
           record { run = Some (sym next i); has_ended = now.tracing.has_ended; has_faulted = now.tracing.has_faulted },
-          step_text now.style now.lines (sym same i) (sym next i).seen (sym (row_is running.seen plain taken tells) i),
+          step_text explained now.style now.lines (sym same i) (sym next i).seen (sym (row_is running.seen plain taken tells) i),
         ))
-row_by now running after words text expected taken (Err wrong) takes = absurd takes.0
+row_by explained now running after words text expected taken (Err wrong) takes = absurd takes.0
 
-some_line : (now : Tracer) (words : List (List ℕ)) (running : Running) (run : Option Running) → run ≡ Some running → now.tracing.has_ended ≡ false
-    → trace_words now.style now.tracing now.lines words run ≡ trace_read now.style now.tracing running now.lines words (read_at running (parts_of words))
-some_line now words running run is open_yet =
-    ap (trace_words now.style now.tracing now.lines words) is
+some_line : (explained : Explaining) (now : Tracer) (words : List (List ℕ)) (running : Running) (run : Option Running) → run ≡ Some running
+    → now.tracing.has_ended ≡ false
+    → trace_words explained now.style now.tracing now.lines words run ≡ trace_read explained now.style now.tracing running now.lines words
+    (read_at running (parts_of words))
+some_line explained now words running run is open_yet =
+    ap (trace_words explained now.style now.tracing now.lines words) is
     ∙ ap (λ t. cond t (is_wrong now.tracing (fault_of running.known now.lines words (at_word 0 wanted.NoLine)))
-    (trace_read now.style now.tracing running now.lines words (read_at running (parts_of words)))) open_yet
+    (trace_read explained now.style now.tracing running now.lines words (read_at running (parts_of words)))) open_yet
 
 -- its row was appended
-pub row_told : (now seen : Tracer) (running after : Running) (words : List (List ℕ)) (text expected old new : List ℕ) (taken : Taken) → seen ≡ now
+pub row_told : (explained : Explaining) (now seen : Tracer) (running after : Running) (words : List (List ℕ)) (text expected old new : List ℕ)
+    (taken : Taken) → seen ≡ now
     → now.tracing.run ≡ Some running → now.tracing.has_ended ≡ false
     → Takes running now.lines (parts_of words) after text expected (Ok (Some taken)) → new ≡ old
-    ++ step_text now.style now.lines text after.seen (row_seen taken)
-    → Traces now (trace_words now.style now.tracing now.lines words now.tracing.run)
+    ++ step_text explained now.style now.lines text after.seen (row_seen taken)
+    → Traces now (trace_words explained now.style now.tracing now.lines words now.tracing.run)
     (record {
       style = seen.style;
       lines = seen.lines;
       tracing = record { run = Some after; has_ended = seen.tracing.has_ended; has_faulted = seen.tracing.has_faulted };
     }) old new
-row_told now seen running after words text expected old new taken same is open_yet takes told =
-    let traced = some_line now words running now.tracing.run is open_yet
-    ∙ row_by now running after words text expected taken (read_at running (parts_of words)) takes in (
+row_told explained now seen running after words text expected old new taken same is open_yet takes told =
+    let traced = some_line explained now words running now.tracing.run is open_yet
+    ∙ row_by explained now running after words text expected taken (read_at running (parts_of words)) takes in (
       ap (λ (t : Tracer). t.style) same,
       ap (λ (t : Tracer). t.lines) same,
       (λ i. record {

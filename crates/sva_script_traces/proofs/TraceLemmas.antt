@@ -9,6 +9,7 @@ use Rattle.sva_grammar.specs.Grammar.{lines_of}
 use Rattle.sva_grammar.specs.Places.{line_len}
 use Rattle.sva_grammar.proofs.LineLemmas.{lines_of-first, lines_of-last}
 use Rattle.sva_grammar.proofs.PlaceLemmas.{not_found}
+use Rattle.sva_reports.specs.Explaining.{Explaining}
 use Rattle.sva_script.proofs.ItemLemmas.{found_at}
 use Rattle.sva_script.specs.Lines.{script_words}
 use Rattle.sva_script_traces.specs.declared.rows.Style.{Style}
@@ -70,55 +71,58 @@ then_nothing said = refl
 pub then_both : (first second : List ℕ) (said : Said) → then_said first (then_said second said) ≡ then_said (first ++ second) said
 then_both first second said = ap (λ text. record { text = text; outcome = said.outcome }) (sym (append_assoc first second said.text))
 
-rest_of : (old : Tracer) (line more : List ℕ) → NoEnd line
-    → trace_rest old (line ++ 10 ∷ more)
-    ≡ trace_more (λ next. trace_from old.style next (old.lines + 1) (lines_from (old.lines + 1 + 1) more))
-    (trace_line old.style old.tracing (old.lines + 1) (script_words line))
+rest_of : (explained : Explaining) (old : Tracer) (line more : List ℕ) → NoEnd line
+    → trace_rest explained old (line ++ 10 ∷ more)
+    ≡ trace_more (λ next. trace_from explained old.style next (old.lines + 1) (lines_from (old.lines + 1 + 1) more))
+    (trace_line explained old.style old.tracing (old.lines + 1) (script_words line))
 unfolding trace_from
-rest_of old line more none =
-    ap (λ lines. trace_from old.style old.tracing old.lines (enumerate_from (old.lines + 1) lines)) (line_at line more none)
+rest_of explained old line more none =
+    ap (λ lines. trace_from explained old.style old.tracing old.lines (enumerate_from (old.lines + 1) lines)) (line_at line more none)
 
 -- a line that was taken, and what follows it
-pub line_taken : (old new : Tracer) (line more before after : List ℕ) → NoEnd line → TracesLine old line new before after
-    → trace_rest old (line ++ 10 ∷ more) ≡ then_said (trace_line old.style old.tracing (old.lines + 1) (script_words line)).1 (trace_rest new more)
-line_taken old new line more before after none taken =
-    rest_of old line more none
-    ∙ (λ i. then_said (trace_line old.style old.tracing (old.lines + 1) (script_words line)).1
-    (trace_from (sym taken.0 i) (sym taken.2 i) (sym taken.1 i) (lines_from (sym taken.1 i + 1) more)))
+pub line_taken : (explained : Explaining) (old new : Tracer) (line more before after : List ℕ) → NoEnd line → TracesLine explained old line new before after
+    → trace_rest explained old (line ++ 10 ∷ more) ≡ then_said (trace_line explained old.style old.tracing (old.lines + 1) (script_words line)).1
+    (trace_rest explained new more)
+line_taken explained old new line more before after none taken =
+    rest_of explained old line more none
+    ∙ (λ i. then_said (trace_line explained old.style old.tracing (old.lines + 1) (script_words line)).1
+    (trace_from explained (sym taken.0 i) (sym taken.2 i) (sym taken.1 i) (lines_from (sym taken.1 i + 1) more)))
 
 -- the end, where no line is left, or one that lacks its LF
-pub ended_here : (old : Tracer) → trace_rest old [] ≡ end_said old.style old.tracing old.lines
+pub ended_here : (explained : Explaining) (old : Tracer) → trace_rest explained old [] ≡ end_said old.style old.tracing old.lines
 unfolding trace_from
-ended_here old = refl
+ended_here explained old = refl
 
-pub ended_last : (old new : Tracer) (line before after : List ℕ) → 0 < length line → NoEnd line → TracesLine old line new before after
-    → trace_rest old line
-    ≡ then_said (trace_line old.style old.tracing (old.lines + 1) (script_words line)).1 (end_said new.style new.tracing new.lines)
+pub ended_last : (explained : Explaining) (old new : Tracer) (line before after : List ℕ) → 0 < length line → NoEnd line
+    → TracesLine explained old line new before after
+    → trace_rest explained old line
+    ≡ then_said (trace_line explained old.style old.tracing (old.lines + 1) (script_words line)).1 (end_said new.style new.tracing new.lines)
 unfolding trace_from
-ended_last old new line before after some none taken =
-    ap (λ lines. trace_from old.style old.tracing old.lines (enumerate_from (old.lines + 1) lines)) (last_line line some none)
-    ∙ (λ i. then_said (trace_line old.style old.tracing (old.lines + 1) (script_words line)).1
+ended_last explained old new line before after some none taken =
+    ap (λ lines. trace_from explained old.style old.tracing old.lines (enumerate_from (old.lines + 1) lines)) (last_line line some none)
+    ∙ (λ i. then_said (trace_line explained old.style old.tracing (old.lines + 1) (script_words line)).1
     (end_said (sym taken.0 i) (sym taken.2 i) (sym taken.1 i)))
 
 -- ---- A piece
 
 -- so far so much was said, and the rest is said of what is left
-pub record TracedSoFar (start now : Tracer) (held piece left rest : List ℕ) (before out : List ℕ) : Type 0 where
+pub record TracedSoFar (explained : Explaining) (start now : Tracer) (held piece left rest : List ℕ) (before out : List ℕ) : Type 0 where
   pub text : List ℕ
   pub appended : out ≡ before ++ text
-  pub whole : (more : List ℕ) → trace_rest start (held ++ (piece ++ more)) ≡ then_said text (trace_rest now (left ++ (rest ++ more)))
+  pub whole : (more : List ℕ) → trace_rest explained start (held ++ (piece ++ more)) ≡ then_said text (trace_rest explained now (left ++ (rest ++ more)))
   pub no_end : NoEnd left
 
-pub piece_start : (start : Tracer) (held piece before : List ℕ) → NoEnd held → TracedSoFar start start held piece held piece before before
-piece_start start held piece before none = record { text = []; appended = sym (append-nil before); whole = λ more. refl; no_end = none }
+pub piece_start : (explained : Explaining) (start : Tracer) (held piece before : List ℕ) → NoEnd held
+    → TracedSoFar explained start start held piece held piece before before
+piece_start explained start held piece before none = record { text = []; appended = sym (append-nil before); whole = λ more. refl; no_end = none }
 
 -- the next line ends in what is left
-pub piece_line : (start now next : Tracer) (held piece left rest front more before out new : List ℕ)
-    → TracedSoFar start now held piece left rest before out → rest ≡ front ++ 10 ∷ more → NoEnd front
-    → TracesLine now (left ++ front) next out new
-    → TracedSoFar start next held piece [] more before new
-piece_line start now next held piece left rest front more before out new so_far is none taken =
-    let said = (trace_line now.style now.tracing (now.lines + 1) (script_words (left ++ front))).1 in
+pub piece_line : (explained : Explaining) (start now next : Tracer) (held piece left rest front more before out new : List ℕ)
+    → TracedSoFar explained start now held piece left rest before out → rest ≡ front ++ 10 ∷ more → NoEnd front
+    → TracesLine explained now (left ++ front) next out new
+    → TracedSoFar explained start next held piece [] more before new
+piece_line explained start now next held piece left rest front more before out new so_far is none taken =
+    let said = (trace_line explained now.style now.tracing (now.lines + 1) (script_words (left ++ front))).1 in
     record {
       text = so_far.text ++ said;
       appended = taken.3 ∙ ap (λ l. l ++ said) so_far.appended ∙ append_assoc before so_far.text said;
@@ -126,51 +130,57 @@ piece_line start now next held piece left rest front more before out new so_far 
           let line : left ++ (rest ++ after) ≡ (left ++ front) ++ 10 ∷ (more ++ after) =
           ap (λ l. left ++ (l ++ after)) is ∙ ap (λ l. left ++ l) (append_assoc front (10 ∷ more) after)
           ∙ sym (append_assoc left front (10 ∷ (more ++ after))) in
-          so_far.whole after ∙ ap (λ l. then_said so_far.text (trace_rest now l)) line
-          ∙ ap (then_said so_far.text) (line_taken now next (left ++ front) (more ++ after) out new (no_end-both left front so_far.no_end none) taken)
-          ∙ then_both so_far.text said (trace_rest next (more ++ after));
+          so_far.whole after ∙ ap (λ l. then_said so_far.text (trace_rest explained now l)) line
+          ∙ ap (then_said so_far.text) (line_taken explained now next (left ++ front) (more ++ after) out new (no_end-both left front so_far.no_end none) taken)
+          ∙ then_both so_far.text said (trace_rest explained next (more ++ after));
       no_end = refl;
     }
 
 -- ---- A line
 
-says : (style : Style) (tracing : Tracing) (line : ℕ) (words : List (List ℕ)) → (words ≡ [] → ⊥)
-    → trace_line style tracing line words ≡ trace_words style tracing line words tracing.run
-says style tracing line [] some = absurd (some refl)
-says style tracing line (word ∷ words) some = refl
+says : (explained : Explaining) (style : Style) (tracing : Tracing) (line : ℕ) (words : List (List ℕ)) → (words ≡ [] → ⊥)
+    → trace_line explained style tracing line words ≡ trace_words explained style tracing line words tracing.run
+says explained style tracing line [] some = absurd (some refl)
+says explained style tracing line (word ∷ words) some = refl
 
 -- its words were taken
-pub line_told : (old mid new : Tracer) (line : List ℕ) (words : List (List ℕ)) (before after : List ℕ)
+pub line_told : (explained : Explaining) (old mid new : Tracer) (line : List ℕ) (words : List (List ℕ)) (before after : List ℕ)
     → mid ≡ record { style = old.style; lines = old.lines + 1; tracing = old.tracing } → words ≡ script_words line → (words ≡ [] → ⊥)
-    → Traces mid (trace_words mid.style mid.tracing mid.lines words mid.tracing.run) new before after
-    → TracesLine old line new before after
-line_told old mid new line words before after is same some traces =
-    let told = subst (λ (m : Tracer). Traces m (trace_words m.style m.tracing m.lines words m.tracing.run) new before after) is traces in
-    let all : trace_words old.style old.tracing (old.lines + 1) words old.tracing.run
-    ≡ trace_line old.style old.tracing (old.lines + 1) (script_words line) =
-    sym (says old.style old.tracing (old.lines + 1) words some) ∙ ap (trace_line old.style old.tracing (old.lines + 1)) same in
+    → Traces mid (trace_words explained mid.style mid.tracing mid.lines words mid.tracing.run) new before after
+    → TracesLine explained old line new before after
+line_told explained old mid new line words before after is same some traces =
+    let told = subst (λ (m : Tracer). Traces m (trace_words explained m.style m.tracing m.lines words m.tracing.run) new before after) is traces in
+    let all : trace_words explained old.style old.tracing (old.lines + 1) words old.tracing.run
+    ≡ trace_line explained old.style old.tracing (old.lines + 1) (script_words line) =
+    sym (says explained old.style old.tracing (old.lines + 1) words some) ∙ ap (trace_line explained old.style old.tracing (old.lines + 1)) same in
     (told.0, told.1, told.2 ∙ ap (λ (t : Traced). t.0) all, told.3 ∙ ap (λ (t : Traced). before ++ t.1) all)
 
 -- ---- The end
 
-pub end_here : (old : Tracer) (held before after : List ℕ) → held ≡ [] → after ≡ before ++ end_of old.style old.tracing old.lines old.tracing.run
-    → after ≡ before ++ (trace_rest old held).text
-end_here old held before after none told = told ∙ ap (λ (said : Said). before ++ said.text) (sym (ap (trace_rest old) none ∙ ended_here old))
+pub end_here : (explained : Explaining) (old : Tracer) (held before after : List ℕ) → held ≡ [] → after ≡ before
+    ++ end_of old.style old.tracing old.lines old.tracing.run
+    → after ≡ before ++ (trace_rest explained old held).text
+end_here explained old held before after none told = told ∙ ap (λ (said : Said). before ++ said.text)
+    (sym (ap (trace_rest explained old) none ∙ ended_here explained old))
 
-pub ends_here : (old : Tracer) (held : List ℕ) → held ≡ [] → end_outcome old.tracing old.tracing.run ≡ (trace_rest old held).outcome
-ends_here old held none = ap (λ (said : Said). said.outcome) (sym (ap (trace_rest old) none ∙ ended_here old))
+pub ends_here : (explained : Explaining) (old : Tracer) (held : List ℕ) → held ≡ [] → end_outcome old.tracing old.tracing.run ≡
+    (trace_rest explained old held).outcome
+ends_here explained old held none = ap (λ (said : Said). said.outcome) (sym (ap (trace_rest explained old) none ∙ ended_here explained old))
 
-pub end_last : (old new : Tracer) (line before mid after : List ℕ) → 0 < length line → NoEnd line → TracesLine old line new before mid
-    → after ≡ mid ++ end_of new.style new.tracing new.lines new.tracing.run → after ≡ before ++ (trace_rest old line).text
-end_last old new line before mid after some none taken told =
-    let text = (trace_line old.style old.tracing (old.lines + 1) (script_words line)).1 in
+pub end_last : (explained : Explaining) (old new : Tracer) (line before mid after : List ℕ) → 0 < length line → NoEnd line
+    → TracesLine explained old line new before mid
+    → after ≡ mid ++ end_of new.style new.tracing new.lines new.tracing.run → after ≡ before ++ (trace_rest explained old line).text
+end_last explained old new line before mid after some none taken told =
+    let text = (trace_line explained old.style old.tracing (old.lines + 1) (script_words line)).1 in
     let end = end_of new.style new.tracing new.lines new.tracing.run in
     told ∙ ap (λ l. l ++ end) taken.3 ∙ append_assoc before text end
-    ∙ ap (λ (said : Said). before ++ said.text) (sym (ended_last old new line before mid some none taken))
+    ∙ ap (λ (said : Said). before ++ said.text) (sym (ended_last explained old new line before mid some none taken))
 
-pub ends_last : (old new : Tracer) (line before mid : List ℕ) → 0 < length line → NoEnd line → TracesLine old line new before mid
-    → end_outcome new.tracing new.tracing.run ≡ (trace_rest old line).outcome
-ends_last old new line before mid some none taken = ap (λ (said : Said). said.outcome) (sym (ended_last old new line before mid some none taken))
+pub ends_last : (explained : Explaining) (old new : Tracer) (line before mid : List ℕ) → 0 < length line → NoEnd line
+    → TracesLine explained old line new before mid
+    → end_outcome new.tracing new.tracing.run ≡ (trace_rest explained old line).outcome
+ends_last explained old new line before mid some none taken = ap (λ (said : Said). said.outcome)
+    (sym (ended_last explained old new line before mid some none taken))
 
 pub nothing_held : (held : List ℕ) → length held ≡ 0 → held ≡ []
 nothing_held [] none = refl

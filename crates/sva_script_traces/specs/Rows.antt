@@ -6,6 +6,7 @@ use Rattle.sva_step.specs.declared.steps.Step.TheVariants.{Deliver}
 use Rattle.sva_model.specs.Message.{Message}
 use Rattle.sva_model.specs.Wire.{Wire}
 use Rattle.sva_grammar.specs.Replies.{ended, reply_text}
+use Rattle.sva_reports.specs.Explaining.{Explaining}
 use Rattle.sva_script.specs.declared.given.Told.{Told}
 use Rattle.sva_script_traces.specs.declared.rows.Columns.{Columns}
 use Rattle.sva_script_traces.specs.declared.rows.Columns.TheVariants.{Padded, Tabbed}
@@ -13,7 +14,6 @@ use Rattle.sva_script_traces.specs.declared.rows.Style.{Style}
 use Rattle.sva_parts_by_labels.specs.Flights.{kind_seen}
 use Rattle.sva_script_runs.specs.declared.running.Taken.{Taken}
 use Rattle.sva_script_reading.specs.Messages.{kind_word}
-use Rattle.sva_why.specs.Why.{why_of}
 
 -- behind so many bytes a column is filled up to its width, with a space (32) at least; or a tab (9) ends it
 abbrev pub column_end : Columns → (width written : ℕ) → List ℕ
@@ -73,12 +73,12 @@ row_text columns line plain row =
     column columns 5 (decimal line) ++ column columns 27 plain ++ answer_column columns row ++ messages_text row ++ 10 ∷ []
 
 -- what holds a step back that left this, where that is wanted; of a step that isn't held back nothing
-abbrev pub whys_if : (wanted : Bool) → Wire → Row → List ℕ
-whys_if wanted wire row = if wanted then why_of wire row.step row.told.reply else []
+abbrev pub whys_if : Explaining → (wanted : Bool) → Wire → Row → List ℕ
+whys_if explained wanted wire row = if wanted then explained wire row.step row.told.reply else []
 
 -- the row of a step that left this, and what is said behind it
-abbrev pub step_text : Style → (line : ℕ) → (plain : List ℕ) → Wire → Row → List ℕ
-step_text style line plain wire row = row_text style.columns line plain row ++ whys_if style.whys wire row
+abbrev pub step_text : Explaining → Style → (line : ℕ) → (plain : List ℕ) → Wire → Row → List ℕ
+step_text explained style line plain wire row = row_text style.columns line plain row ++ whys_if explained style.whys wire row
 
 -- the row of the end, which has no number
 abbrev pub end_text : Columns → (counts : List ℕ) → List ℕ

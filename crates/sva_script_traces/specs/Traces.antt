@@ -11,6 +11,7 @@ use Rattle.sva_streams.specs.declared.streams.Outcome.TheVariants.{Done, Faulted
 use Rattle.sva_grammar.specs.Grammar.{config_read}
 use Rattle.sva_grammar.specs.Configs.{is_fit}
 use Rattle.sva_grammar.specs.Replies.{ended}
+use Rattle.sva_reports.specs.Explaining.{Explaining}
 use Rattle.sva_script.specs.declared.faults.Wanted.TheVariants as wanted
 use Rattle.sva_script.specs.declared.faults.Wrong.{Wrong}
 use Rattle.sva_script.specs.Lines.{parts_of, script_words}
@@ -66,31 +67,31 @@ row_of wire plain = record {
 }
 
 -- the row of a step, with what holds it back where that is wanted; `end => ..` has none, and no line may follow it
-abbrev pub trace_step : Style → Tracing → Running → (line : ℕ) → List (List ℕ) → Option Plain → Traced
-trace_step style tracing running line words (Some plain) = (
+abbrev pub trace_step : Explaining → Style → Tracing → Running → (line : ℕ) → List (List ℕ) → Option Plain → Traced
+trace_step explained style tracing running line words (Some plain) = (
   record { run = Some (behind running line (parts_of words).name (Some plain)); has_ended = tracing.has_ended; has_faulted = tracing.has_faulted },
-  step_text style line plain.text (next_of running.seen plain.step) (row_of running.seen plain),
+  step_text explained style line plain.text (next_of running.seen plain.step) (row_of running.seen plain),
 )
-trace_step style tracing running line words None = (record { run = Some running; has_ended = true; has_faulted = tracing.has_faulted }, [])
+trace_step explained style tracing running line words None = (record { run = Some running; has_ended = true; has_faulted = tracing.has_faulted }, [])
 
-abbrev pub trace_read : Style → Tracing → Running → (line : ℕ) → List (List ℕ) → Result LineRead Wrong → Traced
-trace_read style tracing running line words (Ok read) = trace_step style tracing running line words read.step
-trace_read style tracing running line words (Err wrong) = is_wrong tracing (fault_of running.known line words wrong)
+abbrev pub trace_read : Explaining → Style → Tracing → Running → (line : ℕ) → List (List ℕ) → Result LineRead Wrong → Traced
+trace_read explained style tracing running line words (Ok read) = trace_step explained style tracing running line words read.step
+trace_read explained style tracing running line words (Err wrong) = is_wrong tracing (fault_of running.known line words wrong)
 
 -- ---- A line
 
 -- behind a config that is out of its limits nothing is said
-abbrev pub trace_words : Style → Tracing → (line : ℕ) → List (List ℕ) → Option Running → Traced
-trace_words style tracing line words None =
+abbrev pub trace_words : Explaining → Style → Tracing → (line : ℕ) → List (List ℕ) → Option Running → Traced
+trace_words explained style tracing line words None =
     if tracing.has_ended then (tracing, []) else trace_config tracing (config_by line words (config_read (joined_words words)))
-trace_words style tracing line words (Some running) =
+trace_words explained style tracing line words (Some running) =
     if tracing.has_ended then is_wrong tracing (fault_of running.known line words (at_word 0 wanted.NoLine))
-    else trace_read style tracing running line words (read_at running (parts_of words))
+    else trace_read explained style tracing running line words (read_at running (parts_of words))
 
 -- a line that says nothing has no row
-abbrev pub trace_line : Style → Tracing → (line : ℕ) → List (List ℕ) → Traced
-trace_line style tracing line [] = (tracing, [])
-trace_line style tracing line words = trace_words style tracing line words tracing.run
+abbrev pub trace_line : Explaining → Style → Tracing → (line : ℕ) → List (List ℕ) → Traced
+trace_line explained style tracing line [] = (tracing, [])
+trace_line explained style tracing line words = trace_words explained style tracing line words tracing.run
 
 -- ---- The whole
 
@@ -114,14 +115,14 @@ abbrev pub trace_more : (rest : Tracing → Said) → Traced → Said
 trace_more rest (tracing, text) = then_said text (rest tracing)
 
 -- what is said of the lines from here on; the line before them has the number `before`
-unfoldable pub trace_from : Style → Tracing → (before : ℕ) → List Line → Said
-trace_from style tracing before [] = end_said style tracing before
-trace_from style tracing before (line ∷ lines) =
-    trace_more (λ next. trace_from style next line.0 lines) (trace_line style tracing line.0 (script_words line.1))
+unfoldable pub trace_from : Explaining → Style → Tracing → (before : ℕ) → List Line → Said
+trace_from explained style tracing before [] = end_said style tracing before
+trace_from explained style tracing before (line ∷ lines) =
+    trace_more (λ next. trace_from explained style next line.0 lines) (trace_line explained style tracing line.0 (script_words line.1))
 
 -- what `trace` says of a script
-abbrev pub trace_of : Style → List ℕ → Said
-trace_of style text = trace_from style fresh 0 (lines_from 1 text)
+abbrev pub trace_of : Explaining → Style → List ℕ → Said
+trace_of explained style text = trace_from explained style fresh 0 (lines_from 1 text)
 
 -- ---- What a call makes of it
 
@@ -132,8 +133,8 @@ pub record Tracer : Type 0 where
   pub tracing : Tracing
 
 -- what is said of a text whose lines follow
-abbrev pub trace_rest : Tracer → List ℕ → Said
-trace_rest tracer text = trace_from tracer.style tracer.tracing tracer.lines (lines_from (tracer.lines + 1) text)
+abbrev pub trace_rest : Explaining → Tracer → List ℕ → Said
+trace_rest explained tracer text = trace_from explained tracer.style tracer.tracing tracer.lines (lines_from (tracer.lines + 1) text)
 
 -- where it is behind a line, which it took, and what was appended of that
 abbrev pub Traces : Tracer → Traced → Tracer → (before after : List ℕ) → Type 0
@@ -141,18 +142,18 @@ Traces old traced new before after =
     (new.style ≡ old.style) × (new.lines ≡ old.lines) × (new.tracing ≡ traced.0) × (after ≡ before ++ traced.1)
 
 -- the same of a line that wasn't counted yet
-abbrev pub TracesLine : Tracer → (line : List ℕ) → Tracer → (before after : List ℕ) → Type 0
-TracesLine old line new before after =
+abbrev pub TracesLine : Explaining → Tracer → (line : List ℕ) → Tracer → (before after : List ℕ) → Type 0
+TracesLine explained old line new before after =
     (new.style ≡ old.style) × (new.lines ≡ old.lines + 1)
-    × (new.tracing ≡ (trace_line old.style old.tracing (old.lines + 1) (script_words line)).0)
-    × (after ≡ before ++ (trace_line old.style old.tracing (old.lines + 1) (script_words line)).1)
+    × (new.tracing ≡ (trace_line explained old.style old.tracing (old.lines + 1) (script_words line)).0)
+    × (after ≡ before ++ (trace_line explained old.style old.tracing (old.lines + 1) (script_words line)).1)
 
 -- no byte ends a line (10)
 abbrev pub NoEnd : List ℕ → Type 0
 NoEnd text = list_any (λ byte. byte == 10) text ≡ false
 
 -- what was appended is said of these bytes first, whatever follows; what has not ended is held
-abbrev pub TracesPiece : Tracer → (held piece : List ℕ) → Tracer → (left : List ℕ) → (before after : List ℕ) → Type 0
-TracesPiece old held piece new left before after =
+abbrev pub TracesPiece : Explaining → Tracer → (held piece : List ℕ) → Tracer → (left : List ℕ) → (before after : List ℕ) → Type 0
+TracesPiece explained old held piece new left before after =
     (text : List ℕ) × (after ≡ before ++ text)
-    × ((more : List ℕ) → trace_rest old (held ++ (piece ++ more)) ≡ then_said text (trace_rest new (left ++ more)))
+    × ((more : List ℕ) → trace_rest explained old (held ++ (piece ++ more)) ≡ then_said text (trace_rest explained new (left ++ more)))

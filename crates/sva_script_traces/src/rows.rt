@@ -9,12 +9,12 @@ ghost use Rattle.sva_script_traces.specs.Rows.{sends, sent_text, step_text, whys
 use std::alloc::{AllocError, Global};
 use sva_frames::Counts;
 use sva_msg::Kind;
+use sva_reports::Explains;
 use sva_script::Told;
 use sva_script_reading::{put_number, put_reply};
 use sva_reports::put_counts;
 use sva_script_runs::{Run, Taken, kind_name};
 use sva_step::Step;
-use sva_why::put_why_in;
 
 /// How wide the column of the line's number is.
 const NUMBER_WIDTH: usize = 5;
@@ -88,7 +88,7 @@ fn put_column(
 }
 
 /// Appends the row of a step behind which the run is, and, where that is wanted, what holds the step back.
-pub(crate) fn put_step(
+pub(crate) fn put_step<E: Explains>(
     alloc: Global,
     out: &mut Vec<u8>,
     style: Style,
@@ -98,24 +98,24 @@ pub(crate) fn put_step(
     taken: &Taken,
 ) -> Result<(), AllocError>
     ensures { OnOk result (out.new.items ≡ out.old.items
-        ++ step_text style line plain.now run.now.seen (row_seen taken.now)) }
+        ++ step_text E.explained style line plain.now run.now.seen (row_seen taken.now)) }
 {
     put_row(out, style.columns, line, plain, taken)?;
-    put_whys_if(alloc, out, style.whys, run, taken)
+    put_whys_if::<E>(alloc, out, style.whys, run, taken)
 }
 
 /// Appends what holds a step back behind which the run is, where that is wanted.
-fn put_whys_if(
+fn put_whys_if<E: Explains>(
     alloc: Global,
     out: &mut Vec<u8>,
     wanted: bool,
     run: &Run,
     taken: &Taken,
 ) -> Result<(), AllocError>
-    ensures { OnOk result (out.new.items ≡ out.old.items ++ whys_if wanted run.now.seen (row_seen taken.now)) }
+    ensures { OnOk result (out.new.items ≡ out.old.items ++ whys_if E.explained wanted run.now.seen (row_seen taken.now)) }
 {
     if wanted {
-        put_why_in(out, alloc, run.world(), &taken.step, &taken.told.reply)
+        E::put_explained(out, alloc, run.world(), &taken.step, &taken.told.reply)
     } else {
         Ok(())
     }

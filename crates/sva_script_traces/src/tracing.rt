@@ -16,6 +16,7 @@ use std::alloc::{AllocError, Global};
 use std::io::{Read, Write};
 use std::marker::Model;
 use sva_streams::{DriveFault, MOST_TURNS, Outcome, Told, write_all};
+use sva_reports::Explains;
 use sva_script::{Names, Stop, Wanted, at_word, split};
 use sva_script_reading::{config_of, end_in, put_bad_config, put_wrong};
 use sva_script_runs::{Came, Run, Taken};
@@ -48,11 +49,11 @@ impl Model for Tracer {
     } };
 }
 
-/// Reads a script line by line, and writes for each step a row as it comes: the number of the line, the step, its answer,
-/// and the messages that it delivered and sent; and behind the row, where that is wanted, what holds the step back. A line
-/// that is wrong is told in its place, and changes nothing. At the end of the input stand the counts. `Faulted` tells that
-/// a line was wrong.
-pub fn trace<R: Read, W: Write>(
+/// Reads a script line by line, and writes for each step a row as it comes: the number of the line, the step, its
+/// answer, and the messages that it delivered and sent; and behind the row, where that is wanted, what holds the step
+/// back, as `E` explains it. A line that is wrong is told in its place, and changes nothing. At the end of the input
+/// stand the counts. `Faulted` tells that a line was wrong.
+pub fn trace<E: Explains, R: Read, W: Write>(
     alloc: Global,
     style: Style,
     reader: &mut Told<R>,
@@ -61,7 +62,7 @@ pub fn trace<R: Read, W: Write>(
     requires reader { IsNew reader.old }
     requires writer { IsNew writer.old }
     ensures printed { IfSome (R.remaining reader.old.inner)
-        (λ input. Prints (trace_of style input) (W.contents writer.old.inner) (W.contents writer.new.inner) result) }
+        (λ input. Prints (trace_of E.explained style input) (W.contents writer.old.inner) (W.contents writer.new.inner) result) }
     ensures end { OnOk result ((reader.new.failures ≡ 0) × IsAtEnd (R.remaining reader.new.inner) × (writer.new.failures ≡ 0)) }
     ensures read { result ≡ Err DriveFault.Read → (writer.new.failures ≡ 0)
         × ((reader.new.failures ≡ 1) ⊎ ((reader.new.failures ≡ 0) × (reader.new.calls ≡ MOST_TURNS))) }
@@ -71,7 +72,7 @@ pub fn trace<R: Read, W: Write>(
     ensures turns { reader.new.calls ≤ MOST_TURNS }
 {
     let mut tracer = Tracer::new(alloc, style);
-    tracer.run(alloc, reader, writer)
+    tracer.run::<E, R, W>(alloc, reader, writer)
 }
 
 /// Writes the rows of a piece. Where the number of calls might not fit 64 bits any more, nothing is written: `Memory`.
@@ -103,7 +104,7 @@ impl Tracer {
     }
 
     /// Reads line by line, and writes the rows of each piece as they come.
-    fn run<R: Read, W: Write>(
+    fn run<E: Explains, R: Read, W: Write>(
         &mut self,
         alloc: Global,
         reader: &mut Told<R>,
@@ -113,7 +114,7 @@ impl Tracer {
         requires reader { IsNew reader.old }
         requires writer { IsNew writer.old }
         ensures printed { IfSome (R.remaining reader.old.inner)
-            (λ input. Prints (trace_of self.old.style input) (W.contents writer.old.inner) (W.contents writer.new.inner) result) }
+            (λ input. Prints (trace_of E.explained self.old.style input) (W.contents writer.old.inner) (W.contents writer.new.inner) result) }
         ensures end { OnOk result ((reader.new.failures ≡ 0) × IsAtEnd (R.remaining reader.new.inner) × (writer.new.failures ≡ 0)) }
         ensures read { result ≡ Err DriveFault.Read → (writer.new.failures ≡ 0)
             × ((reader.new.failures ≡ 1) ⊎ ((reader.new.failures ≡ 0) × (reader.new.calls ≡ MOST_TURNS))) }
@@ -131,14 +132,14 @@ impl Tracer {
             };
             out.clear();
             if count == 0 {
-                if self.take_end(alloc, &held, &mut out).is_err() {
+                if self.take_end::<E>(alloc, &held, &mut out).is_err() {
                     return Err(DriveFault::Memory);
                 }
                 write_piece(writer, out.as_slice())?;
                 return Ok(self.outcome());
             }
             if self
-                .take_piece(alloc, &piece[..count], &mut held, &mut out)
+                .take_piece::<E>(alloc, &piece[..count], &mut held, &mut out)
                 .is_err()
             {
                 return Err(DriveFault::Memory);
@@ -160,7 +161,7 @@ impl Tracer {
     }
 
     /// Takes the lines that end in a piece of the input, and keeps what hasn't ended in `held`.
-    fn take_piece(
+    fn take_piece<E: Explains>(
         &mut self,
         alloc: Global,
         piece: &[u8],
@@ -171,19 +172,19 @@ impl Tracer {
         requires few { self.old.lines + length piece.now < 2 ^ 64 }
         ensures held { OnOk result (NoEnd held.new.items) }
         ensures few { OnOk result (self.new.lines ≤ self.old.lines + length piece.now) }
-        ensures traced { OnOk result (TracesPiece self.old held.old.items piece.now self.new held.new.items out.old.items out.new.items) }
+        ensures traced { OnOk result (TracesPiece E.explained self.old held.old.items piece.now self.new held.new.items out.old.items out.new.items) }
     {
         let mut words = Vec::new(alloc);
         let mut rest = piece;
         while let Some(end) = end_in(rest) {
-            self.take_held(alloc, held, &rest[..end], &mut words, out)?;
+            self.take_held::<E>(alloc, held, &rest[..end], &mut words, out)?;
             rest = &rest[end + 1..];
         }
         held.extend_from_slice(rest)
     }
 
     /// Takes the line that begins with what is held, and ends with a text behind it. Nothing is held then.
-    fn take_held<'p>(
+    fn take_held<'p, E: Explains>(
         &mut self,
         alloc: Global,
         held: &mut Vec<u8>,
@@ -193,20 +194,20 @@ impl Tracer {
     ) -> Result<(), AllocError>
         requires { self.old.lines + 1 < 2 ^ 64 }
         ensures traced { OnOk result
-            (TracesLine self.old (held.old.items ++ text.now) self.new out.old.items out.new.items) }
+            (TracesLine E.explained self.old (held.old.items ++ text.now) self.new out.old.items out.new.items) }
         ensures held { OnOk result (held.new.items ≡ []) }
     {
         if self.run.is_none() {
-            return self.take_joined(alloc, held, text, out);
+            return self.take_joined::<E>(alloc, held, text, out);
         }
         if held.is_empty() {
-            return self.take_within(alloc, text, words, out);
+            return self.take_within::<E>(alloc, text, words, out);
         }
-        self.take_joined(alloc, held, text, out)
+        self.take_joined::<E>(alloc, held, text, out)
     }
 
     /// Takes the line that what is held and a text behind it write together. Nothing is held then.
-    fn take_joined(
+    fn take_joined<E: Explains>(
         &mut self,
         alloc: Global,
         held: &mut Vec<u8>,
@@ -215,18 +216,18 @@ impl Tracer {
     ) -> Result<(), AllocError>
         requires { self.old.lines + 1 < 2 ^ 64 }
         ensures traced { OnOk result
-            (TracesLine self.old (held.old.items ++ text.now) self.new out.old.items out.new.items) }
+            (TracesLine E.explained self.old (held.old.items ++ text.now) self.new out.old.items out.new.items) }
         ensures held { OnOk result (held.new.items ≡ []) }
     {
         held.extend_from_slice(text)?;
-        self.take_line(alloc, held.as_slice(), out)?;
+        self.take_line::<E>(alloc, held.as_slice(), out)?;
         held.clear();
         Ok(())
     }
 
     /// Takes a line behind the config that stands within a piece. Its words take the place of those in `words`.
     /// `take_line` isn't called for it, since what opens a run takes much of the stack.
-    fn take_within<'p>(
+    fn take_within<'p, E: Explains>(
         &mut self,
         alloc: Global,
         line: &'p [u8],
@@ -235,35 +236,45 @@ impl Tracer {
     ) -> Result<(), AllocError>
         requires few { self.old.lines + 1 < 2 ^ 64 }
         requires run { is_some self.old.tracing.run ≡ true }
-        ensures { OnOk result (TracesLine self.old line.now self.new out.old.items out.new.items) }
+        ensures { OnOk result (TracesLine E.explained self.old line.now self.new out.old.items out.new.items) }
     {
         self.lines += 1;
         split(line, words)?;
         if words.is_empty() {
             Ok(())
         } else {
-            self.take_step(alloc, words.as_slice(), out)
+            self.take_step::<E>(alloc, words.as_slice(), out)
         }
     }
 
     /// Takes the last line, where it hasn't ended, and appends what stands at the end.
-    fn take_end(&mut self, alloc: Global, held: &[u8], out: &mut Vec<u8>) -> Result<(), AllocError>
+    fn take_end<E: Explains>(
+        &mut self,
+        alloc: Global,
+        held: &[u8],
+        out: &mut Vec<u8>,
+    ) -> Result<(), AllocError>
         requires held { NoEnd held.now }
         requires few { self.old.lines + 2 < 2 ^ 64 }
-        ensures said { OnOk result (out.new.items ≡ out.old.items ++ (trace_rest self.old held.now).text) }
-        ensures outcome { OnOk result (end_outcome self.new.tracing self.new.tracing.run ≡ (trace_rest self.old held.now).outcome) }
+        ensures said { OnOk result (out.new.items ≡ out.old.items ++ (trace_rest E.explained self.old held.now).text) }
+        ensures outcome { OnOk result (end_outcome self.new.tracing self.new.tracing.run ≡ (trace_rest E.explained self.old held.now).outcome) }
     {
         if held.is_empty() {
             return self.put_end(alloc, out);
         }
-        self.take_line(alloc, held, out)?;
+        self.take_line::<E>(alloc, held, out)?;
         self.put_end(alloc, out)
     }
 
     /// Takes a line.
-    fn take_line(&mut self, alloc: Global, line: &[u8], out: &mut Vec<u8>) -> Result<(), AllocError>
+    fn take_line<E: Explains>(
+        &mut self,
+        alloc: Global,
+        line: &[u8],
+        out: &mut Vec<u8>,
+    ) -> Result<(), AllocError>
         requires { self.old.lines + 1 < 2 ^ 64 }
-        ensures { OnOk result (TracesLine self.old line.now self.new out.old.items out.new.items) }
+        ensures { OnOk result (TracesLine E.explained self.old line.now self.new out.old.items out.new.items) }
     {
         self.lines += 1;
         let mut words = Vec::new(alloc);
@@ -271,36 +282,36 @@ impl Tracer {
         if words.is_empty() {
             Ok(())
         } else {
-            self.take_words(alloc, words.as_slice(), out)
+            self.take_words::<E>(alloc, words.as_slice(), out)
         }
     }
 
     /// Takes the words of a line: the first are those of the config.
-    fn take_words(
+    fn take_words<E: Explains>(
         &mut self,
         alloc: Global,
         words: &[&[u8]],
         out: &mut Vec<u8>,
     ) -> Result<(), AllocError>
-        ensures { OnOk result (Traces self.old (trace_words self.old.style self.old.tracing self.old.lines (map (λ word. word.now) words.now)
+        ensures { OnOk result (Traces self.old (trace_words E.explained self.old.style self.old.tracing self.old.lines (map (λ word. word.now) words.now)
             self.old.tracing.run) self.new out.old.items out.new.items) }
     {
         match &self.run {
             None if self.has_ended => Ok(()),
             None => self.take_config(alloc, words, out),
-            Some(_) => self.take_step(alloc, words, out),
+            Some(_) => self.take_step::<E>(alloc, words, out),
         }
     }
 
     /// Takes the words of a line behind the config.
-    fn take_step(
+    fn take_step<E: Explains>(
         &mut self,
         alloc: Global,
         words: &[&[u8]],
         out: &mut Vec<u8>,
     ) -> Result<(), AllocError>
         requires { is_some self.old.tracing.run ≡ true }
-        ensures { OnOk result (Traces self.old (trace_words self.old.style self.old.tracing self.old.lines (map (λ word. word.now) words.now)
+        ensures { OnOk result (Traces self.old (trace_words E.explained self.old.style self.old.tracing self.old.lines (map (λ word. word.now) words.now)
             self.old.tracing.run) self.new out.old.items out.new.items) }
     {
         let line = self.lines;
@@ -318,7 +329,7 @@ impl Tracer {
                 &mut self.expected,
                 &mut self.taken,
             ) {
-                Ok(Came::Step) => put_step(
+                Ok(Came::Step) => put_step::<E>(
                     alloc,
                     out,
                     self.style,

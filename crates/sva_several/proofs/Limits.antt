@@ -14,6 +14,7 @@ use Rattle.sva_race_reports.specs.Explored.{IsExploredTo}
 use Rattle.sva_race_reports.specs.Explored.{IsExplored as IsRaceExplored}
 use Rattle.sva_race_reports.specs.declared.searching.Explored.{Explored}
 use Rattle.sva_race_reports.proofs.Fronts.{says_other}
+use Rattle.sva_why.specs.Why.{why_of}
 use Rattle.sva_judge.specs.Verdicts.{IsJudged as IsDriverJudged}
 use Rattle.sva_driver_terms.specs.declared.drivers.Driver.{Driver}
 use Rattle.sva_judge.specs.declared.verdicts.Verdict as judge
@@ -47,8 +48,8 @@ module _ (share most : ℕ) (less : share ≤ most) where
     spent = subst (λ (cut : Option ℕ). IfSome cut (λ depth. most ≤ found.states)) (sym whole) tt;
   }
 
-  larger_race : (text : race.Text) (out : List ℕ) (said : Explored) → said.is_whole ≡ true → IsExploredTo text (line_of share) out said
-      → IsRaceExplored text (line_of most) out said.judged
+  larger_race : (text : race.Text) (out : List ℕ) (said : Explored) → said.is_whole ≡ true → IsExploredTo why_of text (line_of share) out said
+      → IsRaceExplored why_of text (line_of most) out said.judged
   larger_race text out said whole h =
       let explored = h.explored in
       let findings = explored.are_findings in record {
@@ -70,8 +71,8 @@ module _ (share most : ℕ) (less : share ≤ most) where
   ended_race text said (found, verdict, whole, explores) = (
     option_map (λ found. found.judged) found,
     verdict,
-    says_other (λ (text : race.Text). IsExploredTo text (line_of share) said.text.items)
-        (λ (text : race.Text). IsRaceExplored text (line_of most) said.text.items) (λ (said : Explored). said.judged) text (race_of text)
+    says_other why_of (λ (text : race.Text). IsExploredTo why_of text (line_of share) said.text.items)
+        (λ (text : race.Text). IsRaceExplored why_of text (line_of most) said.text.items) (λ (said : Explored). said.judged) text (race_of text)
         said.text.items found
         (λ text one is h. larger_race text said.text.items one (sym (whole ∙ ap is_whole is)) h) explores,
   )
@@ -110,8 +111,8 @@ explored_said : (most : ℕ) (text : List ℕ) (said : Said) (ended : Bool) → 
 explored_said most text said ended (found, verdict, whole, explores) = (
   option_map (λ found. found.judged) found,
   verdict,
-  says_other (λ (text : race.Text). IsExploredTo text (line_of most) said.text.items)
-      (λ (text : race.Text). IsRaceExplored text (line_of most) said.text.items) (λ (said : Explored). said.judged) text (race_of text)
+  says_other why_of (λ (text : race.Text). IsExploredTo why_of text (line_of most) said.text.items)
+      (λ (text : race.Text). IsRaceExplored why_of text (line_of most) said.text.items) (λ (said : Explored). said.judged) text (race_of text)
       said.text.items found (λ text one is h. h.explored) explores,
 )
 

@@ -6,6 +6,7 @@ use Rattle.sva_race_reports.specs.declared.judging.Judged as the
 use Rattle.sva_race_reports.specs.declared.searching.Explored.{Explored}
 use Rattle.sva_race_reports.specs.declared.searching.Wanted.{Wanted}
 use Rattle.sva_race_reports.specs.Explored.{ExploresText, ExploresTo}
+use Rattle.sva_why.specs.Why.{why_of}
 use Rattle.sva_driver_reports.specs.declared.reports.Ruling.{Ruling}
 use Rattle.sva_driver_reports.specs.declared.reports.Ruling.TheVariants.{CutOff}
 use Rattle.sva_driver_runs.specs.Judged.{IsTextJudged, IsTextRun}
@@ -30,7 +31,7 @@ line_of most = record { most = most; whys = false; few_ends = false; is_brief = 
 
 abbrev pub IsExplored : (most : ℕ) → (text : List ℕ) → Said → Type 0
 IsExplored most text said =
-    (found : Option the.Judged) × (said.verdict ≡ judged found) × ExploresText text (line_of most) said.text.items found
+    (found : Option the.Judged) × (said.verdict ≡ judged found) × ExploresText why_of text (line_of most) said.text.items found
 
 abbrev pub IsJudged : (most : ℕ) → (text : List ℕ) → Said → Type 0
 IsJudged most text said = (found : Option Ruling) × (said.verdict ≡ ruled found) × IsTextJudged text most found said.text.items
@@ -61,7 +62,7 @@ is_ended found = true
 abbrev pub TriesRace : (most : ℕ) → (text : List ℕ) → Said → (is_ended : Bool) → Type 0
 TriesRace most text said ended =
     (found : Option Explored) × (said.verdict ≡ judged (option_map (λ found. found.judged) found)) × (ended ≡ is_whole found)
-    × ExploresTo text (line_of most) said.text.items found
+    × ExploresTo why_of text (line_of most) said.text.items found
 
 abbrev pub TriesDriver : (most : ℕ) → (text : List ℕ) → Said → (is_ended : Bool) → Type 0
 TriesDriver most text said ended =

@@ -9,6 +9,7 @@ use sva_driver_reports::Ruling;
 use sva_driver_runs::{judge_text, run_text};
 use sva_race_reports::{Explored, Wanted, explore_to};
 use sva_search::Unwatched;
+use sva_why::Explainer;
 
 /// What the texts are, and what is done with each.
 #[derive(Clone, Copy, PartialEq, Eq)]
@@ -104,7 +105,13 @@ fn explore_one(alloc: Global, most: u64, text: &[u8]) -> Result<Tried, AllocErro
     ensures { IfOk result (λ tried. searches.TriesRace most text.now tried.said tried.is_whole) }
 {
     let mut out = Vec::new(alloc);
-    let found = explore_to(alloc, line_of(most), text, &mut out, &mut Unwatched)?;
+    let found = explore_to::<Explainer, Unwatched>(
+        alloc,
+        line_of(most),
+        text,
+        &mut out,
+        &mut Unwatched,
+    )?;
     Ok(Tried {
         said: Said {
             verdict: judged(found),

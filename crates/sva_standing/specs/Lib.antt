@@ -1,3 +1,4 @@
 pub mod Lines
 pub mod Link
+pub mod Requests
 pub mod Units

@@ -1,7 +1,6 @@
 -- What is said of groups of page requests on their way to a response: jobs in hands and in the queue, page requests that aren't filed.
 use Rattle.std.specs.Prelude.{ℕ, ◌==◌, ◌&&◌, if◌then◌else◌, Option, Some, None, List, [], ◌++◌, codes, flat_map, is_none}
 use Rattle.sva_step.specs.declared.steps.Step.TheVariants as step
-use Rattle.sva_step.specs.declared.steps.Verdict.TheVariants as verdict
 use Rattle.sva_model.specs.Wire.{EndpointWire, HostGroupWire, JobWire, PageRequestWire, Wire}
 use Rattle.sva_labels.specs.Moves.{is_of_job}
 use Rattle.sva_lines.specs.Pieces.{field, line_end, rows}
@@ -10,11 +9,7 @@ use Rattle.sva_standing.specs.declared.link.Topic.TheVariants.{Asks, Responds}
 use Rattle.sva_accepted.specs.Accepted.{is_accepted}
 use Rattle.sva_standing.specs.Lines.{bracket, indent}
 use Rattle.sva_standing.specs.Link.{about_lines}
-
--- ` [answer 0 invalid]`
-abbrev pub invalid_text : Wire → (worker : ℕ) → List ℕ
-invalid_text wire worker =
-    if is_accepted wire (step.Reply worker verdict.Invalid) then field (codes " [answer ") worker ++ codes " invalid]" else []
+use Rattle.sva_standing.specs.Requests.{invalid_text}
 
 -- `worker 0 has it in hand [answer 0 invalid]`
 abbrev pub in_hand_line : Level → Wire → (worker : ℕ) → List ℕ

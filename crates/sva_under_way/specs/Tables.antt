@@ -8,14 +8,15 @@ use Rattle.sva_model.specs.State.{GroupState, PasidState}
 use Rattle.sva_model.specs.State.PasidState.{Off, On, Ending}
 use Rattle.sva_model.specs.Wire.{BindingWire, DeviceWire, EndpointWire, GroupWire, RequestWire, UseWire, Wire}
 use Rattle.sva_labels.specs.Finding.{has_unfinished_group, is_use_of, outstanding, pasid_state}
-use Rattle.sva_lines.specs.Pieces.{field, line_end, rows, word_if}
+use Rattle.sva_lines.specs.Pieces.{field, line_end, rows}
 use Rattle.sva_lines.specs.Words.{stage_text}
 use Rattle.sva_standing.specs.declared.levels.Level.{Level}
 use Rattle.sva_standing.specs.declared.levels.Level.TheVariants.{First, Second}
-use Rattle.sva_standing.specs.declared.link.Topic.TheVariants.{Start, Tag}
+use Rattle.sva_standing.specs.declared.link.Topic.TheVariants.{Start}
 use Rattle.sva_accepted.specs.Accepted.{is_accepted}
 use Rattle.sva_standing.specs.Lines.{below, bracket, bracket_of_two, indent, start}
 use Rattle.sva_standing.specs.Link.{about_lines}
+use Rattle.sva_standing.specs.Requests.{out_lines}
 use Rattle.sva_standing.specs.Units.{reset_if, use_text}
 use Rattle.sva_under_way.specs.Jobs.{on_its_way_lines}
 
@@ -100,19 +101,6 @@ unfinished_if level wire endpoint part pasid index group =
 
 abbrev pub unfinished_lines : Level → Wire → (endpoint : ℕ) → EndpointWire → (pasid : ℕ) → List ℕ
 unfinished_lines level wire endpoint part pasid = rows (unfinished_if level wire endpoint part pasid) 0 part.device.groups
-
-abbrev pub asked_text : (pasid page : ℕ) → List ℕ
-asked_text pasid page = field (codes " is out: pasid ") pasid ++ field (codes " page ") page
-
--- `tag 0 is out: pasid 1 page 17`, and ` doomed`
-abbrev pub out_line : Level → (tag : ℕ) → RequestWire → List ℕ
-out_line level tag request =
-    start level (codes "tag ") tag ++ asked_text request.pasid request.page ++ word_if request.is_doomed (codes " doomed") ++ line_end
-
--- a translation request that is out: it, or its completion, is in flight; or the unit is in reset, by which it was dropped
-abbrev pub out_lines : Level → Wire → (endpoint : ℕ) → EndpointWire → (tag : ℕ) → RequestWire → List ℕ
-out_lines level wire endpoint part tag request =
-    out_line level tag request ++ about_lines (below level) wire endpoint (Tag tag) ++ reset_if (below level) wire endpoint part
 
 abbrev pub tag_if : Level → Wire → (endpoint : ℕ) → EndpointWire → (pasid tag : ℕ) → Option RequestWire → List ℕ
 tag_if level wire endpoint part pasid tag None = []

@@ -5,25 +5,14 @@ ghost use Rattle.sva_labels.specs.Moves.{is_of_job};
 ghost use Rattle.sva_lines.specs.Pieces.{rows};
 ghost use Rattle.sva_msg.specs.Seen.{page_request_seen};
 ghost use Rattle.sva_snapshot.specs.Shown.{endpoint_shown, host_group_shown, job_shown};
-ghost use Rattle.sva_under_way.specs.Jobs.{hand_if, invalid_text, job_at_if, job_if, job_lines, on_its_way_lines};
+ghost use Rattle.sva_under_way.specs.Jobs.{hand_if, job_at_if, job_if, job_lines, on_its_way_lines};
 ghost use Rattle.sva_under_way.specs.Jobs.{request_if, take_if, unfiled_lines};
 
 use std::alloc::AllocError;
-use sva_accepted::{can_answer_invalid, can_serve, can_take};
+use sva_accepted::{can_serve, can_take};
 use sva_lines::{end_line, put_field, put_word};
 use sva_snapshot::{Endpoint, HostGroup, Job, PageRequest, Snapshot};
-use sva_standing::{Level, Topic, put_about, put_bracket, put_indent};
-
-/// Appends the verdict Invalid of a worker in brackets, where it would be accepted.
-pub fn put_invalid(out: &mut Vec<u8>, snapshot: &Snapshot, worker: u64) -> Result<(), AllocError>
-    ensures { OnOk result (out.new.items ≡ out.old.items ++ invalid_text snapshot.now worker) }
-{
-    if !can_answer_invalid(snapshot, worker) {
-        return Ok(());
-    }
-    put_field(out, " [answer ", worker)?;
-    put_word(out, " invalid]")
-}
+use sva_standing::{Level, Topic, put_about, put_bracket, put_indent, put_invalid};
 
 /// Is it the job of the group?
 fn is_of_job(job: &Job, group: &HostGroup) -> bool

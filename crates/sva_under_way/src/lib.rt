@@ -7,5 +7,5 @@ mod jobs;
 mod tables;
 
 pub use credits::{put_credit, put_disabled};
-pub use jobs::{put_invalid, put_job_of, put_unfiled};
-pub use tables::{put_busy_pasid, put_not_started, put_out, put_unfinished_if};
+pub use jobs::{put_job_of, put_unfiled};
+pub use tables::{put_busy_pasid, put_not_started, put_unfinished_if};

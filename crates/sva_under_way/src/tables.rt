@@ -4,8 +4,8 @@ ghost use Rattle.std.specs.Prelude.{◌≡◌, ◌++◌, OnOk, flat_map, map};
 ghost use Rattle.sva_parts_by_labels.specs.Device.{group_seen, slot_seen, tag_seen};
 ghost use Rattle.sva_snapshot.specs.Shown.{binding_shown, endpoint_shown};
 ghost use Rattle.sva_under_way.specs.Tables.{bearer_if, busy_pasid_lines, last_text, not_started_lines, off_lines};
-ghost use Rattle.sva_under_way.specs.Tables.{out_lines, tag_if, tag_lines, unfinished_if, unfinished_lines, use_if};
-ghost use Rattle.sva_under_way.specs.Tables.{asked_text, bearer_line, ending_line, out_line, unfinished_group_lines};
+ghost use Rattle.sva_under_way.specs.Tables.{tag_if, tag_lines, unfinished_if, unfinished_lines, use_if};
+ghost use Rattle.sva_under_way.specs.Tables.{bearer_line, ending_line, unfinished_group_lines};
 ghost use Rattle.sva_under_way.specs.Tables.{unfinished_line, use_lines};
 
 use crate::credits::{put_credit, put_disabled};
@@ -14,8 +14,8 @@ use sva_accepted::{can_end, can_finish_group, is_unfinished, is_use_of, pasid_st
 use sva_lines::{end_line, put_field, put_if, put_stage, put_word};
 use sva_snapshot::{Binding, Endpoint, GroupPlace, PasidState, RequestTag, Snapshot, UseSlot};
 use sva_standing::{
-    Level, Topic, below, put_about, put_bracket_of_two, put_indent, put_reset_if, put_start,
-    put_use,
+    Level, Topic, below, put_about, put_bracket_of_two, put_indent, put_out, put_reset_if,
+    put_start, put_use,
 };
 
 /// Appends the last request of a group in brackets.
@@ -120,53 +120,6 @@ fn put_unfinished(
         )?;
     }
     Ok(())
-}
-
-/// Appends what a translation request asks for.
-fn put_asked(out: &mut Vec<u8>, pasid: u32, page: u64) -> Result<(), AllocError>
-    ensures { OnOk result (out.new.items ≡ out.old.items ++ asked_text pasid page) }
-{
-    put_field(out, " is out: pasid ", u64::from(pasid))?;
-    put_field(out, " page ", page)
-}
-
-/// Appends the line of a translation request that is out.
-fn put_out_line(
-    out: &mut Vec<u8>,
-    level: Level,
-    tag: u64,
-    pasid: u32,
-    page: u64,
-    is_doomed: bool,
-) -> Result<(), AllocError>
-    ensures { OnOk result (out.new.items ≡ out.old.items
-        ++ out_line level tag (record { pasid = pasid; page = page; is_doomed = is_doomed })) }
-{
-    put_start(out, level, "tag ", tag)?;
-    put_asked(out, pasid, page)?;
-    put_if(out, is_doomed, " doomed")?;
-    end_line(out)
-}
-
-/// Appends the lines of a translation request that is out.
-pub fn put_out(
-    out: &mut Vec<u8>,
-    level: Level,
-    snapshot: &Snapshot,
-    endpoint: u64,
-    part: &Endpoint,
-    tag: u64,
-    pasid: u32,
-    page: u64,
-    is_doomed: bool,
-) -> Result<(), AllocError>
-    ensures { OnOk result (out.new.items ≡ out.old.items
-        ++ out_lines level snapshot.now endpoint (endpoint_shown part.now) tag
-        (record { pasid = pasid; page = page; is_doomed = is_doomed })) }
-{
-    put_out_line(out, level, tag, pasid, page, is_doomed)?;
-    put_about(out, below(level), snapshot, endpoint, Topic::Tag(tag))?;
-    put_reset_if(out, below(level), snapshot, endpoint, part)
 }
 
 /// Appends the lines of a tag, if a request of the PASID is out under it.

@@ -18,8 +18,9 @@ use Rattle.sva_standing.specs.declared.link.Topic.TheVariants.{Itag, Start, Tag}
 use Rattle.sva_standing.specs.declared.levels.Level.TheVariants.{First, Second}
 use Rattle.sva_standing.specs.Lines.{indent}
 use Rattle.sva_standing.specs.Link.{about_lines, message_line, older_if}
+use Rattle.sva_standing.specs.Requests.{out_line, out_lines}
 use Rattle.sva_under_way.specs.Tables.{bearer_if, ending_line, not_started_by, not_started_lines}
-use Rattle.sva_under_way.specs.Tables.{busy_pasid_lines, credit_if, disabled_if, out_line, out_lines, tag_if, tag_lines, unfinished_group_lines, unfinished_if}
+use Rattle.sva_under_way.specs.Tables.{busy_pasid_lines, credit_if, disabled_if, tag_if, tag_lines, unfinished_group_lines, unfinished_if}
 use Rattle.sva_under_way.specs.Tables.{unfinished_line, unfinished_lines, use_if, use_lines}
 use Rattle.sva_standing.specs.Units.{end_text, full_line, no_room_lines, of_part, pump_lines, reset_if, room_lines, use_text, wait_if, wait_line, wait_lines}
 use Rattle.sva_standing.specs.Units.{waits_for_lines, waits_if, waits_line}

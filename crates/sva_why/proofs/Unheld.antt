@@ -4,7 +4,8 @@ use Rattle.sva_step.specs.declared.answers.Answer.TheVariants as answer
 use Rattle.sva_step.specs.declared.steps.Step.{Step}
 use Rattle.sva_model.specs.Steps.{Reply}
 use Rattle.sva_model.specs.Wire.{Wire}
-use Rattle.sva_why.specs.Why.{is_held, why_of}
+use Rattle.sva_reports.specs.Explaining.{is_held}
+use Rattle.sva_why.specs.Why.{why_of}
 
 -- nothing is said of it
 pub nothing_said : (wire : Wire) (asked : Step) (reply : Reply) → is_held reply ≡ false → why_of wire asked reply ≡ []

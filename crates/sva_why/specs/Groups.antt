@@ -7,7 +7,8 @@ use Rattle.sva_lines.specs.Pieces.{field, line_end}
 use Rattle.sva_standing.specs.declared.levels.Level.{Level}
 use Rattle.sva_standing.specs.declared.levels.Level.TheVariants.{First}
 use Rattle.sva_standing.specs.Lines.{below, indent}
-use Rattle.sva_under_way.specs.Jobs.{invalid_text, job_lines, unfiled_lines}
+use Rattle.sva_standing.specs.Requests.{invalid_text}
+use Rattle.sva_under_way.specs.Jobs.{job_lines, unfiled_lines}
 use Rattle.sva_under_way.specs.Tables.{unfinished_if}
 
 -- the group that bears the index at the endpoint, if it isn't finished

@@ -1,5 +1,5 @@
 -- What holds a step back that was refused, blocked or withheld.
-use Rattle.std.specs.Prelude.{ℕ, Bool, true, false, Ok, Err, List, [], ◌∷◌, slice_get}
+use Rattle.std.specs.Prelude.{ℕ, Ok, Err, List, [], ◌∷◌, slice_get}
 use Rattle.sva_step.specs.declared.answers.Answer.TheVariants as answer
 use Rattle.sva_step.specs.declared.steps.Step.{Step}
 use Rattle.sva_step.specs.declared.steps.Step.TheVariants as step
@@ -9,15 +9,6 @@ use Rattle.sva_lacking.specs.Ranges.{withheld_range}
 use Rattle.sva_standing.specs.declared.levels.Level.TheVariants.{First}
 use Rattle.sva_standing.specs.Units.{blocked_lines, of_part, place_lines}
 use Rattle.sva_why.specs.Causes.{refused_lines}
-
--- a step is held back where it is refused or blocked, or where frames are withheld
-abbrev pub is_held : Reply → Bool
-is_held (Err refusal) = true
-is_held (Ok answer.Blocked) = true
-is_held (Ok answer.Withheld) = true
-is_held (Ok (answer.WithheldFrames frames)) = true
-is_held (Ok (answer.RangeWithheld frames)) = true
-is_held (Ok other) = false
 
 -- the head of a queue is blocked
 abbrev pub blocked : Wire → Step → List ℕ

@@ -1,32 +1,17 @@
 //! What holds a step back.
 
 ghost use Rattle.std.specs.Prelude.{◌≡◌, ◌++◌, OnOk};
-ghost use Rattle.sva_why.specs.Why.{blocked, first_lines, is_held, looked, why_of};
+ghost use Rattle.sva_why.specs.Why.{blocked, first_lines, looked, why_of};
 
 use crate::causes::put_refused;
 use std::alloc::{AllocError, Global};
 use sva_accepted::part_at;
 use sva_core::World;
 use sva_lacking::put_withheld_range;
+use sva_reports::{Explains, is_held};
 use sva_snapshot::{Snapshot, snapshot};
 use sva_standing::{Level, put_blocked, put_place};
 use sva_step::{Answer, Refusal, Step};
-
-/// Is a step held back: is it refused or blocked, or are frames withheld?
-pub fn is_held(reply: &Result<Answer, Refusal>) -> bool
-    ensures { result ≡ is_held reply.now }
-{
-    match reply {
-        Err(_) => true,
-        Ok(answer) => matches!(
-            answer,
-            Answer::Blocked
-                | Answer::Withheld
-                | Answer::WithheldFrames { .. }
-                | Answer::RangeWithheld { .. }
-        ),
-    }
-}
 
 /// Appends what blocks the head of a queue.
 fn put_blocked_of(out: &mut Vec<u8>, snapshot: &Snapshot, step: &Step) -> Result<(), AllocError>
@@ -114,5 +99,22 @@ pub fn put_why_in(
         put_held(out, alloc, world, step, reply)
     } else {
         Ok(())
+    }
+}
+
+/// What explains to reports why a step is held back: `put_why_in`.
+pub struct Explainer;
+
+impl Explains for Explainer {
+    ghost explained = { why_of };
+
+    fn put_explained(
+        out: &mut Vec<u8>,
+        alloc: Global,
+        world: &World,
+        step: &Step,
+        reply: &Result<Answer, Refusal>,
+    ) -> Result<(), AllocError> {
+        put_why_in(out, alloc, world, step, reply)
     }
 }

@@ -31,9 +31,10 @@ use Rattle.sva_standing.specs.declared.link.Topic.{Topic}
 use Rattle.sva_standing.specs.declared.link.Topic.TheVariants.{Asks, Responds, Stop, Tag}
 use Rattle.sva_standing.specs.Lines.{indent}
 use Rattle.sva_standing.specs.Link.{about_if, about_lines, is_about, message_line}
+use Rattle.sva_standing.specs.Requests.{out_line, out_lines}
 use Rattle.sva_under_way.specs.Jobs.{hand_if, in_hand_line, job_at_if, job_if, job_lines, on_its_way_lines, request_if, request_line}
 use Rattle.sva_under_way.specs.Jobs.{unfiled_lines, untaken_line}
-use Rattle.sva_under_way.specs.Tables.{credit_if, credit_line, disabled_if, due_if, due_line, due_lines, is_due, out_line, out_lines}
+use Rattle.sva_under_way.specs.Tables.{credit_if, credit_line, disabled_if, due_if, due_line, due_lines, is_due}
 use Rattle.sva_standing.specs.Units.{of_part, place_lines, reset_if}
 use Rattle.sva_why.specs.Bindings.{binding_line, borne_lines, kept_lines, stays_of}
 use Rattle.sva_why.specs.Causes.{disabled, endpoint_of, no_credit, of_found}

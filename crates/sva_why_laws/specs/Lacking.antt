@@ -24,8 +24,9 @@ use Rattle.sva_standing.specs.declared.levels.Level.TheVariants.{First, Second, 
 use Rattle.sva_standing.specs.declared.link.Topic.TheVariants.{Asks, Responds, Stop}
 use Rattle.sva_standing.specs.Lines.{indent}
 use Rattle.sva_standing.specs.Link.{is_about, message_line}
+use Rattle.sva_standing.specs.Requests.{out_line}
 use Rattle.sva_under_way.specs.Jobs.{in_hand_line, request_line, untaken_line}
-use Rattle.sva_under_way.specs.Tables.{due_line, is_due, out_line, reset_text}
+use Rattle.sva_under_way.specs.Tables.{due_line, is_due, reset_text}
 use Rattle.sva_why.specs.Bindings.{binding_line}
 use Rattle.sva_why.specs.Causes.{endpoint_of}
 use Rattle.sva_why.specs.Standing.{Has}

@@ -8,6 +8,7 @@ use Rattle.sva_script_reports.specs.Scripts.{plain_of, test_of}
 use Rattle.sva_script_reports.specs.Shows.{show_of}
 use Rattle.sva_script_reports.specs.Whys.{whys_of}
 use Rattle.sva_script_traces.specs.Traces.{trace_of}
+use Rattle.sva_why.specs.Why.{why_of}
 use Rattle.sva_race_reports.specs.Explored.{Explores}
 use Rattle.sva_program.specs.Run.{Reports, wanted_of}
 use Rattle.sva_program.proofs.RunLemmas.{caused, caused_exploring, caused_ruling, caused_run, printed, reported, run_reported}
@@ -102,7 +103,7 @@ returns-in-Test-clause-report g c =
     subst (λ a. Reports a input old new c.ran-in-Test.result) (sym c.in-Test.is) (
       found.result,
       c.ran-in-Test.ensures,
-      (printed test_of input old new found.result found.ensures.printed
+      (printed (test_of why_of) input old new found.result found.ensures.printed
           (λ read. ap (λ told. g.W.Write.contents told.inner) (found.ensures.read read).0)),
     )
 
@@ -142,7 +143,7 @@ returns-in-Why-clause-report g c =
     subst (λ a. Reports a input old new c.ran-in-Why.result) (sym c.in-Why.is) (
       found.result,
       c.ran-in-Why.ensures,
-      (printed whys_of input old new found.result found.ensures.printed
+      (printed (whys_of why_of) input old new found.result found.ensures.printed
           (λ read. ap (λ told. g.W.Write.contents told.inner) (found.ensures.read read).0)),
     )
 
@@ -162,8 +163,9 @@ returns-in-Explore-clause-report g c =
     subst (λ a. Reports a input old new c.explored.result) (sym c.in-Explore.is) (
       found.result,
       c.explored.ensures,
-      (reported (λ text. Explores text (wanted_of c.in-Explore.most c.in-Explore.whys c.in-Explore.few_ends) old new found.result) input old new found.result
-          (subst (λ wanted. IfSome input (λ text. Explores text wanted old new found.result)) c.wanted_of-wanted.ensures found.ensures.explored)
+      (reported (λ text. Explores why_of text (wanted_of c.in-Explore.most c.in-Explore.whys c.in-Explore.few_ends) old new found.result) input old
+          new found.result
+          (subst (λ wanted. IfSome input (λ text. Explores why_of text wanted old new found.result)) c.wanted_of-wanted.ensures found.ensures.explored)
           (λ read. ap (λ told. g.W.Write.contents told.inner) (found.ensures.read read).0)),
     )
 
@@ -203,7 +205,7 @@ returns-in-Trace-clause-report g c =
     subst (λ a. Reports a input old new c.ran-in-Trace.result) (sym c.in-Trace.is) (
       found.result,
       c.ran-in-Trace.ensures,
-      (subst (λ style. IfSome input (λ text. Prints (trace_of style text) old new found.result)) c.style_of.ensures found.ensures.printed),
+      (subst (λ style. IfSome input (λ text. Prints (trace_of why_of style text) old new found.result)) c.style_of.ensures found.ensures.printed),
     )
 
 pub returns-in-Trace-clause-cause : goal.returns-in-Trace-clause-cause

@@ -4,7 +4,8 @@ use Rattle.sva_race_reports.proofs.exploring.explore.Goals as goal
 
 pub returns-clause-explored : goal.returns-clause-explored
 returns-clause-explored g c =
-    kept_explored _ _ _ c.args.wanted c.in_ok-text.text.items c.as_slice.result.now c.tell.result c.as_slice.ensures.value c.in_ok-text.ensures.ok
+    kept_explored g.E.Explains.explained _ _ _ c.args.wanted c.in_ok-text.text.items c.as_slice.result.now c.tell.result c.as_slice.ensures.value
+    c.in_ok-text.ensures.ok
     c.tell.ensures.explored
 
 pub returns-clause-end : goal.returns-clause-end

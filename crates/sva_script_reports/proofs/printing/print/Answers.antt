@@ -4,7 +4,8 @@ use Rattle.sva_script_reports.proofs.printing.print.Goals as goal
 
 pub returns-clause-printed : goal.returns-clause-printed
 returns-clause-printed g c =
-    kept_print c.args.saying _ _ _ c.in_ok-text.text.items c.as_slice.result.now c.print_text.result c.as_slice.ensures.value c.in_ok-text.ensures.ok
+    kept_print g.E.Explains.explained c.args.saying _ _ _ c.in_ok-text.text.items c.as_slice.result.now c.print_text.result c.as_slice.ensures.value
+    c.in_ok-text.ensures.ok
     c.print_text.ensures.printed
 
 pub returns-clause-end : goal.returns-clause-end

@@ -10,11 +10,11 @@ use Rattle.sva_script_reports.proofs.StepLemmas.{line_differs, line_failed}
 use Rattle.sva_script_reports.proofs.testing.test_line.Goals as goal
 
 pub returns-in-Err-Wrong : goal.returns-in-Err-Wrong
-returns-in-Err-Wrong c =
+returns-in-Err-Wrong g c =
     let given = map {A = Bor (List ℕ)} {B = List ℕ} (λ word. word.now) c.as_slice-words.result.now in
     let told : c.put_wrong.new.out.items
     ≡ c.args.out.now.items ++ fault_text (fault_of c.names.result.now c.args.number given c.in-Err-Wrong.wrong) = search rules in
-    line_failed c.args.run.now c.answer_line.new.run c.args.number _ given c.answer_line.new.plain.items c.answer_line.new.answer.items
+    line_failed g.E.Explains.explained c.args.run.now c.answer_line.new.run c.args.number _ given c.answer_line.new.plain.items c.answer_line.new.answer.items
     c.answer_line.new.expected.items c.args.out.now.items c.put_wrong.new.out.items c.args.is_last.now c.names.result.now
     c.answer_line.new.taken c.in-Err-Wrong.wrong
     (ap (λ ws. map {A = Bor (List ℕ)} {B = List ℕ} (λ word. word.now) ws) c.as_slice-words.ensures.value)
@@ -23,7 +23,7 @@ returns-in-Err-Wrong c =
     c.names.ensures told
 
 pub returns : goal.returns
-returns c =
+returns g c =
     let given = map {A = Bor (List ℕ)} {B = List ℕ} (λ word. word.now) c.as_slice-words.result.now in
     let some : is_none (parts_of given).expected ≡ false = search rules in
     let shown : c.behind_space-expected.result.now ≡ drop 1 c.answer_line.new.expected.items = search rules in
@@ -31,7 +31,7 @@ returns c =
     let told : c.put_miss.new.out.items
     ≡ c.args.out.now.items ++ miss_text c.args.number c.answer_line.new.plain.items c.behind_space-expected.result.now c.answer_line.new.answer.items =
     search rules in
-    line_differs c.args.run.now c.answer_line.new.run c.args.number _ given c.answer_line.new.plain.items c.answer_line.new.answer.items
+    line_differs g.E.Explains.explained c.args.run.now c.answer_line.new.run c.args.number _ given c.answer_line.new.plain.items c.answer_line.new.answer.items
     c.answer_line.new.expected.items c.behind_space-expected.result.now c.args.out.now.items c.put_miss.new.out.items
     c.put_held.new.out.items c.in-Ok.last c.answer_line.new.taken
     (ap (λ ws. map {A = Bor (List ℕ)} {B = List ℕ} (λ word. word.now) ws) c.as_slice-words.ensures.value)

@@ -11,16 +11,17 @@ use Rattle.sva_script_reports.proofs.TestLemmas.{test_end, test_passed, test_sam
 use Rattle.sva_script_reports.proofs.testing.test_lines.Goals as goal
 
 pub loop-number-preserved-in-Same : goal.loop-number-preserved-in-Same
-loop-number-preserved-in-Same c =
+loop-number-preserved-in-Same g c =
     let before : At = record { is_config = c.loop-number.is_config; running = c.loop-number.run } in
     let after : At = record { is_config = c.test_words.new.is_config; running = c.test_words.new.run } in
     let words = map {A = Bor (List ℕ)} {B = List ℕ} (λ word. word.now) c.split.new.words.items in
-    let compares : ComparesWords before c.loop-number.is_past c.in-Some.number words c.loop-number.out.items c.test_words.new.out.items
+    let compares : ComparesWords g.E.Explains.explained before c.loop-number.is_past c.in-Some.number words c.loop-number.out.items c.test_words.new.out.items
     c.test_words.new.is_past after (Ok Same) =
-    subst (λ r. ComparesWords before c.loop-number.is_past c.in-Some.number words c.loop-number.out.items c.test_words.new.out.items
+    subst (λ r. ComparesWords g.E.Explains.explained before c.loop-number.is_past c.in-Some.number words c.loop-number.out.items c.test_words.new.out.items
     c.test_words.new.is_past after (Ok r)) c.in-Same.is c.in_ok-test_words.ensures in
     record {
-      whole = test_same _ c.loop-number.is_past c.test_words.new.is_past before after (c.in-Some.number, c.in-Some.line.now) words c.loop-number.out.items
+      whole = test_same g.E.Explains.explained _ c.loop-number.is_past c.test_words.new.is_past before after
+          (c.in-Some.number, c.in-Some.line.now) words c.loop-number.out.items
           c.test_words.new.out.items _ (lines_from (c.next.new.self.number + 1) c.next.new.self.rest.now) c.loop-number.count (c.loop-number.count + 1)
           c.loop-number.invariant.whole c.in-Some.ensures.line c.in_ok-split.ensures refl compares;
       out = compares.0 ∙ c.loop-number.invariant.out;
@@ -28,16 +29,17 @@ loop-number-preserved-in-Same c =
     }
 
 pub loop-number-preserved : goal.loop-number-preserved
-loop-number-preserved c =
+loop-number-preserved g c =
     let before : At = record { is_config = c.loop-number.is_config; running = c.loop-number.run } in
     let after : At = record { is_config = c.test_words.new.is_config; running = c.test_words.new.run } in
     let words = map {A = Bor (List ℕ)} {B = List ℕ} (λ word. word.now) c.split.new.words.items in
-    let compares : ComparesWords before c.loop-number.is_past c.in-Some.number words c.loop-number.out.items c.test_words.new.out.items
+    let compares : ComparesWords g.E.Explains.explained before c.loop-number.is_past c.in-Some.number words c.loop-number.out.items c.test_words.new.out.items
     c.test_words.new.is_past after (Ok NotExpected) =
-    subst (λ r. ComparesWords before c.loop-number.is_past c.in-Some.number words c.loop-number.out.items c.test_words.new.out.items
+    subst (λ r. ComparesWords g.E.Explains.explained before c.loop-number.is_past c.in-Some.number words c.loop-number.out.items c.test_words.new.out.items
     c.test_words.new.is_past after (Ok r)) c.in-NotExpected.is c.in_ok-test_words.ensures in
     record {
-      whole = test_passed _ c.loop-number.is_past c.test_words.new.is_past before after (c.in-Some.number, c.in-Some.line.now) words c.loop-number.out.items
+      whole = test_passed g.E.Explains.explained _ c.loop-number.is_past c.test_words.new.is_past before after
+          (c.in-Some.number, c.in-Some.line.now) words c.loop-number.out.items
           c.test_words.new.out.items _ (lines_from (c.next.new.self.number + 1) c.next.new.self.rest.now) c.loop-number.count
           c.loop-number.invariant.whole c.in-Some.ensures.line
           c.in_ok-split.ensures compares;
@@ -46,24 +48,25 @@ loop-number-preserved c =
     }
 
 pub returns-in-Differs : goal.returns-in-Differs
-returns-in-Differs c =
+returns-in-Differs g c =
     let before : At = record { is_config = c.loop-number.is_config; running = c.loop-number.run } in
     let after : At = record { is_config = c.test_words.new.is_config; running = c.test_words.new.run } in
     let words = map {A = Bor (List ℕ)} {B = List ℕ} (λ word. word.now) c.split.new.words.items in
-    let compares : ComparesWords before c.loop-number.is_past c.in-Some.number words c.loop-number.out.items c.test_words.new.out.items
+    let compares : ComparesWords g.E.Explains.explained before c.loop-number.is_past c.in-Some.number words c.loop-number.out.items c.test_words.new.out.items
     c.test_words.new.is_past after (Ok Differs) =
-    subst (λ r. ComparesWords before c.loop-number.is_past c.in-Some.number words c.loop-number.out.items c.test_words.new.out.items
+    subst (λ r. ComparesWords g.E.Explains.explained before c.loop-number.is_past c.in-Some.number words c.loop-number.out.items c.test_words.new.out.items
     c.test_words.new.is_past after (Ok r)) c.in-Differs.is c.in_ok-test_words.ensures in
-    test_stopped _ c.loop-number.is_past c.test_words.new.is_past before after (c.in-Some.number, c.in-Some.line.now) words c.loop-number.out.items
+    test_stopped g.E.Explains.explained _ c.loop-number.is_past c.test_words.new.is_past before after
+    (c.in-Some.number, c.in-Some.line.now) words c.loop-number.out.items
     c.test_words.new.out.items _ (lines_from (c.next.new.self.number + 1) c.next.new.self.rest.now) c.loop-number.count
     c.loop-number.invariant.whole c.in-Some.ensures.line
     c.in_ok-split.ensures c.loop-number.invariant.out compares
 
 pub returns : goal.returns
-returns c =
+returns g c =
     let at : At = record { is_config = c.loop-number.is_config; running = c.loop-number.run } in
     subst (λ said. IsSaid said c.put_verdict.new.out.items (Ok Done))
     (sym (c.loop-number.invariant.whole
-    ∙ test_end c.loop-number.count c.loop-number.is_past at (lines_from (c.loop-number.lines.number + 1) c.loop-number.lines.rest.now)
+    ∙ test_end g.E.Explains.explained c.loop-number.count c.loop-number.is_past at (lines_from (c.loop-number.lines.number + 1) c.loop-number.lines.rest.now)
     (no_lines (c.loop-number.lines.number + 1) c.loop-number.lines.rest.now c.in_default.ensures.none)))
     (refl, c.in_ok-put_verdict.ensures ∙ ap (λ l. l ++ verdict_text c.loop-number.count) c.loop-number.invariant.out)

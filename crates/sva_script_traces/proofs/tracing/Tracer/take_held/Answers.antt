@@ -7,13 +7,14 @@ use Rattle.sva_script_traces.proofs.TraceLemmas.{nothing_held}
 use Rattle.sva_script_traces.proofs.tracing.Tracer.take_held.Goals as goal
 
 pub returns-then-is_empty-clause-traced : goal.returns-then-is_empty-clause-traced
-returns-then-is_empty-clause-traced c =
+returns-then-is_empty-clause-traced g c =
     let none : c.args.held.now.items ≡ [] = nothing_held c.args.held.now.items (grind (arith, common_steps)) in
     on_ok_by c.take_within.result
-    (subst (λ l. TracesLine c.args.self.now (l ++ c.args.text.now) c.take_within.new.self c.args.out.now.items c.take_within.new.out.items) (sym none))
+    (subst (λ l. TracesLine g.E.Explains.explained c.args.self.now
+    (l ++ c.args.text.now) c.take_within.new.self c.args.out.now.items c.take_within.new.out.items) (sym none))
     c.take_within.ensures
 
 pub returns-then-is_empty-clause-held : goal.returns-then-is_empty-clause-held
-returns-then-is_empty-clause-held c =
+returns-then-is_empty-clause-held g c =
     let none : c.args.held.now.items ≡ [] = nothing_held c.args.held.now.items (grind (arith, common_steps)) in
     on_ok_all c.take_within.result none

@@ -1,6 +1,6 @@
 use Rattle.sva_lines.proofs.Lines.{both}
 use Rattle.sva_standing.proofs.Chains.{joined}
-use Rattle.sva_under_way.proofs.tables.put_out_line.Goals as goal
+use Rattle.sva_standing.proofs.requests.put_out_line.Goals as goal
 
 pub returns : goal.returns
 returns c =

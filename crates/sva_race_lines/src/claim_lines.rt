@@ -42,7 +42,7 @@ pub(crate) fn take_claim(
 }
 
 /// Adds a claim with these words, of which the last are those of its condition.
-fn add_claim(
+fn add_with_literals(
     alloc: Global,
     config: Config,
     names: &Names,
@@ -83,7 +83,7 @@ fn take_claiming(
                 claiming,
                 condition,
             };
-            match add_claim(alloc, config, names, reading, line, words, rest, claim) {
+            match add_with_literals(alloc, config, names, reading, line, words, rest, claim) {
                 Ok(()) => Ok(()),
                 Err(_) => Err(RaceStop::Memory),
             }

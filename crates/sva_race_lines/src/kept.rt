@@ -11,8 +11,8 @@ pub struct Asked {
     pub is_of_ends: bool,
 }
 
-/// A literal of a claim's condition that has others beside it. The race has a claim for it, behind those of its lines:
-/// that it is true at some moment.
+/// A literal of a claim's condition that stands beside others, with `and` between. The race has a claim for it, behind
+/// those of its lines: that it is true at some moment.
 #[derive(Drop)]
 pub struct AskedLiteral {
     /// Its words, one space between two.
@@ -32,6 +32,6 @@ pub struct Text {
     pub threads: Vec<Vec<u8>>,
     /// Of each claim that has a line, its words. Behind these claims the race has one for each literal below.
     pub asked: Vec<Asked>,
-    /// The literals of conditions that have several.
+    /// The literals of conditions that stand beside others.
     pub literals: Vec<AskedLiteral>,
 }

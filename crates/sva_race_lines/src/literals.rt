@@ -1,4 +1,5 @@
-//! The literals of conditions that have several: of each the race asks whether it is true at some moment.
+//! The literals of conditions that stand beside others, with `and` between: of each the race asks whether it is true at
+//! some moment.
 
 ghost use Rattle.std.specs.Prelude.{◌≡◌, ◌∷◌, ◌++◌, [], IfOk, map};
 ghost use Rattle.std.specs.List.{list_any};
@@ -25,25 +26,25 @@ pub(crate) struct Literals {
     pub(crate) asked: Vec<AskedLiteral>,
 }
 
-/// Whether a word stands between two literals.
-fn is_between(word: &[u8]) -> bool
-    ensures { result ≡ literals.is_between word.now }
+/// Whether it is the word between two literals.
+fn is_and(word: &[u8]) -> bool
+    ensures { result ≡ literals.is_and word.now }
 {
-    is(word, b"and") || is(word, b"or")
+    is(word, b"and")
 }
 
-/// Whether one of the words does.
-fn is_one_between(words: &[&[u8]]) -> bool
-    ensures { result ≡ list_any (λ word. literals.is_between word.now) words.now }
+/// Whether one of the words is.
+fn is_one_and(words: &[&[u8]]) -> bool
+    ensures { result ≡ list_any (λ word. literals.is_and word.now) words.now }
 {
-    words.iter().any(|word| is_between(word))
+    words.iter().any(|word| is_and(word))
 }
 
-/// Whether a condition has several literals.
+/// Whether these are the words of several literals.
 fn has_several(words: &[&[u8]]) -> bool
     ensures { result ≡ literals.has_several (map (λ word. word.now) words.now) }
 {
-    let found = is_one_between(words);
+    let found = is_one_and(words);
     found
 }
 
@@ -142,6 +143,32 @@ fn add_literal(
 }
 
 /// Asks of literals with `and` between two.
+fn add_each(
+    alloc: Global,
+    config: Config,
+    names: &Names,
+    lines: &[Line],
+    line: u64,
+    is_of_ends: bool,
+    words: &[&[u8]],
+    own: &mut Literals,
+) -> Result<(), AllocError>
+    ensures { IfOk result (λ _. literals_seen own.new
+        ≡ literals.with_each config names.now (map line_seen lines.now) line is_of_ends (literals_seen own.old)
+        (map (λ word. word.now) words.now)) }
+{
+    let mut start = 0;
+    while let Some(count) = piece_len(words, start, b"and") {
+        let piece = words_at(words, start, count);
+        add_literal(alloc, config, names, lines, line, is_of_ends, piece, own)?;
+        start += count + 1;
+    }
+    let piece = words_from(words, start);
+    add_literal(alloc, config, names, lines, line, is_of_ends, piece, own)?;
+    Ok(())
+}
+
+/// Asks of such literals, if they are several.
 fn add_all(
     alloc: Global,
     config: Config,
@@ -156,19 +183,15 @@ fn add_all(
         ≡ literals.with_all config names.now (map line_seen lines.now) line is_of_ends (literals_seen own.old)
         (map (λ word. word.now) words.now)) }
 {
-    let mut start = 0;
-    while let Some(count) = piece_len(words, start, b"and") {
-        let piece = words_at(words, start, count);
-        add_literal(alloc, config, names, lines, line, is_of_ends, piece, own)?;
-        start += count + 1;
+    if has_several(words) {
+        add_each(alloc, config, names, lines, line, is_of_ends, words, own)
+    } else {
+        Ok(())
     }
-    let piece = words_from(words, start);
-    add_literal(alloc, config, names, lines, line, is_of_ends, piece, own)?;
-    Ok(())
 }
 
 /// Asks of the literals of a condition: such lists with `or` between two.
-fn add_condition(
+pub(crate) fn add_condition(
     alloc: Global,
     config: Config,
     names: &Names,
@@ -191,26 +214,4 @@ fn add_condition(
     let piece = words_from(words, start);
     add_all(alloc, config, names, lines, line, is_of_ends, piece, own)?;
     Ok(())
-}
-
-/// Asks of the literals of a condition, if it has several.
-pub(crate) fn add_several(
-    alloc: Global,
-    config: Config,
-    names: &Names,
-    lines: &[Line],
-    line: u64,
-    is_of_ends: bool,
-    words: &[&[u8]],
-    own: &mut Literals,
-) -> Result<(), AllocError>
-    ensures { IfOk result (λ _. literals_seen own.new
-        ≡ literals.with_several config names.now (map line_seen lines.now) line is_of_ends (literals_seen own.old)
-        (map (λ word. word.now) words.now)) }
-{
-    if has_several(words) {
-        add_condition(alloc, config, names, lines, line, is_of_ends, words, own)
-    } else {
-        Ok(())
-    }
 }

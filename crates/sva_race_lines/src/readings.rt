@@ -14,7 +14,7 @@ ghost use Rattle.sva_race_lines.specs.Threads.{line_said, thread_of, with_line};
 
 use crate::devices::DeviceLine;
 use crate::kept::Asked;
-use crate::literals::{Literals, add_several};
+use crate::literals::{Literals, add_condition};
 use std::alloc::{AllocError, Global};
 use std::marker::Model;
 use sva_race::{Claim, Line, Literal, Verdicts};
@@ -313,7 +313,7 @@ impl Reading {
         self.push_claim(claim, asked)
     }
 
-    /// Asks of the literals of a condition that has several, of a claim with this line.
+    /// Asks of the literals of a condition that stand beside others, of a claim with this line.
     pub(crate) fn add_literals(
         &mut self,
         alloc: Global,
@@ -326,7 +326,7 @@ impl Reading {
         ensures { IfOk result (λ _. self.new
             ≡ with_literals config names.now self.old line is_of_ends (map (λ word. word.now) words.now)) }
     {
-        add_several(
+        add_condition(
             alloc,
             config,
             names,

@@ -2,8 +2,8 @@
 
 ghost use Rattle.std.specs.Prelude.{◌≡◌, ◌+◌, ◌++◌, ◌<◌, ◌^◌, OnOk, length};
 ghost use Rattle.sva_race_lines.specs.Readings.{asked_literal_seen};
-ghost use Rattle.sva_race_reports.specs.Literals.{asked_literals, literal_at, literal_line, literal_text, literals_from};
-ghost use Rattle.sva_race_reports.specs.Literals.{never_true};
+ghost use Rattle.sva_race_reports.specs.Literals.{asked_literals, literal_at, literal_line, literal_text};
+ghost use Rattle.sva_race_reports.specs.Literals.{literals_from, never_true};
 
 use crate::claims::judged_at;
 use crate::judging::Judged;

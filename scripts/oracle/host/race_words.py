@@ -145,12 +145,21 @@ def read_condition(words):
             for each in split(words, "or")]
 
 
+class Literal:
+    """A literal that stands beside others, with `and` between: its words, and the line of the first such claim."""
+
+    def __init__(self, words, of_ends, at):
+        self.text, self.of_ends, self.at = " ".join(words), of_ends, at
+        [[(self.is_not, self.atom)]] = read_condition(words)
+
+
 class Claim:
     def __init__(self, words):
         self.text = " ".join(words)
         self.of_ends = words[0] == "ends"
         self.kind, *rest = words[self.of_ends:]
         self.condition = read_condition(rest)
+        self.beside = [part for each in split(rest, "or") if "and" in each for part in split(each, "and")]
 
 
 class Device:
@@ -171,6 +180,7 @@ class Race:
 
     def __init__(self, text):
         self.before, self.lines, self.claims, self.workers, self.devices = [], [], [], ["success"], {}
+        self.literals = {}  # by their words, and whether they are asked of ends alone
         self.config, heading, behind = None, None, False
         for at, content in enumerate(text.split("\n"), 1):
             words = [word for word in content.split(" ") if word]
@@ -184,20 +194,24 @@ class Race:
                 behind = True
             elif words[0] == "thread":
                 heading = " ".join(words[1:])
-            elif not self.read_other(words):
+            elif not self.read_other(at, words):
                 self.read_line(at, words, behind, heading)
         self.pages = self.named_pages()
         atoms = [atom for claim in self.claims for every in claim.condition for _, atom in every]
         self.counted = [(atom[1], atom[2]) for atom in atoms if atom[0] == "times"]
         self.asks_numbers = any(atom[0] == "step" and atom[1][0] == "deliver" for atom in atoms)
 
-    def read_other(self, words):
+    def read_other(self, at, words):
         if words[0] == "workers":
             self.workers = words[1:]
         elif words[0] == "device":
             self.devices[int(words[1])] = Device(words[1:])
         elif words[0] in ("ends", "never", "always", "sometimes"):
-            self.claims.append(Claim(words))
+            claim = Claim(words)
+            self.claims.append(claim)
+            for part in claim.beside:
+                literal = Literal(part, claim.of_ends, at)
+                self.literals.setdefault((literal.text, literal.of_ends), literal)
         return words[0] in ("workers", "device", "ends", "never", "always", "sometimes")
 
     def read_line(self, at, words, behind, heading):

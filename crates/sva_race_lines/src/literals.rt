@@ -1,7 +1,7 @@
 //! The literals of conditions that stand beside others, with `and` between: of each the race asks whether it is true at
 //! some moment.
 
-ghost use Rattle.std.specs.Prelude.{◌≡◌, ◌∷◌, ◌++◌, [], IfOk, map};
+ghost use Rattle.std.specs.Prelude.{◌≡◌, IfOk, map};
 ghost use Rattle.std.specs.List.{list_any};
 ghost use Rattle.sva_race_claims.specs.Conditions.{condition_of};
 ghost use Rattle.sva_race_claims.specs.Seen.{condition_seen, line_seen};

@@ -154,7 +154,8 @@ class Claim:
         self.of_ends = words[0] == "ends"
         self.kind, *rest = words[self.of_ends:]
         # an `or` of `and`s
-        self.condition = [[Literal(part, at, self.of_ends) for part in split(each, "and")] for each in split(rest, "or")]
+        self.condition = [[Literal(part, at, self.of_ends) for part in split(each, "and")]
+                          for each in split(rest, "or")]
 
 
 class Device:
@@ -218,8 +219,7 @@ class Race:
         (self.lines if behind else self.before).append(line)
 
     def beside_others(self):
-        """The literals that stand beside others, with `and` between: each once, by its words, of ends and of all moments
-        apart."""
+        """The literals that stand beside others, with `and` between: each once, by its words, of ends apart."""
         found = {}
         for claim in self.claims:
             for literal in [each for every in claim.condition if len(every) > 1 for each in every]:

@@ -18,9 +18,9 @@ use Rattle.sva_race_words.specs.declared.faults.RaceWanted.{RaceWanted}
 use Rattle.sva_race_words.specs.declared.faults.RaceWrong.{RaceWrong}
 use Rattle.sva_race_words.specs.Faults.{lacking, no_more}
 use Rattle.sva_race_words.specs.Words.{word_at}
-use Rattle.sva_race_claims.specs.Conditions.{begins_claim, claiming_of, claims_at, condition_of}
+use Rattle.sva_race_claims.specs.Conditions.{begins_claim, claiming_of, claims_at, condition_of, is_of_ends}
 use Rattle.sva_race_claims.specs.Steps.{endpoint_in, named, step_judged}
-use Rattle.sva_race_lines.specs.Claims.{claim_by, with_claim}
+use Rattle.sva_race_lines.specs.Claims.{claim_by, with_claim, with_literals}
 use Rattle.sva_race_lines.specs.Devices.{device_of}
 use Rattle.sva_race_lines.specs.Readings.{Reading, nothing}
 use Rattle.sva_race_lines.specs.Texts.{before_race, behind, behind_race, behind_words, from_race, is_misspelt}
@@ -69,13 +69,14 @@ with_clean reading number name tried step thread clean own = (clean.0, clean_bot
 
 -- ---- A line behind `race`
 
-claim_clean : (config : Config) (known : Known) (reading : Reading) (words : List (List ℕ)) (at : ℕ)
+claim_clean : (config : Config) (known : Known) (reading : Reading) (line : ℕ) (words : List (List ℕ)) (at : ℕ)
     (claiming : Option Claiming) → AreClean reading
-    → CleanIf (claim_by config known reading words at claiming)
-claim_clean config known reading words at None clean = wrong at _
-claim_clean config known reading words at (Some claiming) clean =
+    → CleanIf (claim_by config known reading line words at claiming)
+claim_clean config known reading line words at None clean = wrong at _
+claim_clean config known reading line words at (Some claiming) clean =
     after (condition_of config known reading.lines (at + 1) (drop (at + 1) words)) _
-    (λ condition. right (with_claim reading words claiming condition) clean)
+    (λ condition. right (with_literals config known (with_claim reading words claiming condition) line (is_of_ends words)
+    (drop (at + 1) words)) clean)
 
 line_clean : (known : Known) (reading : Reading) (line : ℕ) (parts : Parts) → Clean parts.step → AreClean reading
     → CleanIf (thread_line known reading line parts)
@@ -124,7 +125,7 @@ race_clean : (config : Config) (known : Known) (reading : Reading) (line : ℕ) 
 race_clean config known reading line words parts all step clean =
     either (begins_claim (word_at 0 parts.step)) _ _
     (after (nameless parts.name) _ (λ done.
-    claim_clean config known reading words (claims_at words) (claiming_of (word_at (claims_at words) words)) clean))
+    claim_clean config known reading line words (claims_at words) (claiming_of (word_at (claims_at words) words)) clean))
     (either (nat_lt 0 (length reading.claims)) _ _ (wrong (step_begins parts) _)
     (either (is_of_thread parts.step) _ _ (line_clean known reading line parts step clean)
     (either (is_misspelt parts) _ _ (wrong (step_begins parts) _)

@@ -90,7 +90,7 @@ fn take_line(
     let parts = parts_of(words);
     if begins_claim(word_at(parts.step, 0)) {
         judge_nameless(words).map_err(RaceStop::Wrong)?;
-        return take_claim(alloc, config, names, reading, words);
+        return take_claim(alloc, config, names, reading, line, words);
     }
     if reading.has_claims() {
         return Err(stop_at(parts.step_at, RaceWanted::Claim));

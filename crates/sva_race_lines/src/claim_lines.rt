@@ -1,12 +1,13 @@
 //! The lines of claims.
 
-ghost use Rattle.std.specs.Prelude.{◌≡◌, ◌≤◌, map};
-ghost use Rattle.sva_race_claims.specs.Conditions.{claims_at};
-ghost use Rattle.sva_race_lines.specs.Claims.{claim_line, claimed};
+ghost use Rattle.std.specs.Prelude.{◌≡◌, ◌≤◌, IfOk, map};
+ghost use Rattle.sva_race_claims.specs.Conditions.{claims_at, is_of_ends};
+ghost use Rattle.sva_race_claims.specs.Seen.{condition_seen};
+ghost use Rattle.sva_race_lines.specs.Claims.{claim_line, claimed, with_claim, with_literals};
 ghost use Rattle.sva_race_lines.specs.Taking.{Takes};
 
 use crate::readings::Reading;
-use std::alloc::Global;
+use std::alloc::{Global, AllocError};
 use sva_race_terms::{Claim, Claiming};
 use sva_race_claims::{claiming_of, is_of_ends};
 use sva_race_words::{RaceStop, RaceWanted, stop_at, word_at, words_from};
@@ -27,16 +28,37 @@ pub(crate) fn take_claim(
     config: Config,
     names: &Names,
     reading: &mut Reading,
+    line: u64,
     words: &[&[u8]],
 ) -> Result<(), RaceStop>
-    ensures { Takes (claim_line config names.now reading.old (map (λ word. word.now) words.now))
+    ensures { Takes (claim_line config names.now reading.old line (map (λ word. word.now) words.now))
         reading.old reading.new result }
 {
     let at = claims_at(words);
     match claiming_of(word_at(words, at)) {
-        Some(claiming) => take_claiming(alloc, config, names, reading, words, at, claiming),
+        Some(claiming) => take_claiming(alloc, config, names, reading, line, words, at, claiming),
         None => Err(stop_at(at, RaceWanted::Claiming)),
     }
+}
+
+/// Adds a claim with these words, of which the last are those of its condition.
+fn add_with_literals(
+    alloc: Global,
+    config: Config,
+    names: &Names,
+    reading: &mut Reading,
+    line: u64,
+    words: &[&[u8]],
+    rest: &[&[u8]],
+    claim: Claim,
+) -> Result<(), AllocError>
+    ensures { IfOk result (λ _. reading.new ≡ with_literals config names.now
+        (with_claim reading.old (map (λ word. word.now) words.now) claim.claiming (condition_seen claim.condition))
+        line (is_of_ends (map (λ word. word.now) words.now)) (map (λ word. word.now) rest.now)) }
+{
+    reading.add_claim(alloc, words, claim)?;
+    reading.add_literals(alloc, config, names, line, is_of_ends(words), rest)?;
+    Ok(())
 }
 
 /// Takes a claim of which it is known what is claimed, by the word at `at`.
@@ -45,12 +67,13 @@ fn take_claiming(
     config: Config,
     names: &Names,
     reading: &mut Reading,
+    line: u64,
     words: &[&[u8]],
     at: usize,
     claiming: Claiming,
 ) -> Result<(), RaceStop>
     requires { at ≤ 1 }
-    ensures { Takes (claimed config names.now reading.old (map (λ word. word.now) words.now) at claiming)
+    ensures { Takes (claimed config names.now reading.old line (map (λ word. word.now) words.now) at claiming)
         reading.old reading.new result }
 {
     let rest = words_from(words, at + 1);
@@ -60,7 +83,7 @@ fn take_claiming(
                 claiming,
                 condition,
             };
-            match reading.add_claim(alloc, words, claim) {
+            match add_with_literals(alloc, config, names, reading, line, words, rest, claim) {
                 Ok(()) => Ok(()),
                 Err(_) => Err(RaceStop::Memory),
             }

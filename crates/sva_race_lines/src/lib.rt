@@ -7,10 +7,11 @@ mod claim_lines;
 mod counts;
 mod devices;
 mod kept;
+mod literals;
 mod pages;
 mod readings;
 mod texts;
 mod threads;
 
-pub use kept::{Asked, Text};
+pub use kept::{Asked, AskedLiteral, Text};
 pub use texts::read_race;

@@ -6,7 +6,7 @@ ghost use Rattle.sva_script_reading.specs.Reading.{ReadsLine};
 ghost use Rattle.sva_race_claims.specs.Conditions.{condition_of};
 ghost use Rattle.sva_race_claims.specs.Seen.{condition_seen, line_seen};
 ghost use Rattle.sva_race_claims.specs.Taking.{Gives};
-ghost use Rattle.sva_race_lines.specs.Claims.{with_claim};
+ghost use Rattle.sva_race_lines.specs.Claims.{with_claim, with_literals};
 ghost use Rattle.sva_race_lines.specs.Devices.{device_seen, line_if};
 ghost use Rattle.sva_race_lines.specs.Readings.{asked_seen, claim_seen, last_of, nothing};
 ghost use Rattle.sva_race_lines.specs.Readings.{with_fault};
@@ -14,6 +14,7 @@ ghost use Rattle.sva_race_lines.specs.Threads.{line_said, thread_of, with_line};
 
 use crate::devices::DeviceLine;
 use crate::kept::Asked;
+use crate::literals::{Literals, add_condition};
 use std::alloc::{AllocError, Global};
 use std::marker::Model;
 use sva_race_terms::{Claim, Line, Literal, Verdicts};
@@ -41,6 +42,8 @@ pub struct Reading {
     pub(crate) claims: Vec<Claim>,
     /// Of each claim, its words.
     pub(crate) asked: Vec<Asked>,
+    /// What is asked of literals.
+    pub(crate) literals: Literals,
     /// What is wrong with the lines.
     pub(crate) said: Vec<u8>,
 }
@@ -61,6 +64,7 @@ impl Model for Reading {
       devices = map line_if reading.devices.items;
       claims = map readings.claim_seen reading.claims.items;
       asked = map readings.asked_seen reading.asked.items;
+      literals = readings.literals_seen reading.literals;
       said = reading.said.items;
     } };
 }
@@ -155,6 +159,10 @@ impl Reading {
             devices: no_devices(alloc, config.endpoints as usize)?,
             claims: Vec::new(alloc),
             asked: Vec::new(alloc),
+            literals: Literals {
+                claims: Vec::new(alloc),
+                asked: Vec::new(alloc),
+            },
             said: Vec::new(alloc),
         })
     }
@@ -303,6 +311,31 @@ impl Reading {
             is_of_ends: is_of_ends(words),
         };
         self.push_claim(claim, asked)
+    }
+
+    /// Asks of the literals of a condition that stand beside others, of a claim with this line.
+    pub(crate) fn add_literals(
+        &mut self,
+        alloc: Global,
+        config: Config,
+        names: &Names,
+        line: u64,
+        is_of_ends: bool,
+        words: &[&[u8]],
+    ) -> Result<(), AllocError>
+        ensures { IfOk result (λ _. self.new
+            ≡ with_literals config names.now self.old line is_of_ends (map (λ word. word.now) words.now)) }
+    {
+        add_condition(
+            alloc,
+            config,
+            names,
+            self.lines.as_slice(),
+            line,
+            is_of_ends,
+            words,
+            &mut self.literals,
+        )
     }
 
     /// Tells that a line is wrong.

@@ -1,6 +1,6 @@
 //! A text as a race.
 
-ghost use Rattle.std.specs.Prelude.{◌≡◌, ◌+◌, [], IfOk};
+ghost use Rattle.std.specs.Prelude.{◌≡◌, ◌+◌, ◌++◌, [], IfOk};
 ghost use Rattle.sva_race_lines.specs.Texts.{ReadsRace, race_of, race_with, right_or_said, verdicts_or};
 ghost use Rattle.sva_script_reading.specs.Begins.{lines_from};
 
@@ -12,6 +12,7 @@ use crate::pages::{devices_of, named_pages, silent_of};
 use crate::readings::Reading;
 use std::alloc::{AllocError, Global};
 use sva_race_terms::{Race, Verdicts};
+use sva_race::Claim;
 use sva_race_words::put_limits;
 use sva_script::Names;
 use sva_script_reading::{Desk, Lines, is_too_large, take_config};
@@ -32,6 +33,16 @@ fn verdicts_or(verdicts: Option<Verdicts>) -> Verdicts
             failure: false,
         },
     }
+}
+
+/// Claims, and behind them others.
+fn with_others(claims: Vec<Claim>, others: Vec<Claim>) -> Result<Vec<Claim>, AllocError>
+    ensures { IfOk result (λ all. all.items ≡ claims.items ++ others.items) }
+{
+    let mut all = claims;
+    let mut more = others;
+    all.append(&mut more)?;
+    Ok(all)
 }
 
 /// What was read as a race, with so many lines before it; or `None`, where something is said of its lines.
@@ -58,6 +69,7 @@ fn text_of(
         devices: device_lines,
         claims,
         asked,
+        literals,
         said: _,
     } = reading;
     let named = named_pages(alloc, lines.as_slice())?;
@@ -73,7 +85,7 @@ fn text_of(
         before,
         verdicts: verdicts_or(verdicts),
         silent,
-        claims,
+        claims: with_others(claims, literals.claims)?,
         counts,
         devices,
     };
@@ -81,6 +93,7 @@ fn text_of(
         race,
         threads,
         asked,
+        literals: literals.asked,
     }))
 }
 

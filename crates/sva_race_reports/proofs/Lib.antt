@@ -5,4 +5,5 @@ pub mod Moved
 pub mod Ended
 pub mod OwnSteps
 pub mod Fronts
+pub mod NeverTrue
 pub mod Tallies

@@ -10,7 +10,7 @@ use crate::searching::Wanted;
 use std::alloc::{AllocError, Global};
 use sva_race::{Choice, Claim, End, Race};
 use sva_race_ends::put_counted;
-use sva_race_lines::Asked;
+use sva_race_lines::{Asked, AskedLiteral};
 use sva_reports::Explains;
 use sva_search::Found;
 
@@ -127,14 +127,15 @@ pub(crate) fn put_report<E: Explains>(
     threads: &[Vec<u8>],
     wanted: Wanted,
     asked: &[Asked],
+    literals: &[AskedLiteral],
     found: &Found<Choice, End>,
 ) -> Result<(), AllocError>
     ensures { OnOk result (out.new.items
-        ≡ out.old.items ++ briefs.report_text E.explained race.now threads.now wanted asked.now found.now) }
+        ≡ out.old.items ++ briefs.report_text E.explained race.now threads.now wanted asked.now literals.now found.now) }
 {
     if wanted.is_brief {
         put_brief(alloc, out, race, asked, found)
     } else {
-        put_whole::<E>(alloc, out, race, threads, wanted, asked, found)
+        put_whole::<E>(alloc, out, race, threads, wanted, asked, literals, found)
     }
 }

@@ -13,12 +13,13 @@ ghost use Rattle.sva_race_reports.specs.Reports.{witness_with, witnesses_from};
 use crate::ends::put_ends;
 use crate::held::put_held_in;
 use crate::judging::{Judged, both, judge, witness_of, word_of};
+use crate::literals::put_literals;
 use crate::searching::Wanted;
 use crate::witnesses::put_witness;
 use std::alloc::{AllocError, Global};
 use sva_race::{Choice, Claim, Claiming, End, Race};
 use sva_race_ends::{put_counted, put_end_texts};
-use sva_race_lines::Asked;
+use sva_race_lines::{Asked, AskedLiteral};
 use sva_reports::Explains;
 use sva_script_reading::put_number;
 use sva_search::Found;
@@ -251,8 +252,9 @@ fn put_witnesses<E: Explains>(
     Ok(())
 }
 
-/// Appends the report of a race: how far the search came, what the ends come to, what that says of each claim, and the
-/// witnesses, each with what holds its own steps back, and the lines that wait where it ends, if that is wanted.
+/// Appends the report of a race: how far the search came, what the ends come to, what that says of each claim, which
+/// literals were never true, and the witnesses, each with what holds its own steps back, and the lines that wait where it
+/// ends, if that is wanted.
 pub(crate) fn put_whole<E: Explains>(
     alloc: Global,
     out: &mut Vec<u8>,
@@ -260,16 +262,18 @@ pub(crate) fn put_whole<E: Explains>(
     threads: &[Vec<u8>],
     wanted: Wanted,
     asked: &[Asked],
+    literals: &[AskedLiteral],
     found: &Found<Choice, End>,
 ) -> Result<(), AllocError>
     ensures { OnOk result (out.new.items
-        ≡ out.old.items ++ whole_text E.explained race.now threads.now wanted asked.now found.now) }
+        ≡ out.old.items ++ whole_text E.explained race.now threads.now wanted asked.now literals.now found.now) }
 {
     let ends = found.ends.as_slice();
     put_reach(out, found, found.cut)?;
     out.extend_from_slice(b"\n")?;
     put_end_texts(alloc, out, race, threads, wanted.few_ends, ends)?;
     put_claims(out, race.claims.as_slice(), asked, found)?;
+    put_literals(out, literals, asked.len(), found)?;
     put_witnesses::<E>(alloc, out, race, threads, wanted.whys, asked, found)
 }
 

@@ -7,6 +7,7 @@ mod ends;
 mod exploring;
 mod held;
 mod judging;
+mod literals;
 mod searching;
 mod steps;
 mod witnesses;

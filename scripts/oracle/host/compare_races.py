@@ -19,11 +19,13 @@ class Said:
         self.is_whole = bool(found)
         self.moments, self.ends = (int(found[1]), int(found[2])) if found else (None, None)
         heads = [at for at, line in enumerate(lines) if line.startswith("witness ")] + [len(lines)]
-        self.texts, self.claims, self.witnesses = [], [], {}
+        self.texts, self.claims, self.never_true, self.witnesses = [], [], [], {}
         for line in lines[1:heads[0]]:
             end = re.fullmatch(r"end \d+: (.*) \((\d+) moments?\)", line)
             if end:
                 self.texts.append((end[1], int(end[2])))
+            elif re.match("(ends )?never true: ", line):
+                self.never_true.append(line)
             else:
                 claim = re.fullmatch(r"(.*): (holds|fails|unknown)(?:, witness (\d+))?", line)
                 self.claims.append((claim[1], claim[2], claim[3] and int(claim[3])))
@@ -45,6 +47,7 @@ def rebuilt(said):
     for claim, verdict, witness in said.claims:
         number += bool(witness)
         lines.append("%s: %s%s" % (claim, verdict, ", witness %d" % number if witness else ""))
+    lines += said.never_true
     for number in range(1, number + 1):
         steps, scenario = said.witnesses[number]
         lines += ["witness %d: %s" % (number, plural(steps, "step"))] + scenario
@@ -111,6 +114,8 @@ def differences(program, output, status, search):
         if depths != sorted(depths):
             found.append("order of ends: %s" % depths)
     found += differences_of_claims(program, said, search)
+    if said.never_true != races.never_true(search):
+        found.append("never true: program %s, model %s" % (said.never_true, races.never_true(search)))
     fails = any(verdict == "fails" for _, verdict, _ in said.claims)
     if status != (4 if fails else 0):
         found.append("status %d" % status)
@@ -130,6 +135,8 @@ def differences_where_cut(output, status, most, search):
             verdict == "unknown" and (depth is None or depth >= deep))
         if not is_right:
             found.append("cut off at %d: %s: %s %s, whole %s" % (most, text, verdict, steps, depth))
+    if said.never_true:
+        found.append("cut off at %d: %s" % (most, said.never_true[0]))
     verdict = 4 if any(each[1] == "fails" for each in said.claims) else 5
     if status != (verdict if any(each[1] == "unknown" for each in said.claims) or verdict == 4 else 0):
         found.append("status %d" % status)

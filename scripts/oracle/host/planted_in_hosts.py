@@ -184,6 +184,10 @@ def as_of_ends(old):
     return is_witness
 
 
+def last_untold(old):
+    return lambda search: old(search)[:-1]
+
+
 OF_RACES = [
     Reading("workers need do nothing", Moment, "moves_of_workers", ends_too_early),
     Reading("a silent endpoint has to act", Moment, "is_silent", lambda old: lambda *_: False),
@@ -192,6 +196,9 @@ OF_RACES = [
     Reading("`always` is `sometimes`", races, "is_witness",
             lambda old: lambda moment, claim: moment.holds(claim.condition)),
     Reading("each claim is of ends", races, "is_witness", as_of_ends),
+    Reading("a literal is its atom", races, "is_true",
+            lambda old: lambda moment, literal: moment.is_true(literal.atom)),
+    Reading("the last literal that is never true isn't told", races, "never_true", last_untold),
     Reading("nothing is usable", Moment, "is_usable", lambda old: lambda *_: False),
     Reading("a device may do nothing by itself", Moment, "leave", lambda old: lambda *_: ()),
     Reading("an endpoint must do nothing", Moment, "duties", lambda old: lambda *_: ()),

@@ -139,18 +139,23 @@ def split(words, at):
     return parts
 
 
-def read_condition(words):
-    """[[(is negated, atom)]]: an `or` of `and`s."""
-    return [[(part[0] == "not", read_atom(part[part[0] == "not":])) for part in split(each, "and")]
-            for each in split(words, "or")]
+class Literal:
+    """An atom, or that it isn't so, in a claim."""
+
+    def __init__(self, words, at, of_ends):
+        self.text, self.at, self.of_ends = " ".join(words), at, of_ends
+        self.is_not = words[0] == "not"
+        self.atom = read_atom(words[self.is_not:])
 
 
 class Claim:
-    def __init__(self, words):
+    def __init__(self, at, words):
         self.text = " ".join(words)
         self.of_ends = words[0] == "ends"
         self.kind, *rest = words[self.of_ends:]
-        self.condition = read_condition(rest)
+        # an `or` of `and`s
+        self.condition = [[Literal(part, at, self.of_ends) for part in split(each, "and")]
+                          for each in split(rest, "or")]
 
 
 class Device:
@@ -184,20 +189,21 @@ class Race:
                 behind = True
             elif words[0] == "thread":
                 heading = " ".join(words[1:])
-            elif not self.read_other(words):
+            elif not self.read_other(at, words):
                 self.read_line(at, words, behind, heading)
         self.pages = self.named_pages()
-        atoms = [atom for claim in self.claims for every in claim.condition for _, atom in every]
+        atoms = [literal.atom for claim in self.claims for every in claim.condition for literal in every]
+        self.literals = self.beside_others()
         self.counted = [(atom[1], atom[2]) for atom in atoms if atom[0] == "times"]
         self.asks_numbers = any(atom[0] == "step" and atom[1][0] == "deliver" for atom in atoms)
 
-    def read_other(self, words):
+    def read_other(self, at, words):
         if words[0] == "workers":
             self.workers = words[1:]
         elif words[0] == "device":
             self.devices[int(words[1])] = Device(words[1:])
         elif words[0] in ("ends", "never", "always", "sometimes"):
-            self.claims.append(Claim(words))
+            self.claims.append(Claim(at, words))
         return words[0] in ("workers", "device", "ends", "never", "always", "sometimes")
 
     def read_line(self, at, words, behind, heading):
@@ -211,6 +217,14 @@ class Race:
         line = Line(at, name, is_try, words, expected)
         line.thread = heading or line.thread
         (self.lines if behind else self.before).append(line)
+
+    def beside_others(self):
+        """The literals that stand beside others, with `and` between: each once, by its words, of ends apart."""
+        found = {}
+        for claim in self.claims:
+            for literal in [each for every in claim.condition if len(every) > 1 for each in every]:
+                found.setdefault((literal.text, literal.of_ends), literal)
+        return found
 
     def named_pages(self):
         """The pages that the race's lines name, each once."""

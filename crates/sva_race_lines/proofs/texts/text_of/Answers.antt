@@ -1,7 +1,8 @@
 use Rattle.std.proofs.Common.{◌≡◌, ◌∙◌, ◌++◌, ap, flat_map, map, refl, rules, sym}
+use Rattle.std.proofs.lemmas.List.{map-append}
 use Rattle.sva_race_claims.specs.Seen.{line_seen}
 use Rattle.sva_race_lines.specs.Devices.{count_seen, has_of, has_seen, line_if, may_be_silent, named_pages}
-use Rattle.sva_race_lines.specs.Readings.{Reading, counts_of}
+use Rattle.sva_race_lines.specs.Readings.{Reading, claim_seen, counts_of}
 use Rattle.sva_race_lines.specs.Texts.{verdicts_or}
 use Rattle.sva_race_lines.proofs.CountLemmas.{claims_counted, of_claim}
 use Rattle.sva_race_lines.proofs.DeviceLemmas.{devices_by, map_twice}
@@ -35,7 +36,9 @@ returns c =
         before = refl;
         verdicts = c.verdicts_or.ensures ∙ ap (λ (reading : Reading). verdicts_or reading.verdicts) is;
         silent = silent ∙ sym (map_twice may_be_silent line_if lines) ∙ ap (λ (reading : Reading). map may_be_silent reading.devices) is;
-        claims = ap (λ (reading : Reading). reading.claims) is;
+        claims = ap (map claim_seen) c.in_ok-with_others.ensures
+            ∙ map-append claim_seen c.reading.inside.claims.items c.reading.inside.literals.claims.items
+            ∙ ap (λ (reading : Reading). reading.claims ++ reading.literals.claims) is;
         counts = counts ∙ claims_counted c.reading.inside.claims.items ∙ ap (λ (reading : Reading). counts_of reading.claims) is;
         devices = devices ∙ ap (λ pages. map (λ line. has_of pages (line_if line)) lines) named
             ∙ sym (map_twice (has_of (named_pages (map line_seen c.reading.inside.lines.items))) line_if lines)
@@ -43,5 +46,6 @@ returns c =
       };
       threads = ap (λ (reading : Reading). reading.threads) is;
       asked = ap (λ (reading : Reading). reading.asked) is;
+      literals = ap (λ (reading : Reading). reading.literals.asked) is;
     })
     c.requires

@@ -6,7 +6,7 @@ use Rattle.std.specs.Str.{bytes_eq}
 use Rattle.sva_step.specs.declared.limits.Config.{Config}
 use Rattle.sva_script.specs.Names.{Known}
 use Rattle.sva_script_reading.specs.Begins.{joined_words}
-use Rattle.sva_race_parts.specs.declared.claims.Claiming.TheVariants.{Sometimes}
+use Rattle.sva_race_terms.specs.declared.claims.Claiming.TheVariants.{Sometimes}
 use Rattle.sva_race_words.specs.declared.faults.RaceWrong.{RaceWrong}
 use Rattle.sva_race_words.specs.Words.{pieces}
 use Rattle.sva_race_claims.specs.Conditions.{condition_of}

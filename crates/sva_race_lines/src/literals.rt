@@ -10,7 +10,7 @@ ghost use Rattle.sva_race_lines.specs.Readings.{asked_literal_seen, claim_seen, 
 
 use crate::kept::AskedLiteral;
 use std::alloc::{AllocError, Global};
-use sva_race::{Claim, Claiming, Line, Literal};
+use sva_race_terms::{Claim, Claiming, Line, Literal};
 use sva_race_claims::read_condition;
 use sva_race_words::{RaceStop, joined, piece_len, words_at, words_from};
 use sva_script::Names;

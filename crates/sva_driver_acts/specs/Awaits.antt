@@ -9,7 +9,7 @@ use Rattle.sva_open.specs.declared.acts.LocalAct.TheVariants as local
 use Rattle.sva_open.specs.declared.descriptors.Descriptor.{Descriptor}
 use Rattle.sva_open.specs.declared.descriptors.Descriptor.TheVariants as descriptor
 use Rattle.sva_race_words.specs.Words.{word_at}
-use Rattle.sva_driver_words.specs.Faults.{lacking, no_more}
+use Rattle.sva_driver_words.specs.Faults.{wrong_at, no_more}
 use Rattle.sva_driver_words.specs.Fields.{endpoint_at, has_word, pasid_at, says}
 use Rattle.sva_driver_acts.specs.Sayings.{SayingSaid, did, saying_seen}
 use Rattle.sva_driver_acts.specs.Sayings.SayingSaid.{SubmitsSaid, AwaitsLineSaid, AwaitsWaitsSaid}
@@ -66,7 +66,7 @@ last_wait thread endpoint lines = last_from (submits_there thread endpoint) 0 No
 
 -- `await wait E`: the last wait that a line above in this thread submitted there
 abbrev pub awaits_last : (endpoint : ℕ) → Option ℕ → Result SayingSaid DriverWrong
-awaits_last endpoint None = lacking 2 wanted.WaitAbove
+awaits_last endpoint None = wrong_at 2 wanted.WaitAbove
 awaits_last endpoint (Some place) = Ok (AwaitsWaitsSaid endpoint place)
 
 abbrev pub await_wait : Config → (thread : List ℕ) → List LineSaid → List (List ℕ) → Result SayingSaid DriverWrong
@@ -85,11 +85,11 @@ awaits_by place None = AwaitsLineSaid place
 awaits_by place (Some endpoint) = AwaitsWaitsSaid endpoint place
 
 abbrev pub awaits_line : (place : ℕ) → Option LineSaid → Result SayingSaid DriverWrong
-awaits_line place None = lacking 1 wanted.Awaited
+awaits_line place None = wrong_at 1 wanted.Awaited
 awaits_line place (Some line) = Ok (awaits_by place (wait_at line.saying))
 
 abbrev pub awaits_at : List LineSaid → Option ℕ → Result SayingSaid DriverWrong
-awaits_at lines None = lacking 1 wanted.Awaited
+awaits_at lines None = wrong_at 1 wanted.Awaited
 awaits_at lines (Some place) = awaits_line place (slice_get lines place)
 
 abbrev pub awaits_name : List LineSaid → List (List ℕ) → Result SayingSaid DriverWrong
@@ -99,7 +99,7 @@ awaits_name lines words = do
   Ok said
 
 abbrev pub await_named : List LineSaid → List (List ℕ) → Result SayingSaid DriverWrong
-await_named lines words = if has_word 1 words then awaits_name lines words else lacking 1 wanted.Awaited
+await_named lines words = if has_word 1 words then awaits_name lines words else wrong_at 1 wanted.Awaited
 
 -- ---- `await stopped E P`, `await queue E [P]`, `await groups E P`, `await reset E`
 

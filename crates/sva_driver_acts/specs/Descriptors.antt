@@ -9,7 +9,7 @@ use Rattle.sva_open.specs.declared.scopes.Scope.TheVariants as scope
 use Rattle.sva_open.specs.declared.descriptors.Descriptor.{Descriptor}
 use Rattle.sva_open.specs.declared.descriptors.Descriptor.TheVariants as descriptor
 use Rattle.sva_race_words.specs.Words.{pieces}
-use Rattle.sva_driver_words.specs.Faults.{lacking, placed}
+use Rattle.sva_driver_words.specs.Faults.{wrong_at, placed}
 use Rattle.sva_driver_words.specs.Fields.{endpoint_at, has_word, order_at, page_by, pasid_at, says}
 use Rattle.sva_driver_acts.specs.Sayings.{SayingSaid}
 use Rattle.sva_driver_acts.specs.Sayings.SayingSaid.{SubmitsSaid}
@@ -26,7 +26,7 @@ aligned pasid page order = scope.Pages pasid (page - page % (2 ^ order)) (2 ^ or
 
 -- a descriptor has no word behind so many: `+` stands before the next one
 abbrev pub ends_at : (count : ℕ) → List (List ℕ) → Result (Unit {0}) DriverWrong
-ends_at count words = if nat_lt count (length words) then lacking count (wanted.Submit submit.PlusOrEnd) else Ok tt
+ends_at count words = if nat_lt count (length words) then wrong_at count (wanted.Submit submit.PlusOrEnd) else Ok tt
 
 -- `P PAGE K` behind the first word, and what is wanted at PAGE
 abbrev pub range_of : DriverWanted → List (List ℕ) → Result Scope DriverWrong
@@ -67,7 +67,7 @@ wait_wanted drain fence =
 abbrev pub wait_with : (name : ℕ) → (drain fence : Bool) → (count : ℕ) → List (List ℕ) → Result Descriptor DriverWrong
 wait_with name drain fence count words =
     if nat_lt count (length words)
-    then lacking count (wanted.Submit (wait_wanted drain fence))
+    then wrong_at count (wanted.Submit (wait_wanted drain fence))
     else Ok (descriptor.Wait name drain fence)
 
 -- `wait`, `wait drain`, `wait drain fence`
@@ -94,13 +94,13 @@ descriptor_of name words =
     if says 0 (codes "iotlb") words then (scope_of words >>= λ covered. Ok (descriptor.Translations covered)) else
     if says 0 (codes "entry") words then (pasid_of words >>= λ pasid. Ok (descriptor.Entry pasid)) else
     if says 0 (codes "wait") words then wait_of name words else
-    lacking 0 wanted.Descriptor
+    wrong_at 0 wanted.Descriptor
 
 -- The same, of words that begin at a place of their line, behind so many descriptors. The queue has 64 places, and all
 -- of a line go in at once: behind 64 of them no `+` may stand.
 abbrev pub descriptor_at : (name count at : ℕ) → List (List ℕ) → Result Descriptor DriverWrong
 descriptor_at name count at words =
-    if nat_le 64 count then lacking (at - 1) (wanted.Submit submit.Few) else placed at (descriptor_of name words)
+    if nat_le 64 count then wrong_at (at - 1) (wanted.Submit submit.Few) else placed at (descriptor_of name words)
 
 -- a descriptor is seen as it is, and a list of them by what it has
 abbrev pub itself : Descriptor → Descriptor

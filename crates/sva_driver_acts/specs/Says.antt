@@ -7,7 +7,7 @@ use Rattle.sva_step.specs.declared.limits.Config.{Config}
 use Rattle.sva_grammar.specs.Grammar.{◌>>=◌}
 use Rattle.sva_script.specs.Names.{is_name}
 use Rattle.sva_race_words.specs.Words.{word_at}
-use Rattle.sva_driver_words.specs.Faults.{act_words, lacking, no_more}
+use Rattle.sva_driver_words.specs.Faults.{act_words, wrong_at, no_more}
 use Rattle.sva_driver_words.specs.declared.faults.DriverWanted.TheVariants as wanted
 use Rattle.sva_driver_words.specs.declared.faults.DriverWrong.{DriverWrong}
 use Rattle.sva_driver_acts.specs.Awaits.{LineSaid, await_line}
@@ -31,7 +31,7 @@ abbrev pub lock_line : List (List ℕ) → List (List ℕ) → Result SayingSaid
 lock_line locks words =
     if is_name (word_at 1 words)
     then (no_more 2 words >>= λ done. Ok (lock_said (word_at 0 words) (lock_at locks (word_at 1 words))))
-    else lacking 1 wanted.Lock
+    else wrong_at 1 wanted.Lock
 
 -- the locks, with the one that a line names
 abbrev pub with_lock : List (List ℕ) → List (List ℕ) → List (List ℕ)

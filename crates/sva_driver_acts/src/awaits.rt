@@ -9,7 +9,7 @@ ghost use Rattle.sva_open.specs.declared.acts.Act.TheVariants as variants;
 
 use crate::kept::LineRead;
 use sva_driver_words::{
-    DriverWanted, DriverWrong, endpoint_at, has_word, judge_end, lacking, pasid_at, says,
+    DriverWanted, DriverWrong, endpoint_at, has_word, judge_end, wrong_at, pasid_at, says,
 };
 use sva_driver_terms::Saying;
 use sva_open::{Act, Descriptor, LocalAct};
@@ -133,7 +133,7 @@ fn await_wait(
     let endpoint = endpoint_at(config, words, 2)?;
     judge_end(words, 3)?;
     match last_wait(thread, endpoint, lines) {
-        None => Err(lacking(2, DriverWanted::WaitAbove)),
+        None => Err(wrong_at(2, DriverWanted::WaitAbove)),
         Some(line) => Ok(Saying::AwaitsWaits { endpoint, line }),
     }
 }
@@ -172,13 +172,13 @@ fn await_named(lines: &[LineRead], words: &[&[u8]]) -> Result<Saying, DriverWron
     ensures { read_seen result ≡ awaits.await_named (map line_seen lines.now) (map (λ word. word.now) words.now) }
 {
     if !has_word(words, 1) {
-        return Err(lacking(1, DriverWanted::Awaited));
+        return Err(wrong_at(1, DriverWanted::Awaited));
     }
     let Some(place) = place_of(word_at(words, 1), lines) else {
-        return Err(lacking(1, DriverWanted::Awaited));
+        return Err(wrong_at(1, DriverWanted::Awaited));
     };
     let Some(line) = lines.get(place) else {
-        return Err(lacking(1, DriverWanted::Awaited));
+        return Err(wrong_at(1, DriverWanted::Awaited));
     };
     judge_end(words, 2)?;
     Ok(awaits_by(place, wait_at(&line.saying)))

@@ -8,7 +8,7 @@ ghost use Rattle.sva_driver_acts.specs.Taking.{Adds, Gives};
 
 use std::alloc::{AllocError, Global};
 use sva_driver_words::{
-    DriverStop, DriverWanted, DriverWrong, SubmitWanted, endpoint_at, has_word, lacking, order_at,
+    DriverStop, DriverWanted, DriverWrong, SubmitWanted, endpoint_at, has_word, wrong_at, order_at,
     page_by, pasid_at, says,
 };
 use sva_driver_terms::Saying;
@@ -37,7 +37,7 @@ fn ends_at(words: &[&[u8]], count: usize) -> Result<(), DriverWrong>
     ensures { result ≡ descriptors.ends_at count (map (λ word. word.now) words.now) }
 {
     if count < count_of(words) {
-        return Err(lacking(count, DriverWanted::Submit(SubmitWanted::PlusOrEnd)));
+        return Err(wrong_at(count, DriverWanted::Submit(SubmitWanted::PlusOrEnd)));
     }
     Ok(())
 }
@@ -109,7 +109,7 @@ fn wait_with(
     ensures { result ≡ descriptors.wait_with name drain fence count (map (λ word. word.now) words.now) }
 {
     if count < count_of(words) {
-        return Err(lacking(count, DriverWanted::Submit(wait_wanted(drain, fence))));
+        return Err(wrong_at(count, DriverWanted::Submit(wait_wanted(drain, fence))));
     }
     Ok(Descriptor::Wait { name, drain, fence })
 }
@@ -167,7 +167,7 @@ fn descriptor_of(name: usize, words: &[&[u8]]) -> Result<Descriptor, DriverWrong
     if says(words, 0, b"wait") {
         return wait_of(name, words);
     }
-    Err(lacking(0, DriverWanted::Descriptor))
+    Err(wrong_at(0, DriverWanted::Descriptor))
 }
 
 /// What is wrong with words that begin at a place of their line. No line is so long that the place of a word doesn't
@@ -176,7 +176,7 @@ fn place_stop(start: usize, found: DriverWrong) -> Result<Descriptor, DriverStop
     ensures { Gives descriptors.itself (placed start (Err found)) result }
 {
     match start.checked_add(found.at) {
-        Some(at) => Err(DriverStop::Wrong(lacking(at, found.wanted))),
+        Some(at) => Err(DriverStop::Wrong(wrong_at(at, found.wanted))),
         None => Err(DriverStop::Memory),
     }
 }
@@ -192,7 +192,7 @@ fn read_descriptor(
         result }
 {
     if MOST_DESCRIPTORS <= count {
-        return Err(DriverStop::Wrong(lacking(
+        return Err(DriverStop::Wrong(wrong_at(
             at.saturating_sub(1),
             DriverWanted::Submit(SubmitWanted::Few),
         )));

@@ -16,7 +16,7 @@ use crate::descriptors::submit_line;
 use crate::kept::LineRead;
 use crate::others::{deliver_line, end_line, fault_line, finish_line, forget_line};
 use std::alloc::Global;
-use sva_driver_words::{DriverStop, DriverWanted, DriverWrong, judge_end, lacking};
+use sva_driver_words::{DriverStop, DriverWanted, DriverWrong, judge_end, wrong_at};
 use sva_driver_terms::Saying;
 use sva_race_words::word_at;
 use sva_script::is_name;
@@ -54,7 +54,7 @@ fn lock_line(locks: &[Vec<u8>], words: &[&[u8]]) -> Result<Saying, DriverWrong>
         (map (λ word. word.now) words.now) }
 {
     if !is_name(word_at(words, 1)) {
-        return Err(lacking(1, DriverWanted::Lock));
+        return Err(wrong_at(1, DriverWanted::Lock));
     }
     judge_end(words, 2)?;
     Ok(lock_said(word_at(words, 0), lock_at(locks, word_at(words, 1))))

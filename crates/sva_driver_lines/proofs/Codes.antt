@@ -5,7 +5,7 @@ use Rattle.std.proofs.lemmas.List.{drop_all, drop_more}
 use Rattle.sva_grammar.specs.Grammar.{◌>>=◌}
 use Rattle.sva_driver_terms.specs.declared.drivers.Workers.{Workers}
 use Rattle.sva_driver_lines.specs.Devices.{codes_from, with_code, workers_of}
-use Rattle.sva_driver_words.specs.Faults.{lacking}
+use Rattle.sva_driver_words.specs.Faults.{wrong_at}
 use Rattle.sva_driver_words.specs.Fields.{has_word}
 use Rattle.sva_driver_words.specs.declared.faults.DriverWanted.TheVariants as wanted
 use Rattle.sva_driver_words.specs.declared.faults.DriverWrong.{DriverWrong}
@@ -33,4 +33,4 @@ codes_end words at workers past = ap (λ rest. codes_from at workers rest words)
 pub codes_some : (words : List (List ℕ)) → has_word 1 words ≡ true
     → workers_of words ≡ codes_from 1 (record { are_there = true; answer = false; fail = false }) (drop 1 words) words
 codes_some words some =
-    ap (λ b. cond b (codes_from 1 (record { are_there = true; answer = false; fail = false }) (drop 1 words) words) (lacking 1 wanted.Code)) some
+    ap (λ b. cond b (codes_from 1 (record { are_there = true; answer = false; fail = false }) (drop 1 words) words) (wrong_at 1 wanted.Code)) some

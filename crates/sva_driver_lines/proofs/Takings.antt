@@ -8,7 +8,7 @@ use Rattle.sva_step.specs.declared.limits.Config.{Config}
 use Rattle.sva_script.specs.Lines.{Parts, step_begins}
 use Rattle.sva_script_reading.specs.Begins.{joined_words}
 use Rattle.sva_race_words.specs.Words.{word_at}
-use Rattle.sva_driver_words.specs.Faults.{lacking, placed}
+use Rattle.sva_driver_words.specs.Faults.{wrong_at, placed}
 use Rattle.sva_driver_words.specs.Fields.{endpoint_at, has_word}
 use Rattle.sva_driver_words.specs.declared.faults.DriverStop.{DriverStop}
 use Rattle.sva_driver_words.specs.declared.faults.DriverStop.TheVariants as stop
@@ -96,14 +96,14 @@ module _ (config : Config) (reading : Reading) (words : List (List ℕ)) where
   kept_at endpoint read = read >>= λ told. Ok (record reading { devices = slice_set reading.devices endpoint told })
 
   abbrev by_word : (endpoint : ℕ) → Result Reading DriverWrong
-  by_word endpoint = cond (has_word 2 words) (kept_at endpoint (told_by_parts words)) (lacking 2 wanted.Part)
+  by_word endpoint = cond (has_word 2 words) (kept_at endpoint (told_by_parts words)) (wrong_at 2 wanted.Part)
 
   by_parts : (endpoint : ℕ) → endpoint_at config 1 words ≡ Ok endpoint → is_told (slice_get reading.devices endpoint) ≡ false
       → has_word 2 words ≡ true → device_line config reading words ≡ kept_at endpoint (told_by_parts words)
   by_parts endpoint at untold some =
       ap behind_endpoint at
-      ∙ ap (λ b. cond b (lacking 1 wanted.OneLine) (by_word endpoint)) untold
-      ∙ ap (λ b. cond b (kept_at endpoint (told_by_parts words)) (lacking 2 wanted.Part)) some
+      ∙ ap (λ b. cond b (wrong_at 1 wanted.OneLine) (by_word endpoint)) untold
+      ∙ ap (λ b. cond b (kept_at endpoint (told_by_parts words)) (wrong_at 2 wanted.Part)) some
 
   pub device_right : (endpoint : ℕ) (told : DeviceSaid) (new : Reading) → endpoint_at config 1 words ≡ Ok endpoint
       → is_told (slice_get reading.devices endpoint) ≡ false → has_word 2 words ≡ true → told_by_parts words ≡ Ok told

@@ -10,7 +10,7 @@ use Rattle.sva_open.specs.declared.settings.Stopped.TheVariants.{Marker, Status,
 use Rattle.sva_driver_terms.specs.declared.drivers.Budget.{Budget}
 use Rattle.sva_driver_terms.specs.declared.drivers.Workers.{Workers}
 use Rattle.sva_driver_acts.specs.Taking.{Fails, appended}
-use Rattle.sva_driver_words.specs.Faults.{lacking, no_more}
+use Rattle.sva_driver_words.specs.Faults.{wrong_at, no_more}
 use Rattle.sva_driver_words.specs.Fields.{count_at, has_word, page_at, says}
 use Rattle.sva_driver_lines.specs.declared.kept.DeviceRead.{DeviceRead}
 use Rattle.sva_driver_words.specs.declared.faults.DriverWanted.TheVariants as wanted
@@ -39,38 +39,38 @@ platform_set settings words =
     then Ok (record settings { link = Posted; all_fence = false; drain_empties = false; has_caches = true }) else
     if says 1 (codes "free") words
     then Ok (record settings { link = Free; all_fence = true; drain_empties = true; has_caches = false }) else
-    lacking 1 wanted.Platform
+    wrong_at 1 wanted.Platform
 
 abbrev pub link_set : Settings → List (List ℕ) → Result Settings DriverWrong
 link_set settings words =
     if says 1 (codes "free") words then Ok (record settings { link = Free }) else
     if says 1 (codes "posted") words then Ok (record settings { link = Posted }) else
-    lacking 1 wanted.Link
+    wrong_at 1 wanted.Link
 
 abbrev pub waits_set : Settings → List (List ℕ) → Result Settings DriverWrong
 waits_set settings words =
     if says 1 (codes "fence") words then Ok (record settings { all_fence = true }) else
     if says 1 (codes "plain") words then Ok (record settings { all_fence = false }) else
-    lacking 1 wanted.Waits
+    wrong_at 1 wanted.Waits
 
 abbrev pub drain_set : Settings → List (List ℕ) → Result Settings DriverWrong
 drain_set settings words =
     if says 1 (codes "empty") words then Ok (record settings { drain_empties = true }) else
     if says 1 (codes "arrived") words then Ok (record settings { drain_empties = false }) else
-    lacking 1 wanted.Drain
+    wrong_at 1 wanted.Drain
 
 abbrev pub caches_set : Settings → List (List ℕ) → Result Settings DriverWrong
 caches_set settings words =
     if says 1 (codes "off") words then Ok (record settings { has_caches = false }) else
     if says 1 (codes "on") words then Ok (record settings { has_caches = true }) else
-    lacking 1 wanted.Caches
+    wrong_at 1 wanted.Caches
 
 abbrev pub stopped_set : Settings → List (List ℕ) → Result Settings DriverWrong
 stopped_set settings words =
     if says 1 (codes "marker") words then Ok (record settings { stopped = Marker }) else
     if says 1 (codes "status") words then Ok (record settings { stopped = Status }) else
     if says 1 (codes "known") words then Ok (record settings { stopped = Known }) else
-    lacking 1 wanted.Stopped
+    wrong_at 1 wanted.Stopped
 
 abbrev pub set : Settings → List (List ℕ) → Result Settings DriverWrong
 set settings words =
@@ -97,7 +97,7 @@ with_code at workers words =
     if says at (codes "success") words then Ok (record workers { answer = true }) else
     if says at (codes "invalid") words then Ok (record workers { answer = true }) else
     if says at (codes "failure") words then Ok (record workers { fail = true }) else
-    lacking at wanted.Code
+    wrong_at at wanted.Code
 
 -- so many words from a place on
 unfoldable pub codes_from : (at : ℕ) → Workers → (rest : List (List ℕ)) → List (List ℕ) → Result Workers DriverWrong
@@ -108,7 +108,7 @@ abbrev pub workers_of : List (List ℕ) → Result Workers DriverWrong
 workers_of words =
     if has_word 1 words
     then codes_from 1 (record { are_there = true; answer = false; fail = false }) (drop 1 words) words
-    else lacking 1 wanted.Code
+    else wrong_at 1 wanted.Code
 
 -- ---- `device E PART ..`
 
@@ -150,7 +150,7 @@ counted budget count at words =
     if says at (codes "asks") words then Ok (record budget { asks = count }) else
     if says at (codes "uses") words then Ok (record budget { uses = count }) else
     if says at (codes "faults") words then Ok (record budget { faults = count }) else
-    lacking at wanted.Counted
+    wrong_at at wanted.Counted
 
 abbrev pub is_flag : (at : ℕ) → List (List ℕ) → Bool
 is_flag at words =

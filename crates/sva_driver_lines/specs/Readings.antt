@@ -16,7 +16,7 @@ use Rattle.sva_race_words.specs.Words.{word_at}
 use Rattle.sva_race_words.specs.declared.faults.RaceWanted.TheVariants as race
 use Rattle.sva_driver_acts.specs.Awaits.{LineSaid, is_named, last_from}
 use Rattle.sva_driver_lines.specs.Devices.{DeviceSaid, is_setting, parts_from, setting_line, unsaid, untold, workers_of}
-use Rattle.sva_driver_words.specs.Faults.{fault_text, lacking, no_more, placed}
+use Rattle.sva_driver_words.specs.Faults.{fault_text, wrong_at, no_more, placed}
 use Rattle.sva_driver_words.specs.Fields.{endpoint_at, has_word, says}
 use Rattle.sva_driver_acts.specs.Sayings.{SayingSaid}
 use Rattle.sva_driver_acts.specs.Says.{is_act, saying_by, with_lock}
@@ -119,8 +119,8 @@ is_awaited_word name = bytes_eq name (codes "stopped") || bytes_eq name (codes "
 abbrev pub name_judged : List LineSaid → (name : Option (List ℕ)) → Result (Unit {0}) DriverWrong
 name_judged lines None = Ok tt
 name_judged lines (Some name) =
-    if not (is_name name) || is_awaited_word name then lacking 0 (wanted.Race (race.Script script.Name)) else
-    if list_any (is_named name) lines then lacking 0 (wanted.Race (race.Script script.NewName)) else
+    if not (is_name name) || is_awaited_word name then wrong_at 0 (wanted.Race (race.Script script.Name)) else
+    if list_any (is_named name) lines then wrong_at 0 (wanted.Race (race.Script script.NewName)) else
     Ok tt
 
 abbrev pub name_of : Option (List ℕ) → List ℕ
@@ -130,7 +130,7 @@ name_of (Some name) = name
 -- no answer is expected
 abbrev pub unanswered : Parts → Result (Unit {0}) DriverWrong
 unanswered parts =
-    if is_some parts.expected then lacking (step_begins parts + length parts.step) wanted.NoAnswer else Ok tt
+    if is_some parts.expected then wrong_at (step_begins parts + length parts.step) wanted.NoAnswer else Ok tt
 
 -- what its words say, with the lines above and the locks that they name
 abbrev pub saying_in : Config → Reading → (thread : List ℕ) → List (List ℕ) → Result SayingSaid DriverWrong
@@ -155,15 +155,15 @@ is_word word own = bytes_eq own word
 
 abbrev pub set_line : Reading → List (List ℕ) → Result Reading DriverWrong
 set_line reading words =
-    if nat_lt 0 (length reading.lines) then lacking 0 wanted.Earlier else
-    if list_any (is_word (word_at 0 words)) reading.set then lacking 0 wanted.OneLine else
-    if says 0 (codes "platform") words && nat_lt 0 (length reading.set) then lacking 0 wanted.Ahead else
+    if nat_lt 0 (length reading.lines) then wrong_at 0 wanted.Earlier else
+    if list_any (is_word (word_at 0 words)) reading.set then wrong_at 0 wanted.OneLine else
+    if says 0 (codes "platform") words && nat_lt 0 (length reading.set) then wrong_at 0 wanted.Ahead else
     (setting_line reading.settings words
     >>= λ settings. Ok (record reading { settings = settings; set = reading.set ++ word_at 0 words ∷ [] }))
 
 abbrev pub workers_line : Reading → List (List ℕ) → Result Reading DriverWrong
 workers_line reading words =
-    if is_some reading.workers then lacking 0 wanted.OneLine else
+    if is_some reading.workers then wrong_at 0 wanted.OneLine else
     (workers_of words >>= λ workers. Ok (record reading { workers = Some workers }))
 
 abbrev pub is_told : Option DeviceSaid → Bool
@@ -175,11 +175,11 @@ told_by_parts words = parts_from (record untold { is_told = true }) 2 words
 
 abbrev pub told_by : Reading → (endpoint : ℕ) → List (List ℕ) → Option DeviceSaid → Result Reading DriverWrong
 told_by reading endpoint words device =
-    if is_told device then lacking 1 wanted.OneLine else
+    if is_told device then wrong_at 1 wanted.OneLine else
     if has_word 2 words
     then (told_by_parts words
     >>= λ told. Ok (record reading { devices = slice_set reading.devices endpoint told }))
-    else lacking 2 wanted.Part
+    else wrong_at 2 wanted.Part
 
 abbrev pub device_line : Config → Reading → List (List ℕ) → Result Reading DriverWrong
 device_line config reading words =
@@ -187,24 +187,24 @@ device_line config reading words =
 
 abbrev pub race_line : Reading → List (List ℕ) → Result Reading DriverWrong
 race_line reading words =
-    if reading.is_race then lacking 0 wanted.NoRace else
+    if reading.is_race then wrong_at 0 wanted.NoRace else
     (no_more 1 words >>= λ done. Ok (record reading { is_race = true; before = length reading.lines }))
 
 abbrev pub heading_line : Reading → List (List ℕ) → Result Reading DriverWrong
 heading_line reading words =
-    if not (is_name (word_at 1 words)) then lacking 1 (wanted.Race (race.Script script.Name)) else
+    if not (is_name (word_at 1 words)) then wrong_at 1 (wanted.Race (race.Script script.Name)) else
     (no_more 2 words >>= λ done. Ok (record reading { heading = word_at 1 words }))
 
 -- nothing but an act has a name
 abbrev pub nameless : Option (List ℕ) → Result (Unit {0}) DriverWrong
 nameless None = Ok tt
-nameless (Some name) = lacking 0 (wanted.Race race.NoName)
+nameless (Some name) = wrong_at 0 (wanted.Race race.NoName)
 
 abbrev pub other_before : Reading → List (List ℕ) → Result Reading DriverWrong
-other_before reading words = if is_setting (word_at 0 words) then set_line reading words else lacking 0 wanted.Before
+other_before reading words = if is_setting (word_at 0 words) then set_line reading words else wrong_at 0 wanted.Before
 
 abbrev pub other_behind : Reading → List (List ℕ) → Result Reading DriverWrong
-other_behind reading words = if says 0 (codes "thread") words then heading_line reading words else lacking 0 wanted.Behind
+other_behind reading words = if says 0 (codes "thread") words then heading_line reading words else wrong_at 0 wanted.Behind
 
 abbrev pub other_line : Config → Reading → List (List ℕ) → Result Reading DriverWrong
 other_line config reading words =
@@ -227,7 +227,7 @@ is_misspelt parts = is_some parts.name && not (begins_other (word_at 0 parts.ste
 abbrev pub line_by : Config → Reading → (number : ℕ) → List (List ℕ) → Parts → Result Reading DriverWrong
 line_by config reading number words parts =
     if is_act (word_at 0 parts.step) then act_line config reading number parts (thread_of reading parts.step) else
-    if is_misspelt parts then lacking (step_begins parts) wanted.Act else
+    if is_misspelt parts then wrong_at (step_begins parts) wanted.Act else
     (nameless parts.name >>= λ done. other_line config reading words)
 
 -- ---- All lines behind the config

@@ -8,7 +8,7 @@ ghost use Rattle.sva_driver_words.specs.Fields.{page_at};
 
 use crate::kept::DeviceRead;
 use std::alloc::{AllocError, Global};
-use sva_driver_words::{DriverStop, DriverWanted, DriverWrong, count_at, lacking, page_at, says};
+use sva_driver_words::{DriverStop, DriverWanted, DriverWrong, count_at, wrong_at, page_at, says};
 use sva_driver_terms::Budget;
 
 /// A budget with what a word counts.
@@ -33,7 +33,7 @@ fn counted(budget: Budget, count: u64, words: &[&[u8]], at: usize) -> Result<Bud
             ..budget
         });
     }
-    Err(lacking(at, DriverWanted::Counted))
+    Err(wrong_at(at, DriverWanted::Counted))
 }
 
 fn push_page(pages: &mut Vec<u64>, page: u64) -> Result<(), AllocError>

@@ -20,7 +20,7 @@ use crate::readings::{Reading, untold};
 use crate::settings::{is_setting, workers_of};
 use std::alloc::{AllocError, Global};
 use sva_driver_words::{
-    DriverStop, DriverWanted, DriverWrong, endpoint_at, has_word, judge_end, lacking, says,
+    DriverStop, DriverWanted, DriverWrong, endpoint_at, has_word, judge_end, wrong_at, says,
 };
 use sva_driver_terms::Saying;
 use sva_race_words::{RaceWanted, count_of, word_at};
@@ -56,7 +56,7 @@ fn judge_answer(words: &[&[u8]]) -> Result<(), DriverWrong>
 {
     let parts = parts_of(words);
     if parts.expected.is_some() {
-        return Err(lacking(parts.step_at + count_of(parts.step), DriverWanted::NoAnswer));
+        return Err(wrong_at(parts.step_at + count_of(parts.step), DriverWanted::NoAnswer));
     }
     Ok(())
 }
@@ -67,7 +67,7 @@ fn place_stop(start: usize, why: DriverStop) -> DriverStop
 {
     match why {
         DriverStop::Wrong(found) => match start.checked_add(found.at) {
-            Some(at) => DriverStop::Wrong(lacking(at, found.wanted)),
+            Some(at) => DriverStop::Wrong(wrong_at(at, found.wanted)),
             None => DriverStop::Memory,
         },
         DriverStop::Memory => DriverStop::Memory,
@@ -131,13 +131,13 @@ fn take_setting(alloc: Global, reading: &mut Reading, words: &[&[u8]]) -> Result
     ensures { Takes (readings.set_line reading.old (map (λ word. word.now) words.now)) reading.old reading.new result }
 {
     if reading.has_lines() {
-        return Err(DriverStop::Wrong(lacking(0, DriverWanted::Earlier)));
+        return Err(DriverStop::Wrong(wrong_at(0, DriverWanted::Earlier)));
     }
     if reading.is_set(word_at(words, 0)) {
-        return Err(DriverStop::Wrong(lacking(0, DriverWanted::OneLine)));
+        return Err(DriverStop::Wrong(wrong_at(0, DriverWanted::OneLine)));
     }
     if says(words, 0, b"platform") && reading.has_settings() {
-        return Err(DriverStop::Wrong(lacking(0, DriverWanted::Ahead)));
+        return Err(DriverStop::Wrong(wrong_at(0, DriverWanted::Ahead)));
     }
     let settings = reading.setting_in(words).map_err(DriverStop::Wrong)?;
     match reading.set_settings(alloc, settings, word_at(words, 0)) {
@@ -152,7 +152,7 @@ fn take_workers(reading: &mut Reading, words: &[&[u8]]) -> Result<(), DriverStop
         reading.old reading.new result }
 {
     if reading.has_workers() {
-        return Err(DriverStop::Wrong(lacking(0, DriverWanted::OneLine)));
+        return Err(DriverStop::Wrong(wrong_at(0, DriverWanted::OneLine)));
     }
     let workers = workers_of(words).map_err(DriverStop::Wrong)?;
     reading.set_workers(workers);
@@ -183,10 +183,10 @@ fn take_device(
 {
     let endpoint = endpoint_at(config, words, 1).map_err(DriverStop::Wrong)?;
     if reading.is_told(endpoint) {
-        return Err(DriverStop::Wrong(lacking(1, DriverWanted::OneLine)));
+        return Err(DriverStop::Wrong(wrong_at(1, DriverWanted::OneLine)));
     }
     if !has_word(words, 2) {
-        return Err(DriverStop::Wrong(lacking(2, DriverWanted::Part)));
+        return Err(DriverStop::Wrong(wrong_at(2, DriverWanted::Part)));
     }
     match read_parts(alloc, words) {
         Ok(told) => {
@@ -203,7 +203,7 @@ fn take_race(reading: &mut Reading, words: &[&[u8]]) -> Result<(), DriverStop>
         reading.old reading.new result }
 {
     if reading.is_race {
-        return Err(DriverStop::Wrong(lacking(0, DriverWanted::NoRace)));
+        return Err(DriverStop::Wrong(wrong_at(0, DriverWanted::NoRace)));
     }
     judge_end(words, 1).map_err(DriverStop::Wrong)?;
     reading.set_race();
@@ -217,7 +217,7 @@ fn take_heading(alloc: Global, reading: &mut Reading, words: &[&[u8]]) -> Result
 {
     let name = word_at(words, 1);
     if !is_name(name) {
-        return Err(DriverStop::Wrong(lacking(
+        return Err(DriverStop::Wrong(wrong_at(
             1,
             DriverWanted::Race(RaceWanted::Script(Wanted::Name)),
         )));
@@ -252,12 +252,12 @@ fn take_other(
         if says(words, 0, b"thread") {
             return take_heading(alloc, reading, words);
         }
-        return Err(DriverStop::Wrong(lacking(0, DriverWanted::Behind)));
+        return Err(DriverStop::Wrong(wrong_at(0, DriverWanted::Behind)));
     }
     if is_setting(word_at(words, 0)) {
         return take_setting(alloc, reading, words);
     }
-    Err(DriverStop::Wrong(lacking(0, DriverWanted::Before)))
+    Err(DriverStop::Wrong(wrong_at(0, DriverWanted::Before)))
 }
 
 /// Whether a word begins a line that is no act.
@@ -295,10 +295,10 @@ fn take_line(
         return take_act(alloc, config, reading, number, words);
     }
     if is_misspelt(words) {
-        return Err(DriverStop::Wrong(lacking(parts.step_at, DriverWanted::Act)));
+        return Err(DriverStop::Wrong(wrong_at(parts.step_at, DriverWanted::Act)));
     }
     if name_in(words).is_some() {
-        return Err(DriverStop::Wrong(lacking(0, DriverWanted::Race(RaceWanted::NoName))));
+        return Err(DriverStop::Wrong(wrong_at(0, DriverWanted::Race(RaceWanted::NoName))));
     }
     take_other(alloc, config, reading, words)
 }

@@ -7,7 +7,7 @@ ghost use Rattle.sva_driver_lines.specs.Readings as readings;
 
 use std::alloc::{AllocError, Global};
 use sva_driver_acts::LineRead;
-use sva_driver_words::{DriverWanted, DriverWrong, lacking};
+use sva_driver_words::{DriverWanted, DriverWrong, wrong_at};
 use sva_race_words::RaceWanted;
 use sva_script::{Wanted, is_name};
 use sva_words::is;
@@ -49,10 +49,10 @@ pub(crate) fn judge_name(lines: &[LineRead], name: Option<&[u8]>) -> Result<(), 
         None => Ok(()),
         Some(name) => {
             if !is_name(name) || is_awaited_word(name) {
-                return Err(lacking(0, DriverWanted::Race(RaceWanted::Script(Wanted::Name))));
+                return Err(wrong_at(0, DriverWanted::Race(RaceWanted::Script(Wanted::Name))));
             }
             if is_given(lines, name) {
-                return Err(lacking(0, DriverWanted::Race(RaceWanted::Script(Wanted::NewName))));
+                return Err(wrong_at(0, DriverWanted::Race(RaceWanted::Script(Wanted::NewName))));
             }
             Ok(())
         }

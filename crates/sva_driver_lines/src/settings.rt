@@ -3,7 +3,7 @@
 ghost use Rattle.std.specs.Prelude.{◌≡◌, map};
 ghost use Rattle.sva_driver_lines.specs.Devices as devices;
 
-use sva_driver_words::{DriverWanted, DriverWrong, has_word, judge_end, lacking, says};
+use sva_driver_words::{DriverWanted, DriverWrong, has_word, judge_end, wrong_at, says};
 use sva_driver_terms::Workers;
 use sva_open::{Link, Settings, Stopped};
 use sva_words::is;
@@ -42,7 +42,7 @@ fn platform_set(settings: Settings, words: &[&[u8]]) -> Result<Settings, DriverW
             ..settings
         });
     }
-    Err(lacking(1, DriverWanted::Platform))
+    Err(wrong_at(1, DriverWanted::Platform))
 }
 
 fn link_set(settings: Settings, words: &[&[u8]]) -> Result<Settings, DriverWrong>
@@ -60,7 +60,7 @@ fn link_set(settings: Settings, words: &[&[u8]]) -> Result<Settings, DriverWrong
             ..settings
         });
     }
-    Err(lacking(1, DriverWanted::Link))
+    Err(wrong_at(1, DriverWanted::Link))
 }
 
 fn waits_set(settings: Settings, words: &[&[u8]]) -> Result<Settings, DriverWrong>
@@ -78,7 +78,7 @@ fn waits_set(settings: Settings, words: &[&[u8]]) -> Result<Settings, DriverWron
             ..settings
         });
     }
-    Err(lacking(1, DriverWanted::Waits))
+    Err(wrong_at(1, DriverWanted::Waits))
 }
 
 fn drain_set(settings: Settings, words: &[&[u8]]) -> Result<Settings, DriverWrong>
@@ -96,7 +96,7 @@ fn drain_set(settings: Settings, words: &[&[u8]]) -> Result<Settings, DriverWron
             ..settings
         });
     }
-    Err(lacking(1, DriverWanted::Drain))
+    Err(wrong_at(1, DriverWanted::Drain))
 }
 
 fn caches_set(settings: Settings, words: &[&[u8]]) -> Result<Settings, DriverWrong>
@@ -114,7 +114,7 @@ fn caches_set(settings: Settings, words: &[&[u8]]) -> Result<Settings, DriverWro
             ..settings
         });
     }
-    Err(lacking(1, DriverWanted::Caches))
+    Err(wrong_at(1, DriverWanted::Caches))
 }
 
 fn stopped_set(settings: Settings, words: &[&[u8]]) -> Result<Settings, DriverWrong>
@@ -138,7 +138,7 @@ fn stopped_set(settings: Settings, words: &[&[u8]]) -> Result<Settings, DriverWr
             ..settings
         });
     }
-    Err(lacking(1, DriverWanted::Stopped))
+    Err(wrong_at(1, DriverWanted::Stopped))
 }
 
 fn set(settings: Settings, words: &[&[u8]]) -> Result<Settings, DriverWrong>
@@ -193,7 +193,7 @@ fn with_code(at: usize, workers: Workers, words: &[&[u8]]) -> Result<Workers, Dr
             ..workers
         });
     }
-    Err(lacking(at, DriverWanted::Code))
+    Err(wrong_at(at, DriverWanted::Code))
 }
 
 /// The workers of a line.
@@ -201,7 +201,7 @@ pub(crate) fn workers_of(words: &[&[u8]]) -> Result<Workers, DriverWrong>
     ensures { result ≡ devices.workers_of (map (λ word. word.now) words.now) }
 {
     if !has_word(words, 1) {
-        return Err(lacking(1, DriverWanted::Code));
+        return Err(wrong_at(1, DriverWanted::Code));
     }
     let mut workers = Workers {
         are_there: true,

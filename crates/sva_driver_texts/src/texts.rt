@@ -11,7 +11,7 @@ use crate::needs::need_of;
 use crate::opening::opening_of;
 use std::alloc::{AllocError, Global};
 use sva_driver_lines::{Reading, read_lines};
-use sva_driver_words::{DriverWanted, lacking, put_fault};
+use sva_driver_words::{DriverWanted, wrong_at, put_fault};
 use sva_judge::Spot;
 use sva_driver_terms::{Driver, Line};
 use sva_race_words::{RaceWanted, put_limits};
@@ -137,7 +137,7 @@ fn tell_refused(
 {
     let mut words = Vec::new(alloc);
     split(said.text.as_slice(), &mut words)?;
-    let wrong = lacking(0, DriverWanted::Permitted(need_of(&line.saying)));
+    let wrong = wrong_at(0, DriverWanted::Permitted(need_of(&line.saying)));
     put_fault(out, &wrong, line.number, words.as_slice(), names)
 }
 
@@ -163,7 +163,7 @@ pub fn put_refused(
 fn put_missing(read: &Read, out: &mut Vec<u8>) -> Result<(), AllocError>
     ensures { OnOk result (out.new.items ≡ out.old.items ++ texts.race_missing read.now) }
 {
-    let wrong = lacking(0, DriverWanted::Race(RaceWanted::Race));
+    let wrong = wrong_at(0, DriverWanted::Race(RaceWanted::Race));
     put_fault(out, &wrong, read.next, &[], &read.names)
 }
 

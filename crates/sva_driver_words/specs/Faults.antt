@@ -16,17 +16,17 @@ use Rattle.sva_driver_words.specs.declared.faults.DriverWrong.{DriverWrong}
 use Rattle.sva_driver_words.specs.Needs.{need_text}
 
 -- what a line is read as that is wrong at this word
-abbrev pub lacking : {A : Type 0} → (at : ℕ) → DriverWanted → Result A DriverWrong
-lacking at wanted = Err (record { at = at; wanted = wanted })
+abbrev pub wrong_at : {A : Type 0} → (at : ℕ) → DriverWanted → Result A DriverWrong
+wrong_at at wanted = Err (record { at = at; wanted = wanted })
 
 -- no word stands behind so many
 abbrev pub no_more : (count : ℕ) → List (List ℕ) → Result (Unit {0}) DriverWrong
-no_more count words = if nat_lt count (length words) then lacking count (wanted.Race (race.Script script.NoMore)) else Ok tt
+no_more count words = if nat_lt count (length words) then wrong_at count (wanted.Race (race.Script script.NoMore)) else Ok tt
 
 -- words that begin at a place of their line: what is wrong there is told by the line's places
 abbrev pub placed : {A : Type 0} → (start : ℕ) → Result A DriverWrong → Result A DriverWrong
 placed start (Ok read) = Ok read
-placed start (Err wrong) = lacking (start + wrong.at) wrong.wanted
+placed start (Err wrong) = wrong_at (start + wrong.at) wrong.wanted
 
 -- ---- What was wanted; what a race's line wants is told as of a race
 

@@ -8,7 +8,7 @@ use Rattle.sva_open_names.specs.declared.naming.Kind.{Kind}
 use Rattle.sva_open_names.specs.declared.naming.Kind.TheVariants as kind
 use Rattle.sva_race_words.specs.Words.{word_at}
 use Rattle.sva_race_words.specs.declared.faults.RaceWanted.TheVariants as race
-use Rattle.sva_driver_words.specs.Faults.{lacking}
+use Rattle.sva_driver_words.specs.Faults.{wrong_at}
 use Rattle.sva_driver_words.specs.declared.faults.DriverWanted.{DriverWanted}
 use Rattle.sva_driver_words.specs.declared.faults.DriverWanted.TheVariants as wanted
 use Rattle.sva_driver_words.specs.declared.faults.DriverWrong.{DriverWrong}
@@ -21,8 +21,8 @@ abbrev pub has_word : (at : ℕ) → List (List ℕ) → Bool
 has_word at words = nat_lt at (length words)
 
 abbrev pub within : (low below at : ℕ) → DriverWanted → Result ℕ Cause → Result ℕ DriverWrong
-within low below at want (Err cause) = lacking at want
-within low below at want (Ok value) = if nat_le low value && nat_lt value below then Ok value else lacking at want
+within low below at want (Err cause) = wrong_at at want
+within low below at want (Ok value) = if nat_le low value && nat_lt value below then Ok value else wrong_at at want
 
 abbrev pub number_at : (low below at : ℕ) → DriverWanted → List (List ℕ) → Result ℕ DriverWrong
 number_at low below at want words = within low below at want (number (word_at at words))
@@ -66,7 +66,7 @@ abbrev pub access_at : (at : ℕ) → List (List ℕ) → Result Bool DriverWron
 access_at at words =
     if says at (codes "w") words then Ok true else
     if says at (codes "r") words then Ok false else
-    lacking at wanted.Access
+    wrong_at at wanted.Access
 
 -- what a page request asks for: is it to be written?
 abbrev pub asked_at : (at : ℕ) → List (List ℕ) → Result Bool DriverWrong
@@ -74,14 +74,14 @@ asked_at at words =
     if says at (codes "rw") words then Ok true else
     if says at (codes "w") words then Ok true else
     if says at (codes "r") words then Ok false else
-    lacking at wanted.Asked
+    wrong_at at wanted.Asked
 
 -- is it the last of its group?
 abbrev pub last_at : (at : ℕ) → List (List ℕ) → Result Bool DriverWrong
 last_at at words =
     if says at (codes "last") words then Ok true else
     if says at (codes "more") words then Ok false else
-    lacking at wanted.MoreOrLast
+    wrong_at at wanted.MoreOrLast
 
 -- is it Response Failure?
 abbrev pub fails_at : (at : ℕ) → List (List ℕ) → Result Bool DriverWrong
@@ -89,7 +89,7 @@ fails_at at words =
     if says at (codes "failure") words then Ok true else
     if says at (codes "success") words then Ok false else
     if says at (codes "invalid") words then Ok false else
-    lacking at wanted.Code
+    wrong_at at wanted.Code
 
 -- the kind of a message that an endpoint sends
 abbrev pub kind_up_at : (at : ℕ) → List (List ℕ) → Result Kind DriverWrong
@@ -100,7 +100,7 @@ kind_up_at at words =
     if says at (codes "marker") words then Ok kind.Marker else
     if says at (codes "status") words then Ok kind.Status else
     if says at (codes "reset-done") words then Ok kind.ResetDone else
-    lacking at wanted.Kind
+    wrong_at at wanted.Kind
 
 abbrev pub kind_at : (at : ℕ) → List (List ℕ) → Result Kind DriverWrong
 kind_at at words =

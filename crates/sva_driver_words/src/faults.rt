@@ -139,7 +139,7 @@ pub enum DriverStop {
 }
 
 /// A line that is wrong at this word.
-pub fn lacking(at: usize, wanted: DriverWanted) -> DriverWrong
+pub fn wrong_at(at: usize, wanted: DriverWanted) -> DriverWrong
     ensures { result ≡ record { at = at; wanted = wanted } }
 {
     DriverWrong { at, wanted }
@@ -150,7 +150,7 @@ pub fn judge_end(words: &[&[u8]], count: usize) -> Result<(), DriverWrong>
     ensures { result ≡ no_more count (map (λ word. word.now) words.now) }
 {
     if count < count_of(words) {
-        return Err(lacking(
+        return Err(wrong_at(
             count,
             DriverWanted::Race(RaceWanted::Script(Wanted::NoMore)),
         ));

@@ -3,7 +3,7 @@
 ghost use Rattle.std.specs.Prelude.{◌≡◌, map};
 ghost use Rattle.sva_driver_words.specs.Fields as field;
 
-use crate::faults::{DriverWanted, DriverWrong, lacking};
+use crate::faults::{DriverWanted, DriverWrong, wrong_at};
 use sva_grammar::number_in;
 use sva_open_names::Kind;
 use sva_race_words::{RaceWanted, count_of, word_at};
@@ -39,10 +39,10 @@ fn number_at(
             if low <= value && value < below {
                 Ok(value)
             } else {
-                Err(lacking(at, wanted))
+                Err(wrong_at(at, wanted))
             }
         }
-        Err(_) => Err(lacking(at, wanted)),
+        Err(_) => Err(wrong_at(at, wanted)),
     }
 }
 
@@ -140,7 +140,7 @@ pub fn access_at(words: &[&[u8]], at: usize) -> Result<bool, DriverWrong>
     if says(words, at, b"r") {
         return Ok(false);
     }
-    Err(lacking(at, DriverWanted::Access))
+    Err(wrong_at(at, DriverWanted::Access))
 }
 
 /// What a page request asks for: whether to write.
@@ -156,7 +156,7 @@ pub fn asked_at(words: &[&[u8]], at: usize) -> Result<bool, DriverWrong>
     if says(words, at, b"r") {
         return Ok(false);
     }
-    Err(lacking(at, DriverWanted::Asked))
+    Err(wrong_at(at, DriverWanted::Asked))
 }
 
 /// Whether it is the last of its group.
@@ -169,7 +169,7 @@ pub fn last_at(words: &[&[u8]], at: usize) -> Result<bool, DriverWrong>
     if says(words, at, b"more") {
         return Ok(false);
     }
-    Err(lacking(at, DriverWanted::MoreOrLast))
+    Err(wrong_at(at, DriverWanted::MoreOrLast))
 }
 
 /// Whether the code is Response Failure.
@@ -185,7 +185,7 @@ pub fn fails_at(words: &[&[u8]], at: usize) -> Result<bool, DriverWrong>
     if says(words, at, b"invalid") {
         return Ok(false);
     }
-    Err(lacking(at, DriverWanted::Code))
+    Err(wrong_at(at, DriverWanted::Code))
 }
 
 /// The kind of a message.
@@ -235,5 +235,5 @@ fn kind_up_at(words: &[&[u8]], at: usize) -> Result<Kind, DriverWrong>
     if says(words, at, b"reset-done") {
         return Ok(Kind::ResetDone);
     }
-    Err(lacking(at, DriverWanted::Kind))
+    Err(wrong_at(at, DriverWanted::Kind))
 }

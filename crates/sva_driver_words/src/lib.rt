@@ -8,7 +8,7 @@ mod pieces;
 mod platforms;
 
 pub use faults::{
-    DriverStop, DriverWanted, DriverWrong, SubmitWanted, judge_end, lacking, put_fault,
+    DriverStop, DriverWanted, DriverWrong, SubmitWanted, judge_end, wrong_at, put_fault,
 };
 pub use fields::{
     access_at, asked_at, count_at, endpoint_at, fails_at, frame_at, has_word, index_at, kind_at,

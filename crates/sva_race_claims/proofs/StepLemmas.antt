@@ -10,14 +10,14 @@ use Rattle.sva_script.specs.Names.{Known}
 use Rattle.sva_script_reading.specs.Lines.{LineRead, Reads, line_read}
 use Rattle.sva_script_reading.specs.Messages.{link_of}
 use Rattle.sva_race_words.specs.declared.faults.RaceWanted.TheVariants as wanted
-use Rattle.sva_race_words.specs.Faults.{as_script, lacking}
+use Rattle.sva_race_words.specs.Faults.{as_script, wrong_at}
 use Rattle.sva_race_words.specs.Words.{word_at}
 use Rattle.sva_race_claims.specs.Steps.{is_step, judged, step_judged}
 
 pub step_by : (at : ℕ) (known : Known) (words : List (List ℕ)) → is_step (word_at 0 words) ≡ true
     → step_judged at known words ≡ judged at (line_read known (link_of None) (parts_of words))
 step_by at known words it =
-    ap (λ b. cond b (judged at (line_read known (link_of None) (parts_of words))) (lacking at (wanted.Script wants.Step))) it
+    ap (λ b. cond b (judged at (line_read known (link_of None) (parts_of words))) (wrong_at at (wanted.Script wants.Step))) it
 
 pub judged_right : (at : ℕ) (read : Result LineRead Wrong) (plain expected : List ℕ) (step : Option Step) → Reads read plain expected (Ok step)
     → judged at read ≡ Ok tt

@@ -21,7 +21,7 @@ use Rattle.sva_script.specs.Expect.{is_wanted}
 use Rattle.sva_script.specs.Names.{name_and_nth}
 use Rattle.sva_race_words.specs.declared.faults.RaceWanted.TheVariants as wanted
 use Rattle.sva_race_words.specs.declared.faults.RaceWrong.{RaceWrong}
-use Rattle.sva_race_words.specs.Faults.{lacking}
+use Rattle.sva_race_words.specs.Faults.{wrong_at}
 use Rattle.sva_race_words.specs.Words.{word_at}
 use Rattle.sva_race_claims.specs.Seen.{LineSaid, has_name}
 
@@ -48,7 +48,7 @@ is_no_frame frames lines word (Err cause) = is_named_wrong lines (name_and_nth w
 
 abbrev pub frame_judged : (frames : ℕ) → List LineSaid → (at : ℕ) → (word : List ℕ) → Result (Unit {0}) RaceWrong
 frame_judged frames lines at word =
-    if is_no_frame frames lines word (number word) then lacking at wanted.Frame else Ok tt
+    if is_no_frame frames lines word (number word) then wrong_at at wanted.Frame else Ok tt
 
 -- ---- A refusal: `refused N NAME`, where the name is that of the number; `_` is any
 
@@ -65,17 +65,17 @@ abbrev pub refusal_of : (number : ℕ) → Option Refusal
 refusal_of number = find (λ refusal. number_of refusal == number) refusals
 
 abbrev pub name_judged : (at : ℕ) → (name : List ℕ) → Option Refusal → Result (Unit {0}) RaceWrong
-name_judged at name None = lacking at wanted.RefusalNumber
+name_judged at name None = wrong_at at wanted.RefusalNumber
 name_judged at name (Some refusal) =
-    if is_wanted name (name_of refusal) then Ok tt else lacking (at + 1) (wanted.RefusalName refusal)
+    if is_wanted name (name_of refusal) then Ok tt else wrong_at (at + 1) (wanted.RefusalName refusal)
 
 abbrev pub number_judged : (at : ℕ) → (name : List ℕ) → Result ℕ Cause → Result (Unit {0}) RaceWrong
 number_judged at name (Ok number) = name_judged at name (refusal_of number)
-number_judged at name (Err cause) = lacking at wanted.RefusalNumber
+number_judged at name (Err cause) = wrong_at at wanted.RefusalNumber
 
 -- the words behind `refused`, which begin at `at`
 abbrev pub pair_judged : (at : ℕ) → List (List ℕ) → Result (Unit {0}) RaceWrong
-pair_judged at [] = lacking at wanted.RefusalNumber
+pair_judged at [] = wrong_at at wanted.RefusalNumber
 pair_judged at (word ∷ words) =
     if bytes_eq word (codes "_") then Ok tt else number_judged at (word_at 0 words) (number word)
 

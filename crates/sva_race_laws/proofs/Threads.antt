@@ -16,7 +16,7 @@ use Rattle.sva_script_traces.specs.Traces.{NoEnd}
 use Rattle.sva_race_terms.specs.declared.claims.Claiming.{Claiming}
 use Rattle.sva_race_words.specs.declared.faults.RaceWanted.{RaceWanted}
 use Rattle.sva_race_words.specs.declared.faults.RaceWrong.{RaceWrong}
-use Rattle.sva_race_words.specs.Faults.{lacking, no_more}
+use Rattle.sva_race_words.specs.Faults.{wrong_at, no_more}
 use Rattle.sva_race_words.specs.Words.{word_at}
 use Rattle.sva_race_claims.specs.Conditions.{begins_claim, claiming_of, claims_at, condition_of, is_of_ends}
 use Rattle.sva_race_claims.specs.Steps.{endpoint_in, named, step_judged}
@@ -46,7 +46,7 @@ right : (reading : Reading) → AreClean reading → CleanIf (Ok reading)
 unfolding CleanIf
 right reading clean = clean
 
-wrong : (at : ℕ) (wanted : RaceWanted) → CleanIf (lacking at wanted)
+wrong : (at : ℕ) (wanted : RaceWanted) → CleanIf (wrong_at at wanted)
 unfolding CleanIf
 wrong at wanted = tt
 

@@ -11,7 +11,7 @@ use Rattle.sva_script.specs.declared.places.Field.TheVariants as place
 use Rattle.sva_race_terms.specs.declared.races.Verdicts.{Verdicts}
 use Rattle.sva_race_words.specs.declared.faults.RaceWanted.TheVariants as wanted
 use Rattle.sva_race_words.specs.declared.faults.RaceWrong.{RaceWrong}
-use Rattle.sva_race_words.specs.Faults.{lacking}
+use Rattle.sva_race_words.specs.Faults.{wrong_at}
 use Rattle.sva_race_words.proofs.Lists.{now, said}
 use Rattle.sva_race_lines.specs.Threads.{no_verdicts, verdicts_from, verdicts_of, with_verdict}
 
@@ -39,6 +39,6 @@ verdicts_end words i verdicts past = ap (λ left. verdicts_from i verdicts (said
 pub verdicts_some : (words : List (Bor (List ℕ))) → 2 ≤ length (said words)
     → verdicts_of (said words) ≡ verdicts_from 1 no_verdicts (said (drop 1 words))
 verdicts_some words some =
-    ap (λ b. cond b (lacking 1 (wanted.Script (script.Field place.Verdict))) (verdicts_from 1 no_verdicts (drop 1 (said words))))
+    ap (λ b. cond b (wrong_at 1 (wanted.Script (script.Field place.Verdict))) (verdicts_from 1 no_verdicts (drop 1 (said words))))
     (le-ltb (length (said words)) 2 some)
     ∙ ap (verdicts_from 1 no_verdicts) (drop-map now 1 words)

@@ -16,7 +16,7 @@ use Rattle.sva_model.specs.Wire.PlaceWire.{FreeWire}
 use Rattle.sva_labels.specs.Finding.{lowest_free, is_free as is_free_wire}
 use Rattle.sva_labels.specs.Moves.{placed}
 use Rattle.sva_address_spaces.specs.Seen.{pages_seen, place_seen, places_seen}
-use Rattle.sva_lemmas.proofs.Lists.{tabulate_one}
+use Rattle.sva_labels.proofs.Lists.{tabulate_one}
 use Rattle.sva_address_spaces.specs.declared.live.LiveSpace.{LiveSpace}
 use Rattle.sva_address_spaces.specs.Lives.{spaces_seen}
 use Rattle.sva_address_spaces.specs.Steps.{first_address_spaces, is_mapped_place, is_withheld_place}

@@ -11,7 +11,7 @@ use Rattle.sva_model.specs.Refusals.{Cause, unless_refused}
 use Rattle.sva_model.specs.Steps.{Reply}
 use Rattle.sva_model.specs.Wire.{Wire, PageWire, SpaceWire, PlaceWire, insert_by, is_lower_page}
 use Rattle.sva_model.specs.Wire.PlaceWire.{FreeWire}
-use Rattle.sva_lemmas.proofs.Tests.{same_frame}
+use Rattle.sva_labels.proofs.Tests.{same_frame}
 use Rattle.sva_labels.specs.Finding.{pages_of, or_no_pages, lowest_free}
 use Rattle.sva_labels.specs.Causes.{causes_of}
 use Rattle.sva_labels.specs.Moves.{Move, moved, all_moved, with_pages, without_space, placed}

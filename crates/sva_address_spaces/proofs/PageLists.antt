@@ -12,7 +12,7 @@ use Rattle.std.proofs.lemmas.Bool.Decides.{nat_tests}
 use Rattle.sva_space.specs.Pages.{IsRising, mapping_at, with_page, without_page, AllMapped}
 use Rattle.sva_space.proofs.Mappings.{AllAbove, is_less}
 use Rattle.sva_model.specs.Words.{tabulate, all_below}
-use Rattle.sva_lemmas.proofs.Words.{all_below-true, all_below-false, all_below_cases}
+use Rattle.sva_labels.proofs.Words.{all_below-true, all_below-false, all_below_cases}
 use Rattle.sva_model.specs.Unmappings.{in_range}
 use Rattle.sva_model.specs.Wire.{PageWire, insert_by, is_lower_page}
 use Rattle.sva_labels.specs.Finding.{page_at, is_mapped, frame_or_0, frames_of}

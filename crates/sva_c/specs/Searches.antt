@@ -8,7 +8,7 @@ use Rattle.sva_race_reports.specs.Explored.{ExploresText}
 use Rattle.sva_why.specs.Why.{why_of}
 use Rattle.sva_driver_reports.specs.declared.reports.Ruling.{Ruling}
 use Rattle.sva_driver_reports.specs.declared.reports.Ruling.TheVariants.{Safe, Untried, Right, Unsafe, Stuck, CutOff}
-use Rattle.sva_driver_runs.specs.Judged.{IsTextJudged, IsTextRun}
+use Rattle.sva_driver_reports.specs.Judged.{IsTextJudged, IsTextRun}
 use Rattle.sva_c.specs.Buffers.{IsHandedOver, LacksMemory}
 use Rattle.sva_c.specs.declared.statuses.TheConstants.{CUT_OFF, DONE, FAILS, FAULTED}
 

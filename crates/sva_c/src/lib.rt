@@ -18,12 +18,12 @@ mod statuses;
 
 use crate::handing::{explored_status, hand_over, lack, ruled_status, status_of};
 use std::alloc::Global;
-use sva_driver_runs::{judge_text, run_text};
+use sva_driver_reports::{judge_text, run_text};
 use sva_race_reports::{Wanted, explore_text};
 use sva_reports::{check_text, report_text};
-use sva_streams::Told;
 use sva_script_reports::{plain, show, test};
 use sva_search::Unwatched;
+use sva_streams::Told;
 use sva_why::Explainer;
 
 /// The report of a scenario, as `replay` prints it.

@@ -6,8 +6,8 @@ use std::fs::OpenFile;
 use std::rt::Files as FileSystem;
 use std::{fs, io};
 use sva_command::{Asked, Awaited, Named, files_of, jobs_of, named_in, parse, part_of};
-use sva_streams::{DriveFault, Told, read_all};
 use sva_several::{Search, Wanted};
+use sva_streams::{DriveFault, Told, read_all};
 
 /// Several files, and what is wanted of them.
 #[derive(Drop)]

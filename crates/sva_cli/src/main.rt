@@ -14,9 +14,8 @@ use std::rt::{Env, Files as FileSystem};
 use std::sync::Wait;
 use std::thread::{Threads, available_parallelism};
 use sva_program::{Told, Watch, faulted, main_with, unread};
+use sva_several::{Meter, Progress, Searched, tell_all};
 use sva_streams::{DriveFault, write_all};
-use sva_several::{Meter, Searched, tell_all};
-use sva_terminal::Progress;
 
 /// The command line is wrong, or names a file that can't be read.
 const MISTAKE: u8 = 2;

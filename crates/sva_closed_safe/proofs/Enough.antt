@@ -15,7 +15,7 @@ use Rattle.sva_model.specs.State.Subject.{StartOf, StopOf, CompletionOf, Respons
 use Rattle.sva_model.specs.States.{is_unreleased, is_out, is_open, is_collecting, is_free}
 use Rattle.sva_model.specs.Labels.{oldest_arrived}
 use Rattle.sva_model.specs.Claims.{Usable, IsBearer, asker_of}
-use Rattle.sva_lemmas.proofs.Lists.{tabulate_length}
+use Rattle.sva_labels.proofs.Lists.{tabulate_length}
 use Rattle.sva_open.specs.declared.frames.Tenure.{Tenure}
 use Rattle.sva_open.specs.declared.frames.Translation.{Translation}
 use Rattle.sva_open.specs.declared.works.Request.{Request}

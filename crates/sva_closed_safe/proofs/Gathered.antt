@@ -6,10 +6,10 @@ use Rattle.std.proofs.lemmas.Option.{slice_get-get_or}
 use Rattle.std.proofs.lemmas.Bool.{and_from, eqb-true, eq-eqb}
 use Rattle.sva_model.specs.State.{Endpoint}
 use Rattle.sva_model.specs.Words.{count_below, lowest, tabulate, select}
-use Rattle.sva_lemmas.proofs.Words.{ℕ_cases, find_passes, find_some}
-use Rattle.sva_lemmas.proofs.Tests.{first_holds, second_holds}
-use Rattle.sva_lemmas.proofs.Counting.{bit, count_next}
-use Rattle.sva_lemmas.proofs.Lists.{tabulate_at, tabulate_length, get_before}
+use Rattle.sva_labels.proofs.Words.{ℕ_cases, find_passes, find_some}
+use Rattle.sva_labels.proofs.Tests.{first_holds, second_holds}
+use Rattle.sva_labels.proofs.Counting.{bit, count_next}
+use Rattle.sva_labels.proofs.Lists.{tabulate_at, tabulate_length, get_before}
 use Rattle.sva_closed_safe.specs.AsOpen.{gather, if_there, where_so, first_of}
 
 pub none_in : {A : Type 0} (x : A) → Contains [] x → ⊥

@@ -3,7 +3,7 @@ use Rattle.std.proofs.Common.{◌≡◌, ◌≢◌, ◌⊎◌, inl, inr, refl, a
 use Rattle.std.specs.Prelude.{not, Option, Some, None, option_map, Contains, slice_get, IfSome}
 use Rattle.std.proofs.lemmas.List.Elements.{Contains-append_cases}
 use Rattle.std.proofs.lemmas.Option.{slice_get_within}
-use Rattle.sva_lemmas.proofs.Lists.{tabulate_length}
+use Rattle.sva_labels.proofs.Lists.{tabulate_length}
 use Rattle.sva_model.specs.Message.{Code}
 use Rattle.sva_model.specs.Words.{tabulate}
 use Rattle.sva_model.specs.State.{Stage, PasidState, RequestState, UseState, PageRequestState, GroupState, OrderState, Subject, Phase, Endpoint}

@@ -12,7 +12,7 @@ use Rattle.sva_model.specs.State.Subject.{PageRequestOf, MarkerOf, ResetDone}
 use Rattle.sva_model.specs.Words.{lowest, is_some}
 use Rattle.sva_model.specs.States.{is_unreleased, is_out, is_live_stage, is_off, is_arrived, is_open_group}
 use Rattle.sva_model.specs.Labels.{is_waiting, oldest_arrived}
-use Rattle.sva_lemmas.proofs.Words.{lowest_below}
+use Rattle.sva_labels.proofs.Words.{lowest_below}
 use Rattle.sva_laws.specs.LabelLaws.{FindsMappings}
 use Rattle.sva_laws.proofs.Invariant.{Invariant}
 use Rattle.sva_laws.proofs.Agreement.{bearer, distinct, owner}

@@ -12,8 +12,8 @@ use Rattle.sva_model.specs.State.Subject.{CompletionOf}
 use Rattle.sva_model.specs.States.{is_unreleased, is_out, is_running, is_free}
 use Rattle.sva_model.specs.Claims.{Usable}
 use Rattle.sva_model.specs.Claims.Usable.{cached, in_use, under_way}
-use Rattle.sva_lemmas.proofs.Words.{ℕ_cases}
-use Rattle.sva_lemmas.proofs.Lists.{tabulate_length}
+use Rattle.sva_labels.proofs.Words.{ℕ_cases}
+use Rattle.sva_labels.proofs.Lists.{tabulate_length}
 use Rattle.std.proofs.lemmas.Option.{slice_get_within}
 use Rattle.sva_laws.specs.LabelLaws.{FindsMappings}
 use Rattle.sva_laws.proofs.Invariant.{Invariant}

@@ -8,7 +8,7 @@ ghost use Rattle.sva_command.specs.Files as files;
 use std::alloc::{AllocError, Global};
 use std::marker::Model;
 use sva_grammar::{Cause, number_in};
-use sva_words::is;
+use sva_script::is;
 
 /// How many parts there are at most.
 const MOST_PARTS: u64 = 999_999;

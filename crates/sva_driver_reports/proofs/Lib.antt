@@ -1,2 +1,4 @@
 mod Moved
 mod Rests
+mod RunFronts
+mod Told

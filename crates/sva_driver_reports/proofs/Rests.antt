@@ -8,8 +8,8 @@ use Rattle.sva_open.specs.World.{Part}
 use Rattle.sva_open.specs.declared.rows.Row.{Row}
 use Rattle.sva_open.specs.declared.works.Group.{Group}
 use Rattle.sva_judge.specs.Spots.{Spot}
-use Rattle.sva_driver_terms.specs.declared.drivers.Device.{Device}
-use Rattle.sva_driver_terms.specs.declared.drivers.Line.{Line}
+use Rattle.sva_open.specs.declared.drivers.Device.{Device}
+use Rattle.sva_open.specs.declared.drivers.Line.{Line}
 use Rattle.sva_judge.specs.declared.verdicts.Looked.{Looked}
 use Rattle.sva_driver_texts.specs.declared.kept.Text.{Text}
 use Rattle.sva_driver_reports.specs.Limits.{ask_text, asks_from}

@@ -8,7 +8,7 @@ use Rattle.sva_open.specs.declared.messages.Sent.{Sent}
 use Rattle.sva_open.specs.declared.rows.KeptEntry.{KeptEntry}
 use Rattle.sva_open.specs.declared.frames.Translation.{Translation}
 use Rattle.sva_open.specs.declared.works.Group.{Group}
-use Rattle.sva_open_names.specs.Finding.{is_of_kind, is_taken, is_use, kind_of}
+use Rattle.sva_open.specs.Finding.{is_of_kind, is_taken, is_use, kind_of}
 use Rattle.sva_driver_words.specs.Pieces.{access_text, and_number, and_older, code_text, kind_text, last_text}
 use Rattle.sva_driver_words.specs.Pieces.{with_endpoint, with_page, with_pasid}
 

@@ -1,9 +1,9 @@
 -- What is wrong at a moment, in words.
 use Rattle.std.specs.Prelude.{ℕ, Bool, true, false, List, ◌++◌, codes}
-use Rattle.sva_open_wrongs.specs.declared.wrongs.Thing.{Thing}
-use Rattle.sva_open_wrongs.specs.declared.wrongs.Thing.TheVariants as thing
-use Rattle.sva_open_wrongs.specs.declared.wrongs.Wrong.{Wrong}
-use Rattle.sva_open_wrongs.specs.declared.wrongs.Wrong.TheVariants as wrong
+use Rattle.sva_open_safe.specs.declared.wrongs.Thing.{Thing}
+use Rattle.sva_open_safe.specs.declared.wrongs.Thing.TheVariants as thing
+use Rattle.sva_open_safe.specs.declared.wrongs.Wrong.{Wrong}
+use Rattle.sva_open_safe.specs.declared.wrongs.Wrong.TheVariants as wrong
 use Rattle.sva_driver_words.specs.Pieces.{and_number, with_endpoint}
 
 abbrev pub thing_text : Thing → List ℕ

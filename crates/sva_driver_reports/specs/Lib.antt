@@ -4,3 +4,4 @@ pub mod Limits
 pub mod Nevers
 pub mod Reports
 pub mod Witness
+pub mod Judged

@@ -5,13 +5,13 @@ use Rattle.std.specs.List.{list_any}
 use Rattle.sva_open.specs.declared.acts.Act.TheVariants as act
 use Rattle.sva_open.specs.declared.acts.LocalAct.{LocalAct}
 use Rattle.sva_open.specs.declared.acts.LocalAct.TheVariants as local
-use Rattle.sva_open_names.specs.declared.naming.Named.{Named}
-use Rattle.sva_open_names.specs.declared.naming.Named.TheVariants as named
-use Rattle.sva_driver_terms.specs.declared.drivers.Budget.{Budget}
-use Rattle.sva_driver_terms.specs.declared.drivers.Device.{Device}
-use Rattle.sva_driver_terms.specs.declared.drivers.Line.{Line}
-use Rattle.sva_driver_terms.specs.declared.drivers.Saying.{Saying}
-use Rattle.sva_driver_terms.specs.declared.drivers.Saying.TheVariants.{Does, Names}
+use Rattle.sva_open.specs.declared.naming.Named.{Named}
+use Rattle.sva_open.specs.declared.naming.Named.TheVariants as named
+use Rattle.sva_open.specs.declared.drivers.Budget.{Budget}
+use Rattle.sva_open.specs.declared.drivers.Device.{Device}
+use Rattle.sva_open.specs.declared.drivers.Line.{Line}
+use Rattle.sva_open.specs.declared.drivers.Saying.{Saying}
+use Rattle.sva_open.specs.declared.drivers.Saying.TheVariants.{Does, Names}
 use Rattle.sva_judge.specs.declared.facts.Fact.{Fact}
 use Rattle.sva_judge.specs.declared.facts.Fact.TheVariants.{Holds, Uses, Faults, Leads}
 use Rattle.sva_judge.specs.declared.verdicts.Looked.{Looked}

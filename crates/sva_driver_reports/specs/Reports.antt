@@ -6,11 +6,11 @@ use Rattle.sva_open.specs.World.{Part, is_stopping}
 use Rattle.sva_open.specs.declared.rows.Row.{Row}
 use Rattle.sva_open.specs.declared.settings.Conduct.{Conduct}
 use Rattle.sva_open.specs.declared.works.Group.{Group}
-use Rattle.sva_open_wrongs.specs.Wrongs.{first_wrong}
-use Rattle.sva_open_wrongs.specs.declared.wrongs.Wrong.{Wrong}
+use Rattle.sva_open_safe.specs.Wrongs.{first_wrong}
+use Rattle.sva_open_safe.specs.declared.wrongs.Wrong.{Wrong}
 use Rattle.sva_judge.specs.declared.choices.Choice.{Choice}
-use Rattle.sva_driver_terms.specs.declared.drivers.Device.{Device}
-use Rattle.sva_driver_terms.specs.declared.drivers.Line.{Line}
+use Rattle.sva_open.specs.declared.drivers.Device.{Device}
+use Rattle.sva_open.specs.declared.drivers.Line.{Line}
 use Rattle.sva_judge.specs.Choices.{is_next}
 use Rattle.sva_judge.specs.Spots.{Spot, start_of}
 use Rattle.sva_judge.specs.declared.verdicts.Looked.{Looked}

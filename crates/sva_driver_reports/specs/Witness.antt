@@ -14,9 +14,9 @@ use Rattle.sva_open.specs.declared.settings.Stopped.TheVariants.{Marker, Status,
 use Rattle.sva_judge.specs.declared.choices.Choice.{Choice}
 use Rattle.sva_judge.specs.declared.choices.Doing.{Doing}
 use Rattle.sva_judge.specs.declared.choices.Doing.TheVariants as doing
-use Rattle.sva_driver_terms.specs.declared.drivers.Line.{Line}
-use Rattle.sva_driver_terms.specs.declared.drivers.Saying.{Saying}
-use Rattle.sva_driver_terms.specs.declared.drivers.Saying.TheVariants as saying
+use Rattle.sva_open.specs.declared.drivers.Line.{Line}
+use Rattle.sva_open.specs.declared.drivers.Saying.{Saying}
+use Rattle.sva_open.specs.declared.drivers.Saying.TheVariants as saying
 use Rattle.sva_judge.specs.Choices.{act_of, next_in}
 use Rattle.sva_judge.specs.Spots.{Spot}
 use Rattle.sva_driver_texts.specs.declared.kept.Said.{Said}

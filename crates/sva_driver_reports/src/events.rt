@@ -1,7 +1,7 @@
 //! What link, units, workers and endpoints do, as lines that are read as the same acts.
 
 ghost use Rattle.std.specs.Prelude.{◌≡◌, ◌++◌, OnOk, Some, count_by, slice_get, take};
-ghost use Rattle.sva_open_names.specs.Finding as finding;
+ghost use Rattle.sva_open.specs.Finding as finding;
 ghost use Rattle.sva_driver_reports.specs.Events as events;
 
 use std::alloc::AllocError;
@@ -9,8 +9,7 @@ use sva_driver_words::{
     access_text, code_text, kind_text, last_text, put_endpoint, put_older, put_one, put_page,
     put_pasid,
 };
-use sva_open::{LocalAct, Part, Sent, Work, before};
-use sva_open_names::{Kind, is_of_kind, is_taken, is_use, kind_of};
+use sva_open::{Kind, LocalAct, Part, Sent, Work, before, is_of_kind, is_taken, is_use, kind_of};
 
 fn count_messages(flight: &[Sent], kind: Kind) -> usize
     ensures { result ≡ count_by (finding.is_of_kind kind) flight.now }

@@ -5,7 +5,7 @@ ghost use Rattle.sva_driver_reports.specs.Findings as findings;
 
 use std::alloc::AllocError;
 use sva_driver_words::{put_endpoint, put_one};
-use sva_open_wrongs::{Thing, Wrong};
+use sva_open_safe::{Thing, Wrong};
 
 fn thing_text(thing: Thing) -> &'static str
     ensures { result.now ≡ findings.thing_text thing }

@@ -7,8 +7,7 @@ use crate::witness::{put_line_who, waits};
 use std::alloc::AllocError;
 use sva_driver_texts::{Said, Text};
 use sva_driver_words::{put_endpoint, put_one};
-use sva_driver_terms::Line;
-use sva_open::{Link, Part, Settings, Stopped};
+use sva_open::{Line, Link, Part, Settings, Stopped};
 use sva_step::Config;
 
 /// Appends a text, where it is so.

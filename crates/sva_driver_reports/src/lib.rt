@@ -1,15 +1,18 @@
-//! The report of a driver that was judged: the verdict, and a shortest witness.
+//! The report of a driver that was judged: the verdict, and a shortest witness; a text that is judged, and one whose
+//! lines are taken one after another: what is read, and what is written.
 #![tactic(auto)]
 
+mod driving;
 mod events;
 mod findings;
 mod fronts;
+mod judging;
 mod limits;
 mod nevers;
 mod notes;
 mod reports;
 mod witness;
 
-pub use findings::put_wrong;
-pub use reports::{Ruling, put_report, ruling_of};
-pub use sva_driver_words::put_counted;
+pub use driving::{judge, run};
+pub use judging::{judge_text, run_text};
+pub use reports::Ruling;

@@ -7,7 +7,7 @@ ghost use Rattle.sva_driver_texts.specs.Budgets as budgets;
 use std::alloc::AllocError;
 use sva_driver_texts::{Text, asks_in, has_budget};
 use sva_driver_words::{put_endpoint, put_not_asked, put_platform};
-use sva_driver_terms::{Device, Line};
+use sva_open::{Device, Line};
 
 /// Which ask comes behind so many.
 fn next_ask(asks: u64) -> &'static str

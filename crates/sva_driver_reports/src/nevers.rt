@@ -9,9 +9,7 @@ use std::alloc::AllocError;
 use sva_driver_texts::Text;
 use sva_driver_words::{put_endpoint, put_one};
 use sva_judge::{Fact, Looked};
-use sva_driver_terms::{Budget, Device, Line, Saying};
-use sva_open::{Act, LocalAct};
-use sva_open_names::Named;
+use sva_open::{Act, Budget, Device, Line, LocalAct, Named, Saying};
 
 /// Whether it is a fact of an endpoint that has a translation, or sends a page request.
 fn is_trial(fact: Fact) -> bool

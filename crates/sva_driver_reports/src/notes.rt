@@ -10,8 +10,7 @@ use std::alloc::AllocError;
 use sva_driver_texts::{Text, is_pageless, is_unasked, is_unstarted};
 use sva_driver_words::{put_counted, put_endpoint, put_one};
 use sva_judge::Spot;
-use sva_driver_terms::{Device, Line};
-use sva_open::{Conduct, Group, Part, Row};
+use sva_open::{Conduct, Device, Group, Line, Part, Row};
 
 /// Appends what can't be made of a budget, and why.
 fn put_unmade(

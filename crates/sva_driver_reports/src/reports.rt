@@ -1,7 +1,7 @@
 //! The report of a driver that was judged.
 
 ghost use Rattle.std.specs.Prelude.{◌≡◌, ◌++◌, IfOk, OnOk};
-ghost use Rattle.sva_open_wrongs.specs.Wrongs as wrongs;
+ghost use Rattle.sva_open_safe.specs.Wrongs as wrongs;
 ghost use Rattle.sva_driver_reports.specs.Reports as reports;
 
 use crate::findings::put_wrong;
@@ -14,7 +14,7 @@ use std::alloc::{AllocError, Global};
 use sva_driver_texts::Text;
 use sva_driver_words::put_counted;
 use sva_judge::{Choice, Looked, Spot, Verdict, start};
-use sva_open_wrongs::first_wrong;
+use sva_open_safe::first_wrong;
 
 /// What is said of a driver.
 #[derive(Clone, Copy, PartialEq, Eq)]

@@ -9,8 +9,7 @@ use std::marker::Model;
 use sva_driver_texts::{Said, Text};
 use sva_driver_words::put_endpoint;
 use sva_judge::{Choice, Doing, Spot, act_of, take};
-use sva_driver_terms::{Line, Saying};
-use sva_open::{Act, LocalAct, Part};
+use sva_open::{Act, Line, LocalAct, Part, Saying};
 use sva_script_reading::put_number;
 
 /// An event.

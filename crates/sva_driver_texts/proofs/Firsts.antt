@@ -2,11 +2,11 @@
 use Rattle.std.proofs.Common.{◌≡◌, ◌∙◌, ◌+◌, ◌-◌, ◌<◌, ap, arith, sym, ℕ, suc, zero, Bool, true, false, Option, Some, None}
 use Rattle.std.specs.Prelude.{Result, Ok, Err, slice_get}
 use Rattle.sva_grammar.specs.Grammar.{◌>>=◌}
-use Rattle.sva_open_wrongs.specs.Wrongs.{first_wrong}
-use Rattle.sva_open_wrongs.specs.declared.wrongs.Wrong.{Wrong}
+use Rattle.sva_open_safe.specs.Wrongs.{first_wrong}
+use Rattle.sva_open_safe.specs.declared.wrongs.Wrong.{Wrong}
 use Rattle.sva_search.specs.Rules.{IsStep}
 use Rattle.sva_search.proofs.Steps.{none_refused, some_taken}
-use Rattle.sva_driver_terms.specs.declared.drivers.Driver.{Driver}
+use Rattle.sva_open.specs.declared.drivers.Driver.{Driver}
 use Rattle.sva_judge.specs.Choices.{next_in}
 use Rattle.sva_judge.specs.Spots.{Spot, start_of}
 use Rattle.sva_driver_texts.specs.declared.kept.Halt.{Halt}

@@ -1,6 +1,12 @@
+pub mod Anys
+pub mod Codes
+pub mod Pages
+pub mod Parts
+pub mod Runs
+pub mod Takings
 pub mod Firsts
 pub mod Lists
-pub mod Names
+pub mod NamesOfLines
 pub mod Openings
 pub mod Stands
 pub mod Wholes

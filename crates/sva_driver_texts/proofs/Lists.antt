@@ -2,11 +2,11 @@
 use Rattle.std.proofs.Common.{◌≡◌, ◌∙◌, ◌<◌, ◌≤◌, ◌+◌, ap, sym, ℕ, List, [], ◌∷◌, ◌++◌, append-nil, append_assoc, length, get_or, drop, map}
 use Rattle.std.specs.Prelude.{flat_map}
 use Rattle.std.proofs.lemmas.List.{drop_all, drop_more, map_push}
-use Rattle.sva_driver_acts.specs.Awaits.{LineSaid, line_seen}
-use Rattle.sva_driver_acts.specs.declared.kept.LineRead.{LineRead}
-use Rattle.sva_driver_terms.specs.declared.drivers.Device.{Device}
-use Rattle.sva_driver_lines.specs.declared.kept.DeviceRead.{DeviceRead}
-use Rattle.sva_driver_lines.specs.Devices as devices
+use Rattle.sva_driver_words.specs.Awaits.{LineSaid, line_seen}
+use Rattle.sva_driver_words.specs.declared.kept.LineRead.{LineRead}
+use Rattle.sva_open.specs.declared.drivers.Device.{Device}
+use Rattle.sva_driver_texts.specs.declared.kept_of_endpoints.DeviceRead.{DeviceRead}
+use Rattle.sva_driver_texts.specs.Devices as devices
 use Rattle.sva_driver_texts.specs.Pasids.{higher, highest_by, pasid_at}
 use Rattle.sva_driver_texts.specs.Plans.{Planned, device_seen, page_set, pages_by, pasids_by, planned, planned_from, started_at, with_number}
 

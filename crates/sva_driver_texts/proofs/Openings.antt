@@ -5,10 +5,10 @@ use Rattle.sva_step.specs.declared.limits.Config.{Config}
 use Rattle.sva_open.specs.World.{Open, opened}
 use Rattle.sva_open.specs.declared.settings.Conduct.{Conduct}
 use Rattle.sva_open.specs.declared.settings.Settings.{Settings}
-use Rattle.sva_driver_terms.specs.declared.drivers.Driver.{Driver}
-use Rattle.sva_driver_lines.specs.declared.kept.DeviceRead.{DeviceRead}
-use Rattle.sva_driver_lines.specs.Devices.{device_seen}
-use Rattle.sva_driver_lines.specs.Readings.{Reading}
+use Rattle.sva_open.specs.declared.drivers.Driver.{Driver}
+use Rattle.sva_driver_texts.specs.declared.kept_of_endpoints.DeviceRead.{DeviceRead}
+use Rattle.sva_driver_texts.specs.Devices.{device_seen}
+use Rattle.sva_driver_texts.specs.Readings.{Reading}
 use Rattle.sva_driver_texts.specs.Texts.{IsOpening, conduct_of}
 
 pub map_twice : {A B C : Type 0} (g : B → C) (f : A → B) (xs : List A) → map (λ x. g (f x)) xs ≡ map g (map f xs)

@@ -3,7 +3,7 @@ use Rattle.std.proofs.Common.{◌≡◌, ◌∙◌, ap, refl, subst, sym, ℕ, L
 use Rattle.std.specs.Prelude.{IfOk, Some, None, Result, Ok, Err}
 use Rattle.std.specs.declared.alloc.AllocError.{AllocError}
 use Rattle.sva_judge.specs.Spots.{Spot}
-use Rattle.sva_open_wrongs.specs.declared.wrongs.Wrong.{Wrong}
+use Rattle.sva_open_safe.specs.declared.wrongs.Wrong.{Wrong}
 use Rattle.sva_driver_texts.specs.declared.kept.Begun.{Begun}
 use Rattle.sva_driver_texts.specs.declared.kept.Begun.TheVariants as begun
 use Rattle.sva_driver_texts.specs.declared.kept.Halt.{Halt}

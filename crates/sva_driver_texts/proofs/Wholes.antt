@@ -10,11 +10,11 @@ use Rattle.sva_script_reading.specs.Begins.{Line, config_in, lines_from}
 use Rattle.sva_script_reading.specs.Faults.{Fault}
 use Rattle.sva_script_reading.specs.Faults as scripts
 use Rattle.sva_script_reading.specs.Reading.{HasConfig}
-use Rattle.sva_race_words.specs.Limits.{limits_text}
+use Rattle.sva_race_texts.specs.Limits.{limits_text}
 use Rattle.sva_driver_texts.specs.declared.kept.Read.{Read}
 use Rattle.sva_driver_texts.specs.Texts.{IsRead, DriverRead, ReadsText, if_right, driver_behind, driver_of, driver_read, driver_with, right_or_said}
 use Rattle.sva_driver_texts.specs.Texts.{names_from, too_large}
-use Rattle.sva_driver_lines.specs.Readings.{Reading, behind_lines, nothing}
+use Rattle.sva_driver_texts.specs.Readings.{Reading, behind_lines, nothing}
 use Rattle.sva_script.specs.Names.{Known}
 
 -- ---- A driver is one where nothing is said of its lines

@@ -4,10 +4,10 @@ use Rattle.std.specs.List.{list_any}
 use Rattle.sva_open.specs.declared.acts.Act.TheVariants as act
 use Rattle.sva_open.specs.declared.acts.LocalAct.{LocalAct}
 use Rattle.sva_open.specs.declared.acts.LocalAct.TheVariants as local
-use Rattle.sva_driver_terms.specs.declared.drivers.Device.{Device}
-use Rattle.sva_driver_terms.specs.declared.drivers.Line.{Line}
-use Rattle.sva_driver_terms.specs.declared.drivers.Saying.{Saying}
-use Rattle.sva_driver_terms.specs.declared.drivers.Saying.TheVariants as saying
+use Rattle.sva_open.specs.declared.drivers.Device.{Device}
+use Rattle.sva_open.specs.declared.drivers.Line.{Line}
+use Rattle.sva_open.specs.declared.drivers.Saying.{Saying}
+use Rattle.sva_open.specs.declared.drivers.Saying.TheVariants as saying
 
 -- ---- Does a line start a PASID at an endpoint, or ask for a translation there?
 

@@ -1,3 +1,5 @@
+pub mod Devices
+pub mod Readings
 pub mod Needs
 pub mod Plans
 pub mod Texts

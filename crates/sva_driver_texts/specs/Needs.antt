@@ -3,10 +3,10 @@ use Rattle.sva_open.specs.declared.acts.Act.{Act}
 use Rattle.sva_open.specs.declared.acts.Act.TheVariants as act
 use Rattle.sva_open.specs.declared.acts.LocalAct.{LocalAct}
 use Rattle.sva_open.specs.declared.acts.LocalAct.TheVariants as local
-use Rattle.sva_open_names.specs.declared.naming.Named.{Named}
-use Rattle.sva_open_names.specs.declared.naming.Named.TheVariants as named
-use Rattle.sva_driver_terms.specs.declared.drivers.Saying.{Saying}
-use Rattle.sva_driver_terms.specs.declared.drivers.Saying.TheVariants as saying
+use Rattle.sva_open.specs.declared.naming.Named.{Named}
+use Rattle.sva_open.specs.declared.naming.Named.TheVariants as named
+use Rattle.sva_open.specs.declared.drivers.Saying.{Saying}
+use Rattle.sva_open.specs.declared.drivers.Saying.TheVariants as saying
 use Rattle.sva_driver_words.specs.declared.needs.Need.{Need}
 use Rattle.sva_driver_words.specs.declared.needs.Need.TheVariants as need
 

@@ -3,9 +3,9 @@ use Rattle.std.specs.Prelude.{ℕ, suc, nat_lt, if◌then◌else◌, List, [], �
 use Rattle.sva_open.specs.declared.acts.Act.TheVariants as act
 use Rattle.sva_open.specs.declared.acts.LocalAct.{LocalAct}
 use Rattle.sva_open.specs.declared.acts.LocalAct.TheVariants as local
-use Rattle.sva_driver_acts.specs.Awaits.{LineSaid}
-use Rattle.sva_driver_acts.specs.Sayings.{SayingSaid}
-use Rattle.sva_driver_acts.specs.Sayings.SayingSaid.{DoesSaid}
+use Rattle.sva_driver_words.specs.Awaits.{LineSaid}
+use Rattle.sva_driver_words.specs.Sayings.{SayingSaid}
+use Rattle.sva_driver_words.specs.Sayings.SayingSaid.{DoesSaid}
 
 -- the PASID that an act at an endpoint is of, or 0 if it is of none
 abbrev pub pasid_of : LocalAct → ℕ

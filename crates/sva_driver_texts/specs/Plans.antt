@@ -5,14 +5,14 @@ use Rattle.std.specs.Option.{unwrap_or}
 use Rattle.sva_open.specs.declared.acts.Act.TheVariants as act
 use Rattle.sva_open.specs.declared.acts.LocalAct.{LocalAct}
 use Rattle.sva_open.specs.declared.acts.LocalAct.TheVariants as local
-use Rattle.sva_driver_terms.specs.declared.drivers.Budget.{Budget}
-use Rattle.sva_driver_terms.specs.declared.drivers.Device.{Device}
-use Rattle.sva_driver_terms.specs.declared.drivers.Fault.{Fault}
-use Rattle.sva_driver_terms.specs.declared.drivers.Page.{Page}
-use Rattle.sva_driver_acts.specs.Awaits.{LineSaid}
-use Rattle.sva_driver_acts.specs.Sayings.{SayingSaid}
-use Rattle.sva_driver_acts.specs.Sayings.SayingSaid.{DoesSaid}
-use Rattle.sva_driver_lines.specs.Devices.{DeviceSaid}
+use Rattle.sva_open.specs.declared.drivers.Budget.{Budget}
+use Rattle.sva_open.specs.declared.drivers.Device.{Device}
+use Rattle.sva_open.specs.declared.drivers.Fault.{Fault}
+use Rattle.sva_open.specs.declared.drivers.Page.{Page}
+use Rattle.sva_driver_words.specs.Awaits.{LineSaid}
+use Rattle.sva_driver_words.specs.Sayings.{SayingSaid}
+use Rattle.sva_driver_words.specs.Sayings.SayingSaid.{DoesSaid}
+use Rattle.sva_driver_texts.specs.Devices.{DeviceSaid}
 
 -- a list with one more number, unless it has that
 abbrev pub with_number : List ℕ → Option ℕ → List ℕ

@@ -11,25 +11,25 @@ use Rattle.sva_script.specs.Names.{Known}
 use Rattle.sva_script_reading.specs.Begins.{Line, config_in, lines_from, noted}
 use Rattle.sva_script_reading.specs.Faults as scripts
 use Rattle.sva_script_reading.specs.Faults.{Fault}
-use Rattle.sva_race_words.specs.Limits.{limits_text}
-use Rattle.sva_race_words.specs.declared.faults.RaceWanted.TheVariants as race
+use Rattle.sva_race_texts.specs.Limits.{limits_text}
+use Rattle.sva_race_texts.specs.declared.faults.RaceWanted.TheVariants as race
 use Rattle.sva_open.specs.World.{Open, opened}
 use Rattle.sva_open.specs.declared.settings.Conduct.{Conduct}
-use Rattle.sva_open_wrongs.specs.Wrongs.{first_wrong}
-use Rattle.sva_open_wrongs.specs.declared.wrongs.Wrong.{Wrong}
+use Rattle.sva_open_safe.specs.Wrongs.{first_wrong}
+use Rattle.sva_open_safe.specs.declared.wrongs.Wrong.{Wrong}
 use Rattle.sva_judge.specs.declared.choices.Choice.{Choice}
 use Rattle.sva_judge.specs.declared.choices.Doing.TheVariants as doing
-use Rattle.sva_driver_terms.specs.declared.drivers.Driver.{Driver}
-use Rattle.sva_driver_terms.specs.declared.drivers.Line.{Line as Kept}
-use Rattle.sva_driver_terms.specs.declared.drivers.Workers.{Workers}
+use Rattle.sva_open.specs.declared.drivers.Driver.{Driver}
+use Rattle.sva_open.specs.declared.drivers.Line.{Line as Kept}
+use Rattle.sva_open.specs.declared.drivers.Workers.{Workers}
 use Rattle.sva_judge.specs.Choices.{next_in}
 use Rattle.sva_judge.specs.Spots.{Spot, start_of}
 use Rattle.sva_driver_words.specs.Faults.{fault_text}
 use Rattle.sva_driver_words.specs.declared.faults.DriverWanted.TheVariants as wanted
-use Rattle.sva_driver_acts.specs.Awaits.{LineSaid}
-use Rattle.sva_driver_acts.specs.Sayings.{SayingSaid, saying_seen}
-use Rattle.sva_driver_lines.specs.Devices.{DeviceSaid, no_workers}
-use Rattle.sva_driver_lines.specs.Readings.{Reading, read_of}
+use Rattle.sva_driver_words.specs.Awaits.{LineSaid}
+use Rattle.sva_driver_words.specs.Sayings.{SayingSaid, saying_seen}
+use Rattle.sva_driver_texts.specs.Devices.{DeviceSaid, no_workers}
+use Rattle.sva_driver_texts.specs.Readings.{Reading, read_of}
 use Rattle.sva_driver_texts.specs.Needs.{need_of}
 use Rattle.sva_driver_texts.specs.Pasids.{pasids_of}
 use Rattle.sva_driver_texts.specs.Plans.{device_seen, planned_from}

@@ -3,8 +3,7 @@
 ghost use Rattle.std.specs.Prelude.{◌≡◌};
 ghost use Rattle.sva_driver_texts.specs.Budgets as budgets;
 
-use sva_driver_terms::{Device, Line, Saying};
-use sva_open::{Act, LocalAct};
+use sva_open::{Act, Device, Line, LocalAct, Saying};
 
 fn is_start(act: &LocalAct) -> bool
     ensures { result ≡ budgets.is_start act.now }

@@ -2,15 +2,15 @@
 
 ghost use Rattle.std.specs.Prelude.{◌≡◌, IfOk, slice_get};
 ghost use Rattle.sva_search.specs.Rules.{IsStep};
-ghost use Rattle.sva_open_wrongs.specs.Wrongs.{first_wrong};
+ghost use Rattle.sva_open_safe.specs.Wrongs.{first_wrong};
 ghost use Rattle.sva_judge.specs.Choices.{next_in};
 ghost use Rattle.sva_driver_texts.specs.Texts as texts;
 
 use crate::kept::Halt;
 use std::alloc::{AllocError, Global};
 use sva_judge::{Choice, Doing, Spot, start, take};
-use sva_driver_terms::Driver;
-use sva_open_wrongs::{Wrong, first_wrong};
+use sva_open::Driver;
+use sva_open_safe::{Wrong, first_wrong};
 
 /// The choice of a line.
 fn choose_line(place: usize) -> Choice

@@ -1,7 +1,7 @@
 //! What is kept of a driver's text.
 
-use sva_driver_terms::Driver;
-use sva_open_wrongs::Wrong;
+use sva_open::Driver;
+use sva_open_safe::Wrong;
 use sva_script::Names;
 use sva_step::Config;
 

@@ -4,9 +4,7 @@ ghost use Rattle.std.specs.Prelude.{◌≡◌};
 ghost use Rattle.sva_driver_texts.specs.Needs.{need_at, need_named, need_of, need_of_act};
 
 use sva_driver_words::Need;
-use sva_driver_terms::Saying;
-use sva_open::{Act, LocalAct};
-use sva_open_names::Named;
+use sva_open::{Act, LocalAct, Named, Saying};
 
 /// What an act at an endpoint needs.
 fn need_at(act: &LocalAct) -> Need

@@ -2,19 +2,19 @@
 
 ghost use Rattle.std.specs.Prelude.{◌≡◌, IfOk, false, map, replicate};
 ghost use Rattle.sva_open.specs.World.{opened};
-ghost use Rattle.sva_driver_acts.specs.Awaits.{line_seen};
-ghost use Rattle.sva_driver_lines.specs.Devices.{device_seen};
+ghost use Rattle.sva_driver_words.specs.Awaits.{line_seen};
+ghost use Rattle.sva_driver_texts.specs.Devices.{device_seen};
 ghost use Rattle.sva_driver_texts.specs.Texts as texts;
 ghost use Rattle.sva_driver_texts.specs.Texts.{conduct_of};
 
 use crate::kept::Said;
+use crate::kept_of_endpoints::DeviceRead;
 use crate::pasids::pasids_of;
 use crate::plans::all_planned;
+use crate::readings::Reading;
 use std::alloc::{AllocError, Global};
-use sva_driver_acts::LineRead;
-use sva_driver_lines::{DeviceRead, Reading};
-use sva_driver_terms::{Driver, Line, Workers};
-use sva_open::{Conduct, Open, Settings};
+use sva_driver_words::LineRead;
+use sva_open::{Conduct, Driver, Line, Open, Settings, Workers};
 use sva_step::Config;
 
 /// So many times `false`.

@@ -1,13 +1,12 @@
 //! How many PASIDs an endpoint has to have, by the lines that were read.
 
 ghost use Rattle.std.specs.Prelude.{◌≡◌, map};
-ghost use Rattle.sva_driver_acts.specs.Awaits.{line_seen};
-ghost use Rattle.sva_driver_acts.specs.Sayings.{saying_seen};
+ghost use Rattle.sva_driver_words.specs.Awaits.{line_seen};
+ghost use Rattle.sva_driver_words.specs.Sayings.{saying_seen};
 ghost use Rattle.sva_driver_texts.specs.Pasids as seen;
 
-use sva_driver_acts::LineRead;
-use sva_driver_terms::Saying;
-use sva_open::{Act, LocalAct};
+use sva_driver_words::LineRead;
+use sva_open::{Act, LocalAct, Saying};
 
 /// No PASID is as high: they are 1 to 32.
 const PASIDS_END: usize = 33;

@@ -3,16 +3,15 @@
 ghost use Rattle.std.specs.Prelude.{◌≡◌, ◌==◌, ◌++◌, IfOk, flat_map, if◌then◌else◌, map, option_map};
 ghost use Rattle.std.specs.List.{list_any};
 ghost use Rattle.std.specs.Option.{unwrap_or};
-ghost use Rattle.sva_driver_acts.specs.Awaits.{line_seen};
-ghost use Rattle.sva_driver_acts.specs.Sayings.{saying_seen};
-ghost use Rattle.sva_driver_lines.specs.Devices as devices;
+ghost use Rattle.sva_driver_words.specs.Awaits.{line_seen};
+ghost use Rattle.sva_driver_words.specs.Sayings.{saying_seen};
+ghost use Rattle.sva_driver_texts.specs.Devices as devices;
 ghost use Rattle.sva_driver_texts.specs.Plans as plans;
 
+use crate::kept_of_endpoints::DeviceRead;
 use std::alloc::{AllocError, Global};
-use sva_driver_acts::LineRead;
-use sva_driver_lines::DeviceRead;
-use sva_driver_terms::{Device, Fault, Page, Saying};
-use sva_open::{Act, LocalAct};
+use sva_driver_words::LineRead;
+use sva_open::{Act, Device, Fault, LocalAct, Page, Saying};
 
 /// Whether a list has a number.
 fn has(list: &[u64], number: u64) -> bool

@@ -1,7 +1,7 @@
 -- What is said of a line of a driver that is wrong, piece by piece.
 use Rattle.std.proofs.Common.{◌≡◌, ◌∙◌, ap, refl, ℕ, List, [], ◌∷◌, ◌++◌, append_assoc, codes, Option, slice_get}
 use Rattle.std.specs.Prelude.{decimal}
-use Rattle.sva_race_words.specs.declared.faults.RaceWanted.{RaceWanted}
+use Rattle.sva_race_texts.specs.declared.faults.RaceWanted.{RaceWanted}
 use Rattle.sva_script.specs.Names.{Known}
 use Rattle.sva_driver_words.specs.declared.faults.DriverWanted.{DriverWanted}
 use Rattle.sva_driver_words.specs.declared.faults.DriverWanted.TheVariants as wanted

@@ -1,1 +1,4 @@
 pub mod FaultLemmas
+pub mod Lasts
+pub mod Locks
+pub mod Pieces

@@ -3,11 +3,11 @@ use Rattle.std.specs.Prelude.{ℕ, ◌+◌, nat_lt, if◌then◌else◌, List, [
 use Rattle.std.specs.Prelude.{slice_get, Option, Some, None, Result, Ok, Err}
 use Rattle.sva_script.specs.declared.faults.Wanted.TheVariants as script
 use Rattle.sva_script.specs.Names.{Known, near_name}
-use Rattle.sva_race_words.specs.ScriptFaults.{near_text, or_else, shown_word}
-use Rattle.sva_words.specs.Near.{near_among}
-use Rattle.sva_words.specs.Reserved.{kind_words}
-use Rattle.sva_race_words.specs.Faults as races
-use Rattle.sva_race_words.specs.declared.faults.RaceWanted.TheVariants as race
+use Rattle.sva_race_texts.specs.ScriptFaults.{near_text, or_else, shown_word}
+use Rattle.sva_script.specs.Near.{near_among}
+use Rattle.sva_script.specs.Reserved.{kind_words}
+use Rattle.sva_race_texts.specs.Faults as races
+use Rattle.sva_race_texts.specs.declared.faults.RaceWanted.TheVariants as race
 use Rattle.sva_driver_words.specs.declared.faults.DriverWanted.{DriverWanted}
 use Rattle.sva_driver_words.specs.declared.faults.DriverWanted.TheVariants as wanted
 use Rattle.sva_driver_words.specs.declared.faults.SubmitWanted.{SubmitWanted}

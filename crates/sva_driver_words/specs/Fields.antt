@@ -4,10 +4,10 @@ use Rattle.std.specs.Str.{bytes_eq}
 use Rattle.sva_step.specs.declared.limits.Config.{Config}
 use Rattle.sva_grammar.specs.declared.faults.Cause.{Cause}
 use Rattle.sva_grammar.specs.Grammar.{number}
-use Rattle.sva_open_names.specs.declared.naming.Kind.{Kind}
-use Rattle.sva_open_names.specs.declared.naming.Kind.TheVariants as kind
-use Rattle.sva_race_words.specs.Words.{word_at}
-use Rattle.sva_race_words.specs.declared.faults.RaceWanted.TheVariants as race
+use Rattle.sva_open.specs.declared.naming.Kind.{Kind}
+use Rattle.sva_open.specs.declared.naming.Kind.TheVariants as kind
+use Rattle.sva_race_texts.specs.Words.{word_at}
+use Rattle.sva_race_texts.specs.declared.faults.RaceWanted.TheVariants as race
 use Rattle.sva_driver_words.specs.Faults.{wrong_at}
 use Rattle.sva_driver_words.specs.declared.faults.DriverWanted.{DriverWanted}
 use Rattle.sva_driver_words.specs.declared.faults.DriverWanted.TheVariants as wanted

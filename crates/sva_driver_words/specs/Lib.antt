@@ -3,3 +3,8 @@ pub mod Fields
 pub mod Needs
 pub mod Pieces
 pub mod Platforms
+pub mod Taking
+pub mod Sayings
+pub mod Descriptors
+pub mod Awaits
+pub mod Says

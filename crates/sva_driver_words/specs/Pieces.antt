@@ -1,7 +1,7 @@
 -- The pieces of a line that is written: its words, and numbers behind them.
 use Rattle.std.specs.Prelude.{ℕ, ◌==◌, if◌then◌else◌, Bool, true, false, List, [], ◌++◌, codes, decimal}
-use Rattle.sva_open_names.specs.declared.naming.Kind.{Kind}
-use Rattle.sva_open_names.specs.declared.naming.Kind.TheVariants as kind
+use Rattle.sva_open.specs.declared.naming.Kind.{Kind}
+use Rattle.sva_open.specs.declared.naming.Kind.TheVariants as kind
 
 -- a blank and a number
 abbrev pub and_number : ℕ → List ℕ

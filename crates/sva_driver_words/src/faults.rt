@@ -6,18 +6,17 @@ ghost use Rattle.sva_driver_words.specs.Faults.{act_words, awaited_words, behind
 ghost use Rattle.sva_driver_words.specs.Faults.{fault_text, freed_words, hint_text, more_kind_words, near_wanted, no_more};
 ghost use Rattle.sva_driver_words.specs.Faults.{platform_words};
 ghost use Rattle.sva_driver_words.specs.Faults.{setting_words, submit_text, wanted_text, where_text};
-ghost use Rattle.sva_race_words.specs.ScriptFaults.{or_else};
+ghost use Rattle.sva_race_texts.specs.ScriptFaults.{or_else};
 ghost use Rattle.sva_script.specs.Names.{near_name};
-ghost use Rattle.sva_words.specs.Near.{near_among};
-ghost use Rattle.sva_words.specs.Reserved.{kind_words};
+ghost use Rattle.sva_script.specs.Near.{near_among};
+ghost use Rattle.sva_script.specs.Reserved.{kind_words};
 
 use crate::needs::{Need, need_words};
 use std::alloc::AllocError;
-use sva_race_words::{
+use sva_race_texts::{
     RaceWanted, count_of, first_near, put_near, put_number, put_word, word_in, wrong_at,
 };
-use sva_script::{Names, Wanted};
-use sva_words::near_kind;
+use sva_script::{Names, Wanted, near_kind};
 
 /// What was wanted where a line that submits descriptors is wrong.
 #[derive(Clone, Copy)]
@@ -389,7 +388,7 @@ pub fn put_fault(
 {
     match wrong.wanted {
         DriverWanted::Race(wanted) => {
-            sva_race_words::put_fault(out, &wrong_at(wrong.at, wanted), line, words, names)
+            sva_race_texts::put_fault(out, &wrong_at(wrong.at, wanted), line, words, names)
         }
         _ => put_own(out, wrong, line, words, names),
     }

@@ -5,10 +5,10 @@ ghost use Rattle.sva_driver_words.specs.Fields as field;
 
 use crate::faults::{DriverWanted, DriverWrong, wrong_at};
 use sva_grammar::number_in;
-use sva_open_names::Kind;
-use sva_race_words::{RaceWanted, count_of, word_at};
+use sva_open::Kind;
+use sva_race_texts::{RaceWanted, count_of, word_at};
+use sva_script::is;
 use sva_step::Config;
-use sva_words::is;
 
 /// Whether the word at a place is this one.
 pub fn says(words: &[&[u8]], at: usize, word: &[u8]) -> bool

@@ -4,8 +4,8 @@ ghost use Rattle.std.specs.Prelude.{◌≡◌, ◌++◌, OnOk, codes, decimal};
 ghost use Rattle.sva_driver_words.specs.Pieces as pieces;
 
 use std::alloc::AllocError;
-use sva_open_names::Kind;
-use sva_race_words::put_number;
+use sva_open::Kind;
+use sva_race_texts::put_number;
 
 /// Appends a blank and a number.
 pub fn put_one(out: &mut Vec<u8>, number: u64) -> Result<(), AllocError>

@@ -9,9 +9,9 @@ use Rattle.std.proofs.lemmas.List.{set_past, get_or_past}
 use Rattle.std.proofs.lemmas.List.Quantifiers.{position-Some}
 use Rattle.sva_msg.specs.declared.messages.Kind.{Kind}
 use Rattle.sva_msg.specs.declared.messages.Kind.TheVariants.{Reset, Response}
-use Rattle.sva_tables.specs.declared.groups.GroupPlace.{GroupPlace}
-use Rattle.sva_tables.specs.declared.groups.GroupPlace.TheVariants.{Free, Collecting, Out, Stale}
-use Rattle.sva_tables.specs.Groups.{group_at, is_free, is_collecting, group_of, with_request, stale_of}
+use Rattle.sva_endpoint.specs.declared.groups.GroupPlace.{GroupPlace}
+use Rattle.sva_endpoint.specs.declared.groups.GroupPlace.TheVariants.{Free, Collecting, Out, Stale}
+use Rattle.sva_endpoint.specs.Groups.{group_at, is_free, is_collecting, group_of, with_request, stale_of}
 use Rattle.sva_endpoint.specs.declared.permitted.Fault.{Fault}
 use Rattle.sva_endpoint.specs.Tables.{Tables}
 use Rattle.sva_endpoint.specs.Steps.{refusals_of_fault, is_of_group, index_for, group_after}

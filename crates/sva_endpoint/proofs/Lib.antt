@@ -1,3 +1,11 @@
+pub mod CachePlaces
+pub mod Search
+pub mod Edits
+pub mod Runs
+pub mod Facts
+pub mod Places
+pub mod GroupFacts
+pub mod TakenFacts
 pub mod CallFacts
 pub mod Permits
 pub mod TagLaws

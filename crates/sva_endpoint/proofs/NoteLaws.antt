@@ -14,12 +14,12 @@ use Rattle.sva_step.specs.declared.refusals.Refusal.{Refusal}
 use Rattle.sva_step.specs.declared.refusals.Refusal.TheVariants.{NotPending, InUse, BadCount}
 use Rattle.sva_msg.specs.declared.messages.Kind.{Kind}
 use Rattle.sva_msg.specs.declared.messages.Kind.TheVariants.{Reset, Invalidate}
-use Rattle.sva_cache.specs.declared.coverage.Invalidation.{Invalidation}
-use Rattle.sva_tables.specs.declared.use_slots.UseSlot.TheVariants.{Free}
-use Rattle.sva_tables.specs.declared.taken_table.Taken.{Taken}
-use Rattle.sva_tables.specs.UseSlots.{slot_at, runs_covered}
+use Rattle.sva_endpoint.specs.declared.coverage.Invalidation.{Invalidation}
+use Rattle.sva_endpoint.specs.declared.use_slots.UseSlot.TheVariants.{Free}
+use Rattle.sva_endpoint.specs.declared.taken_table.Taken.{Taken}
+use Rattle.sva_endpoint.specs.UseSlots.{slot_at, runs_covered}
 use Rattle.sva_itags.specs.Vector.{is_named}
-use Rattle.sva_tables.specs.Taken.{waits, are_pending, is_one_waiting, without_note}
+use Rattle.sva_endpoint.specs.Taken.{waits, are_pending, is_one_waiting, without_note}
 use Rattle.sva_endpoint.specs.Tables.{Tables}
 use Rattle.sva_endpoint.specs.Steps.{finishing}
 use Rattle.sva_model.specs.Refusals.{unless_refused}
@@ -28,7 +28,7 @@ use Rattle.sva_endpoint.specs.Calls.{Call, EndUse, Finish, Receive, after, run}
 use Rattle.sva_endpoint.specs.Laws.{takes_itag, is_noted, is_end_of_use, ends_taking, NotesExactly, NamesAlone, InUseExactly}
 use Rattle.sva_endpoint.proofs.TagLaws.{clash, told_is}
 use Rattle.sva_endpoint.proofs.WaitLaws.{notes-waits, one_waiting, within_table}
-use Rattle.sva_tables.proofs.TakenFacts.{get_or-without_named}
+use Rattle.sva_endpoint.proofs.TakenFacts.{get_or-without_named}
 
 -- ---- what is noted after each call
 

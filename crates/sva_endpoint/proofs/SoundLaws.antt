@@ -12,36 +12,36 @@ use Rattle.std.proofs.lemmas.List.Sums.{sum_by-set}
 use Rattle.std.proofs.lemmas.List.FromFn.{length-enumerate_from}
 use Rattle.sva_msg.specs.declared.messages.Kind.{Kind}
 use Rattle.sva_msg.specs.declared.messages.Kind.TheVariants.{Start, Stop, Reset, Completion, Invalidate, Response}
-use Rattle.sva_tables.specs.declared.pasid_states.PasidState.{PasidState}
-use Rattle.sva_tables.specs.declared.pasid_states.PasidState.TheVariants.{Off, On, Stopping}
-use Rattle.sva_cache.specs.declared.coverage.Invalidation.{Invalidation}
-use Rattle.sva_cache.specs.declared.cached.Translation.{Translation}
-use Rattle.sva_tables.specs.declared.request_tags.RequestTag.{RequestTag}
-use Rattle.sva_tables.specs.declared.request_tags.RequestTag.TheVariants.{Free, Out, Doomed}
-use Rattle.sva_tables.specs.declared.use_slots.UseSlot.{UseSlot}
-use Rattle.sva_tables.specs.declared.use_slots.UseSlot.TheVariants.{Free as FreeSlot, Running, Dead}
-use Rattle.sva_tables.specs.declared.taken_table.Taken.{Taken}
-use Rattle.sva_tables.specs.declared.groups.GroupPlace.{GroupPlace}
-use Rattle.sva_tables.specs.declared.groups.GroupPlace.TheVariants.{Free as NoGroup, Collecting, Out as GroupOut, Stale}
+use Rattle.sva_endpoint.specs.declared.pasid_states.PasidState.{PasidState}
+use Rattle.sva_endpoint.specs.declared.pasid_states.PasidState.TheVariants.{Off, On, Stopping}
+use Rattle.sva_endpoint.specs.declared.coverage.Invalidation.{Invalidation}
+use Rattle.sva_endpoint.specs.declared.cached.Translation.{Translation}
+use Rattle.sva_endpoint.specs.declared.request_tags.RequestTag.{RequestTag}
+use Rattle.sva_endpoint.specs.declared.request_tags.RequestTag.TheVariants.{Free, Out, Doomed}
+use Rattle.sva_endpoint.specs.declared.use_slots.UseSlot.{UseSlot}
+use Rattle.sva_endpoint.specs.declared.use_slots.UseSlot.TheVariants.{Free as FreeSlot, Running, Dead}
+use Rattle.sva_endpoint.specs.declared.taken_table.Taken.{Taken}
+use Rattle.sva_endpoint.specs.declared.groups.GroupPlace.{GroupPlace}
+use Rattle.sva_endpoint.specs.declared.groups.GroupPlace.TheVariants.{Free as NoGroup, Collecting, Out as GroupOut, Stale}
 use Rattle.sva_endpoint.specs.declared.permitted.Fault.{Fault}
-use Rattle.sva_cache.specs.Coverage.{covers}
+use Rattle.sva_endpoint.specs.Coverage.{covers}
 use Rattle.sva_msg.specs.Extents.{extent_of}
-use Rattle.sva_cache.specs.Cache.{Key, Translations, key_cmp, key_cmp_total, has_room_for}
-use Rattle.sva_tables.specs.PasidStates.{state_of}
-use Rattle.sva_tables.specs.RequestTags.{request_at, doomed_by}
-use Rattle.sva_tables.specs.UseSlots.{slot_at, is_free as is_free_slot, runs_covered, cut_off}
+use Rattle.sva_endpoint.specs.Cache.{Key, Translations, key_cmp, key_cmp_total, has_room_for}
+use Rattle.sva_endpoint.specs.PasidStates.{state_of}
+use Rattle.sva_endpoint.specs.RequestTags.{request_at, doomed_by}
+use Rattle.sva_endpoint.specs.UseSlots.{slot_at, is_free as is_free_slot, runs_covered, cut_off}
 use Rattle.sva_itags.specs.Vector.{is_named}
-use Rattle.sva_tables.specs.Taken.{without_note}
-use Rattle.sva_tables.specs.Groups.{is_free, group_at, group_of, with_request, requests_of, outstanding, stale_of, HaveRequests}
+use Rattle.sva_endpoint.specs.Taken.{without_note}
+use Rattle.sva_endpoint.specs.Groups.{is_free, group_at, group_of, with_request, requests_of, outstanding, stale_of, HaveRequests}
 use Rattle.sva_endpoint.specs.Tables.{Tables, fresh}
 use Rattle.sva_endpoint.specs.Steps.{lowest_slot, refusals_of_use, refusals_of_fault, index_for, group_after}
 use Rattle.sva_endpoint.specs.Deliveries.{after_invalidate, after_receive, cache_after}
 use Rattle.sva_endpoint.specs.Calls.{Call, Ask, BeginUse, EndUse, Evict, SendFault, Finish, Quit, Receive, is_permitted, after, run, ArePermitted}
 use Rattle.sva_endpoint.specs.Laws.{NotesRun, IsSound, AlwaysSound}
-use Rattle.sva_cache.proofs.Facts.{len-retain_keys-le}
-use Rattle.sva_tables.proofs.GroupFacts.{outstanding-stale_of, HaveRequests-replicate, HaveRequests-set, HaveRequests-at, HaveRequests-stale_of}
-use Rattle.sva_tables.proofs.GroupFacts.{requests_of-group_of, requests_of-with_request, index_with_credit}
-use Rattle.sva_tables.proofs.TakenFacts.{get_or-without_named}
+use Rattle.sva_endpoint.proofs.Facts.{len-retain_keys-le}
+use Rattle.sva_endpoint.proofs.GroupFacts.{outstanding-stale_of, HaveRequests-replicate, HaveRequests-set, HaveRequests-at, HaveRequests-stale_of}
+use Rattle.sva_endpoint.proofs.GroupFacts.{requests_of-group_of, requests_of-with_request, index_with_credit}
+use Rattle.sva_endpoint.proofs.TakenFacts.{get_or-without_named}
 use Rattle.sva_endpoint.proofs.CallFacts.{are_clear, lowest}
 use Rattle.sva_endpoint.proofs.TagLaws.{clash}
 use Rattle.sva_endpoint.proofs.NoteLaws.{set_false as get_or-set_false}

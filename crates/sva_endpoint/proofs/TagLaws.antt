@@ -7,13 +7,13 @@ use Rattle.sva_step.specs.declared.answers.Answer.TheVariants.{Dropped}
 use Rattle.sva_msg.specs.declared.messages.Scope.{Scope}
 use Rattle.sva_msg.specs.declared.messages.Kind.{Kind}
 use Rattle.sva_msg.specs.declared.messages.Kind.TheVariants.{Reset, Completion, Invalidate}
-use Rattle.sva_cache.specs.declared.coverage.Invalidation.{Invalidation}
-use Rattle.sva_tables.specs.declared.request_tags.RequestTag.{RequestTag}
-use Rattle.sva_tables.specs.declared.request_tags.RequestTag.TheVariants.{Free, Out, Doomed}
+use Rattle.sva_endpoint.specs.declared.coverage.Invalidation.{Invalidation}
+use Rattle.sva_endpoint.specs.declared.request_tags.RequestTag.{RequestTag}
+use Rattle.sva_endpoint.specs.declared.request_tags.RequestTag.TheVariants.{Free, Out, Doomed}
 use Rattle.sva_msg.specs.declared.extents.Extent.{Extent}
-use Rattle.sva_cache.specs.Coverage.{covers}
+use Rattle.sva_endpoint.specs.Coverage.{covers}
 use Rattle.sva_msg.specs.Extents.{extent_of}
-use Rattle.sva_tables.specs.RequestTags.{request_at, is_free, doomed_by}
+use Rattle.sva_endpoint.specs.RequestTags.{request_at, is_free, doomed_by}
 use Rattle.sva_endpoint.specs.Tables.{Tables}
 use Rattle.sva_endpoint.specs.Steps.{lowest_tag, refusals_of_ask}
 use Rattle.sva_endpoint.specs.Deliveries.{after_receive, after_invalidate, answer_to, answer_to_completion, cache_after}

@@ -5,9 +5,9 @@ use Rattle.std.proofs.lemmas.Bool.{eqb-false}
 use Rattle.sva_msg.specs.declared.messages.Kind.{Kind}
 use Rattle.sva_msg.specs.declared.messages.Kind.TheVariants.{Reset}
 use Rattle.sva_step.specs.declared.refusals.Refusal.TheVariants.{NoSuchUse}
-use Rattle.sva_tables.specs.declared.use_slots.UseSlot.{UseSlot}
-use Rattle.sva_tables.specs.declared.use_slots.UseSlot.TheVariants.{Free, Running, Dead}
-use Rattle.sva_tables.specs.UseSlots.{slot_at, is_free, cut_off}
+use Rattle.sva_endpoint.specs.declared.use_slots.UseSlot.{UseSlot}
+use Rattle.sva_endpoint.specs.declared.use_slots.UseSlot.TheVariants.{Free, Running, Dead}
+use Rattle.sva_endpoint.specs.UseSlots.{slot_at, is_free, cut_off}
 use Rattle.sva_endpoint.specs.Tables.{Tables}
 use Rattle.sva_endpoint.specs.Steps.{lowest_slot, refusals_of_use, end_of}
 use Rattle.sva_model.specs.Refusals.{unless_refused}

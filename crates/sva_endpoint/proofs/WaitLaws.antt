@@ -10,14 +10,14 @@ use Rattle.std.proofs.lemmas.List.Folds.{list_any_at}
 use Rattle.std.proofs.lemmas.List.FromFn.{length-enumerate_from, get_or-enumerate_from}
 use Rattle.sva_msg.specs.declared.messages.Kind.{Kind}
 use Rattle.sva_msg.specs.declared.messages.Kind.TheVariants.{Reset, Invalidate}
-use Rattle.sva_cache.specs.declared.coverage.Invalidation.{Invalidation}
-use Rattle.sva_cache.specs.Coverage.{covers}
-use Rattle.sva_tables.specs.declared.use_slots.Use.{Use}
-use Rattle.sva_tables.specs.declared.use_slots.UseSlot.TheVariants.{Free, Running}
-use Rattle.sva_tables.specs.declared.taken_table.Taken.{Taken}
-use Rattle.sva_tables.specs.UseSlots.{slot_at, is_free, runs_covered}
+use Rattle.sva_endpoint.specs.declared.coverage.Invalidation.{Invalidation}
+use Rattle.sva_endpoint.specs.Coverage.{covers}
+use Rattle.sva_endpoint.specs.declared.use_slots.Use.{Use}
+use Rattle.sva_endpoint.specs.declared.use_slots.UseSlot.TheVariants.{Free, Running}
+use Rattle.sva_endpoint.specs.declared.taken_table.Taken.{Taken}
+use Rattle.sva_endpoint.specs.UseSlots.{slot_at, is_free, runs_covered}
 use Rattle.sva_itags.specs.Vector.{is_named}
-use Rattle.sva_tables.specs.Taken.{waits, is_one_waiting, without_note}
+use Rattle.sva_endpoint.specs.Taken.{waits, is_one_waiting, without_note}
 use Rattle.sva_endpoint.specs.Tables.{Tables}
 use Rattle.sva_endpoint.specs.Steps.{lowest_slot, finishing, refusals_of_use, refusals_of_finish}
 use Rattle.sva_endpoint.specs.Deliveries.{after_receive, after_invalidate}
@@ -25,7 +25,7 @@ use Rattle.sva_endpoint.specs.Calls.{Call, BeginUse, EndUse, Finish, Receive, is
 use Rattle.sva_endpoint.specs.Laws.{is_noted, takes_itag, ends_wait, FinishWaits}
 use Rattle.sva_endpoint.proofs.CallFacts.{are_clear, lowest, lasts}
 use Rattle.sva_endpoint.proofs.TagLaws.{clash, told_is}
-use Rattle.sva_tables.proofs.TakenFacts.{get_or-without_named}
+use Rattle.sva_endpoint.proofs.TakenFacts.{get_or-without_named}
 
 some_noted : (noted : List Bool) (slot : ℕ) → get_or noted slot false ≡ true → list_any (λ b. b) noted ≡ true
 some_noted noted slot is = elim (cases_lt slot (length noted)) [

@@ -8,18 +8,18 @@ use Rattle.sva_msg.specs.declared.messages.Kind.{Kind}
 use Rattle.sva_msg.specs.declared.messages.Kind.TheVariants.{Start, Stop, Reset, Completion, Invalidate, Response}
 use Rattle.sva_msg.specs.declared.messages.Code.{Code}
 use Rattle.sva_msg.specs.declared.messages.Code.TheVariants.{Success, InvalidRequest, ResponseFailure}
-use Rattle.sva_tables.specs.declared.pasid_states.PasidState.TheVariants.{On, Stopping}
-use Rattle.sva_tables.specs.declared.request_tags.RequestTag.{RequestTag}
-use Rattle.sva_tables.specs.declared.request_tags.RequestTag.TheVariants.{Free, Out, Doomed}
-use Rattle.sva_tables.specs.declared.groups.GroupPlace.{GroupPlace}
-use Rattle.sva_tables.specs.declared.groups.GroupPlace.TheVariants.{Free as NoGroup, Collecting, Out as GroupOut, Stale}
-use Rattle.sva_cache.specs.declared.coverage.Invalidation.{Invalidation}
+use Rattle.sva_endpoint.specs.declared.pasid_states.PasidState.TheVariants.{On, Stopping}
+use Rattle.sva_endpoint.specs.declared.request_tags.RequestTag.{RequestTag}
+use Rattle.sva_endpoint.specs.declared.request_tags.RequestTag.TheVariants.{Free, Out, Doomed}
+use Rattle.sva_endpoint.specs.declared.groups.GroupPlace.{GroupPlace}
+use Rattle.sva_endpoint.specs.declared.groups.GroupPlace.TheVariants.{Free as NoGroup, Collecting, Out as GroupOut, Stale}
+use Rattle.sva_endpoint.specs.declared.coverage.Invalidation.{Invalidation}
 use Rattle.sva_msg.specs.Extents.{extent_of}
-use Rattle.sva_cache.specs.Cache.{Translations, has_room_for, without_covered}
-use Rattle.sva_tables.specs.PasidStates.{with_state}
-use Rattle.sva_tables.specs.RequestTags.{request_at, doomed_by}
-use Rattle.sva_tables.specs.UseSlots.{cut_off, runs_covered}
-use Rattle.sva_tables.specs.Groups.{group_at}
+use Rattle.sva_endpoint.specs.Cache.{Translations, has_room_for, without_covered}
+use Rattle.sva_endpoint.specs.PasidStates.{with_state}
+use Rattle.sva_endpoint.specs.RequestTags.{request_at, doomed_by}
+use Rattle.sva_endpoint.specs.UseSlots.{cut_off, runs_covered}
+use Rattle.sva_endpoint.specs.Groups.{group_at}
 use Rattle.sva_endpoint.specs.Tables.{Tables, fresh}
 
 -- ---- a translation completion, by the request that bore its tag

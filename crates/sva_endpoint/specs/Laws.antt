@@ -9,22 +9,22 @@ use Rattle.sva_step.specs.declared.refusals.Refusal.TheVariants.{InUse}
 use Rattle.sva_msg.specs.declared.messages.Scope.{Scope}
 use Rattle.sva_msg.specs.declared.messages.Kind.{Kind}
 use Rattle.sva_msg.specs.declared.messages.Kind.TheVariants.{Reset, Completion, Invalidate, Response}
-use Rattle.sva_tables.specs.declared.pasid_states.PasidState.TheVariants.{Off}
-use Rattle.sva_cache.specs.declared.coverage.Invalidation.{Invalidation}
-use Rattle.sva_tables.specs.declared.request_tags.RequestTag.{RequestTag}
-use Rattle.sva_tables.specs.declared.request_tags.RequestTag.TheVariants.{Free, Out, Doomed}
-use Rattle.sva_tables.specs.declared.use_slots.Use.{Use}
-use Rattle.sva_tables.specs.declared.use_slots.UseSlot.TheVariants.{Running, Dead as DeadUse}
-use Rattle.sva_tables.specs.declared.taken_table.Taken.{Taken}
-use Rattle.sva_tables.specs.declared.groups.GroupPlace.{GroupPlace}
-use Rattle.sva_tables.specs.declared.groups.GroupPlace.TheVariants.{Free as NoGroup, Collecting, Out as GroupOut, Stale}
-use Rattle.sva_cache.specs.Coverage.{covers}
+use Rattle.sva_endpoint.specs.declared.pasid_states.PasidState.TheVariants.{Off}
+use Rattle.sva_endpoint.specs.declared.coverage.Invalidation.{Invalidation}
+use Rattle.sva_endpoint.specs.declared.request_tags.RequestTag.{RequestTag}
+use Rattle.sva_endpoint.specs.declared.request_tags.RequestTag.TheVariants.{Free, Out, Doomed}
+use Rattle.sva_endpoint.specs.declared.use_slots.Use.{Use}
+use Rattle.sva_endpoint.specs.declared.use_slots.UseSlot.TheVariants.{Running, Dead as DeadUse}
+use Rattle.sva_endpoint.specs.declared.taken_table.Taken.{Taken}
+use Rattle.sva_endpoint.specs.declared.groups.GroupPlace.{GroupPlace}
+use Rattle.sva_endpoint.specs.declared.groups.GroupPlace.TheVariants.{Free as NoGroup, Collecting, Out as GroupOut, Stale}
+use Rattle.sva_endpoint.specs.Coverage.{covers}
 use Rattle.sva_msg.specs.Extents.{extent_of}
-use Rattle.sva_tables.specs.PasidStates.{state_of}
-use Rattle.sva_tables.specs.RequestTags.{request_at}
-use Rattle.sva_tables.specs.UseSlots.{slot_at, is_free as is_free_slot, runs_covered}
+use Rattle.sva_endpoint.specs.PasidStates.{state_of}
+use Rattle.sva_endpoint.specs.RequestTags.{request_at}
+use Rattle.sva_endpoint.specs.UseSlots.{slot_at, is_free as is_free_slot, runs_covered}
 use Rattle.sva_itags.specs.Vector.{is_named}
-use Rattle.sva_tables.specs.Groups.{is_free, group_at, outstanding, HaveRequests}
+use Rattle.sva_endpoint.specs.Groups.{is_free, group_at, outstanding, HaveRequests}
 use Rattle.sva_endpoint.specs.Tables.{Tables, fresh}
 use Rattle.sva_endpoint.specs.Steps.{ending, finishing}
 use Rattle.sva_endpoint.specs.Deliveries.{answer_to}

@@ -1,3 +1,10 @@
+pub mod Cache
+pub mod Coverage
+pub mod Groups
+pub mod PasidStates
+pub mod RequestTags
+pub mod Taken
+pub mod UseSlots
 pub mod Calls
 pub mod Deliveries
 pub mod Laws

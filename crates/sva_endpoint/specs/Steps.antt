@@ -11,25 +11,25 @@ use Rattle.sva_step.specs.declared.refusals.Refusal.TheVariants.{NoSuchGroup, Pr
 use Rattle.sva_step.specs.declared.answers.Answer.{Answer}
 use Rattle.sva_step.specs.declared.answers.Answer.TheVariants.{Ended, Dead}
 use Rattle.sva_model.specs.Refusals.{Cause, unless_refused}
-use Rattle.sva_tables.specs.declared.pasid_states.PasidState.{PasidState}
-use Rattle.sva_tables.specs.declared.pasid_states.PasidState.TheVariants.{Off}
-use Rattle.sva_cache.specs.declared.cached.Translation.{Translation}
-use Rattle.sva_tables.specs.declared.request_tags.RequestTag.TheVariants.{Out}
-use Rattle.sva_tables.specs.declared.use_slots.Use.{Use}
-use Rattle.sva_tables.specs.declared.use_slots.UseSlot.{UseSlot}
-use Rattle.sva_tables.specs.declared.use_slots.UseSlot.TheVariants.{Free as FreeSlot, Running, Dead as DeadUse}
-use Rattle.sva_tables.specs.declared.groups.GroupPlace.{GroupPlace}
+use Rattle.sva_endpoint.specs.declared.pasid_states.PasidState.{PasidState}
+use Rattle.sva_endpoint.specs.declared.pasid_states.PasidState.TheVariants.{Off}
+use Rattle.sva_endpoint.specs.declared.cached.Translation.{Translation}
+use Rattle.sva_endpoint.specs.declared.request_tags.RequestTag.TheVariants.{Out}
+use Rattle.sva_endpoint.specs.declared.use_slots.Use.{Use}
+use Rattle.sva_endpoint.specs.declared.use_slots.UseSlot.{UseSlot}
+use Rattle.sva_endpoint.specs.declared.use_slots.UseSlot.TheVariants.{Free as FreeSlot, Running, Dead as DeadUse}
+use Rattle.sva_endpoint.specs.declared.groups.GroupPlace.{GroupPlace}
 use Rattle.sva_endpoint.specs.declared.permitted.Asking.{Asking}
 use Rattle.sva_endpoint.specs.declared.permitted.Using.{Using}
 use Rattle.sva_endpoint.specs.declared.permitted.Fault.{Fault}
 use Rattle.sva_endpoint.specs.declared.permitted.Faulting.{Faulting}
 use Rattle.sva_endpoint.specs.declared.permitted.Finishing.{Finishing}
 use Rattle.sva_endpoint.specs.declared.permitted.Quitting.{Quitting}
-use Rattle.sva_tables.specs.PasidStates.{state_of, with_state, is_on, is_stopping, is_off}
-use Rattle.sva_tables.specs.RequestTags.{is_free as is_free_tag, asks_under}
-use Rattle.sva_tables.specs.UseSlots.{is_free as is_free_slot, slot_at, runs_under}
-use Rattle.sva_tables.specs.Taken.{are_pending, is_one_waiting, without_named, without_note}
-use Rattle.sva_tables.specs.Groups.{is_free as is_free_index, is_collecting, group_at, group_of, with_request, stale_of, outstanding}
+use Rattle.sva_endpoint.specs.PasidStates.{state_of, with_state, is_on, is_stopping, is_off}
+use Rattle.sva_endpoint.specs.RequestTags.{is_free as is_free_tag, asks_under}
+use Rattle.sva_endpoint.specs.UseSlots.{is_free as is_free_slot, slot_at, runs_under}
+use Rattle.sva_endpoint.specs.Taken.{are_pending, is_one_waiting, without_named, without_note}
+use Rattle.sva_endpoint.specs.Groups.{is_free as is_free_index, is_collecting, group_at, group_of, with_request, stale_of, outstanding}
 use Rattle.sva_endpoint.specs.Tables.{Tables}
 
 -- the number of a page is below 2^36

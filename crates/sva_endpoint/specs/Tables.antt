@@ -1,17 +1,17 @@
 -- What an endpoint keeps, by labels.
 use Rattle.std.specs.Prelude.{Bool, true, List, Option}
 use Rattle.std.specs.FinMap.{empty}
-use Rattle.sva_tables.specs.declared.pasid_states.PasidState.{PasidState}
-use Rattle.sva_tables.specs.declared.request_tags.RequestTag.{RequestTag}
-use Rattle.sva_tables.specs.declared.use_slots.UseSlot.{UseSlot}
-use Rattle.sva_tables.specs.declared.taken_table.Taken.{Taken}
-use Rattle.sva_tables.specs.declared.groups.GroupPlace.{GroupPlace}
-use Rattle.sva_cache.specs.Cache.{Translations}
-use Rattle.sva_tables.specs.PasidStates.{all_off}
-use Rattle.sva_tables.specs.RequestTags.{no_requests}
-use Rattle.sva_tables.specs.UseSlots.{no_uses}
-use Rattle.sva_tables.specs.Taken.{none_taken}
-use Rattle.sva_tables.specs.Groups.{no_groups}
+use Rattle.sva_endpoint.specs.declared.pasid_states.PasidState.{PasidState}
+use Rattle.sva_endpoint.specs.declared.request_tags.RequestTag.{RequestTag}
+use Rattle.sva_endpoint.specs.declared.use_slots.UseSlot.{UseSlot}
+use Rattle.sva_endpoint.specs.declared.taken_table.Taken.{Taken}
+use Rattle.sva_endpoint.specs.declared.groups.GroupPlace.{GroupPlace}
+use Rattle.sva_endpoint.specs.Cache.{Translations}
+use Rattle.sva_endpoint.specs.PasidStates.{all_off}
+use Rattle.sva_endpoint.specs.RequestTags.{no_requests}
+use Rattle.sva_endpoint.specs.UseSlots.{no_uses}
+use Rattle.sva_endpoint.specs.Taken.{none_taken}
+use Rattle.sva_endpoint.specs.Groups.{no_groups}
 
 -- all that an endpoint keeps: its labels with what bears each, its cache, and whether it may send page requests
 pub record Tables : Type 0 where

@@ -8,19 +8,21 @@ ghost use Rattle.sva_endpoint.specs.Steps.{may_send, faulting, MayFault, fault_o
 ghost use Rattle.sva_endpoint.specs.Steps.{finishing, MayFinish, after_finish, quitting, MayQuit, after_quit};
 ghost use Rattle.sva_endpoint.specs.Deliveries.{answer_to, after_receive, answer_to_completion, after_completion, after_invalidate};
 ghost use Rattle.sva_endpoint.specs.Deliveries.{answer_to_response, after_response};
-ghost use Rattle.sva_tables.specs.RequestTags.{request_at};
-ghost use Rattle.sva_tables.specs.Groups.{group_at};
+ghost use Rattle.sva_endpoint.specs.RequestTags.{request_at};
+ghost use Rattle.sva_endpoint.specs.Groups.{group_at};
 
+use crate::cached::{Cache, Translation};
+use crate::coverage::Invalidation;
+use crate::groups::{GroupPlace, GroupTable};
+use crate::pasid_states::{PasidState, PasidStates};
 use crate::permitted::{Asking, Fault, Faulting, Finishing, Quitting, Received, Using};
+use crate::request_tags::{RequestTag, RequestTags};
+use crate::taken_table::{Taken, TakenTable};
+use crate::use_slots::{Use, UseSlot, UseSlots};
 use std::marker::Model;
-use sva_cache::{Cache, Extent, Invalidation, Translation};
 use sva_itags::Count;
-use sva_msg::{Code, Kind, Message, PageRequest};
+use sva_msg::{Code, Extent, Kind, Message, PageRequest};
 use sva_step::{Answer, MOST_COMPLETIONS, PAGE_REQUESTS, PAGES, Refusal};
-use sva_tables::{
-    GroupPlace, GroupTable, PasidState, PasidStates, RequestTag, RequestTags, Taken, TakenTable,
-    Use, UseSlot, UseSlots,
-};
 
 /// An endpoint with address translation services, page requests and PASIDs (PCI Express Base 5.0, sections 10.2 to
 /// 10.5). It is seen as its tables, by labels. No call takes memory. Each step has a test, which changes nothing and
@@ -41,7 +43,7 @@ pub struct Endpoint {
 
 impl Model for Endpoint {
     ghost use Rattle.std.specs.Coded.{codes};
-    ghost use Rattle.sva_cache.specs.Cache.{translations_code};
+    ghost use Rattle.sva_endpoint.specs.Cache.{translations_code};
     ghost use Rattle.sva_endpoint.specs.Tables.{Tables};
 
     ghost Value = { Tables };

@@ -3,10 +3,10 @@
 ghost use Rattle.std.specs.Prelude.{◌≡◌};
 ghost use Rattle.sva_model.specs.StateChanges.{count_field};
 
+use crate::use_slots::Use;
 use sva_itags::Count;
 use sva_msg::{CountField, Kind, PageRequest};
 use sva_step::Answer;
-use sva_tables::Use;
 
 /// A translation request that an endpoint may send (PCI Express Base 5.0, section 10.2.2).
 #[derive(Clone, Copy, Debug, PartialEq, Eq)]

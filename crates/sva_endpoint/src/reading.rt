@@ -2,9 +2,13 @@
 
 ghost use Rattle.std.specs.Prelude.{◌≡◌};
 
+use crate::cached::Cache;
 use crate::device::Endpoint;
-use sva_cache::Cache;
-use sva_tables::{GroupPlace, PasidState, RequestTag, Taken, UseSlot};
+use crate::groups::GroupPlace;
+use crate::pasid_states::PasidState;
+use crate::request_tags::RequestTag;
+use crate::taken_table::Taken;
+use crate::use_slots::UseSlot;
 
 impl Endpoint {
     /// The states by PASID, of 0 to 32: there is no PASID 0, and its place is `Off`.

@@ -2,3 +2,8 @@ pub mod Standing
 pub mod Sums
 pub mod Once
 pub mod Calls
+pub mod Tries
+pub mod Ending
+pub mod Turns
+pub mod Working
+pub mod Asking

@@ -8,7 +8,7 @@ use Rattle.sva_step.specs.declared.steps.Step.{Step}
 use Rattle.sva_core.specs.declared.journal.Entry.{Entry}
 use Rattle.sva_core.specs.declared.receipts.Receipt.{Receipt}
 use Rattle.sva_core.specs.declared.running.Strayed.{Strayed}
-use Rattle.sva_lemmas.proofs.Lists.{get_before, get_end}
+use Rattle.sva_labels.proofs.Lists.{get_before, get_end}
 use Rattle.sva_core.proofs.TokenLemmas.{length_more}
 use Rattle.sva_core.specs.Journal.{History, IsLegal, CountsOf, entry_of, with_entry}
 use Rattle.sva_fabric.specs.Receipts.{PortState, AreRising, IsAnswered, IsCounted, IsAstray, last_of}

@@ -5,3 +5,8 @@ pub mod Once
 pub mod Tokens
 pub mod TokenNumbers
 pub mod FaultTexts
+pub mod Ends
+pub mod LoopTokens
+pub mod Plays
+pub mod Jobs
+pub mod Asks

@@ -1,5 +1,6 @@
-//! One world that several threads share under a lock, with a journal of what was asked and answered, and receipts that an audit
-//! compares with it. What lies under the lock is `sva_core`'s, and passed on from here.
+//! One world that several threads share under a lock, with a journal of what was asked and answered, and receipts that
+//! an audit compares with it; what lies under the lock is `sva_core`'s, and passed on from here. `loops`: what one
+//! thread does by its port, turn by turn.
 #![tactic(auto)]
 
 mod auditing;
@@ -9,6 +10,7 @@ mod fault_texts;
 mod faults;
 mod gathering;
 mod laws;
+mod loops;
 mod opening;
 mod port;
 mod ports;
@@ -19,6 +21,10 @@ pub use audits::{Audit, FirstBadReceipt};
 pub use fabric::Fabric;
 pub use faults::Fault;
 pub use laws::audits_tell_once;
+pub use loops::{
+    BindingTokens, Device, Ended, MOST_TICKETS, Pager, Spent, Tickets, answer_jobs, append_tickets,
+    endpoint_loop, fault_loop, host, link, play, service,
+};
 pub use port::Port;
 pub use ports::Ports;
 pub use sva_core::{

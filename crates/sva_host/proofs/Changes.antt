@@ -15,7 +15,7 @@ use Rattle.sva_labels.specs.Moves.{Move, moved, all_moved, with_part, with_devic
 use Rattle.sva_labels.specs.Moves.{descriptors_for, part_unmapped, pasid_or_0, cookie_at, target_by, targets_of, settled, settled_cookie, with_pasid}
 use Rattle.sva_labels.specs.Moves.{without_tag, kept, taking, ended, requested, stale_of, cleared, completed, without_named, cut_off_at, place_for, placed}
 use Rattle.sva_labels.specs.Moves.{is_between, unmapped}
-use Rattle.sva_lemmas.proofs.Lists.{tabulate_same}
+use Rattle.sva_labels.proofs.Lists.{tabulate_same}
 use Rattle.sva_host.specs.Seen.{JobTableWire, parts_with, serving}
 use Rattle.sva_host.proofs.Parts.{length_with, part_with, unit_with, LeavesGroups, changed_with, tabulated_with}
 

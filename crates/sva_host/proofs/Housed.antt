@@ -11,7 +11,7 @@ use Rattle.sva_labels.specs.Finding.{part_of, has_open_group}
 use Rattle.sva_labels.specs.Host.{Decision}
 use Rattle.sva_labels.specs.Moves.{Move, moved, all_moved, part_unmapped, is_of_job}
 use Rattle.sva_labels.specs.Sound.{IsSound}
-use Rattle.sva_lemmas.proofs.Lists.{tabulate_length}
+use Rattle.sva_labels.proofs.Lists.{tabulate_length}
 use Rattle.sva_host_state.specs.Steps.{Does}
 use Rattle.sva_msg.specs.declared.messages.PageRequest.{PageRequest}
 use Rattle.sva_prq.specs.Groups.{is_open}

@@ -1,3 +1,8 @@
+pub mod Reached
+pub use Rattle.sva_host_state.proofs.Bound
+pub use Rattle.sva_host_state.proofs.Deciding
+pub use Rattle.sva_host_state.proofs.Devices
+pub use Rattle.sva_host_state.proofs.Responses
 pub mod Parts
 pub mod Changes
 pub mod Decisions

@@ -5,7 +5,7 @@ use Rattle.std.proofs.lemmas.Bool.Decides.{nat_tests}
 use Rattle.sva_model.specs.Words.{tabulate}
 use Rattle.sva_model.specs.Wire.{EndpointWire, HostGroupWire}
 use Rattle.sva_labels.specs.Finding.{idle}
-use Rattle.sva_lemmas.proofs.Lists.{tabulate_length}
+use Rattle.sva_labels.proofs.Lists.{tabulate_length}
 use Rattle.sva_host.specs.Seen.{parts_with}
 
 pub length_with : (groups : ℕ → List HostGroupWire) (parts : List EndpointWire) → length (parts_with groups parts) ≡ length parts

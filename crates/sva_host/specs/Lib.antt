@@ -1,4 +1,6 @@
 pub use Rattle.sva_host_state.specs.Steps
+pub use Rattle.sva_host_state.specs.Arriving
+pub use Rattle.sva_host_state.specs.Replying
 pub use Rattle.sva_parts_by_labels.specs.Flights
 pub mod Seen
 pub mod Inner

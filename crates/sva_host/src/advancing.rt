@@ -20,6 +20,6 @@ impl Host {
         ensures memory { result ≢ Err refusal.OutOfMemory }
     {
         let groups_open = self.job_table.open_of(binding);
-        sva_host_bindings::advance(&mut self.state, binding, groups_open)
+        crate::bindings::advance(&mut self.state, binding, groups_open)
     }
 }

@@ -53,6 +53,6 @@ impl Host {
     pub fn counts(&self) -> Counts
         ensures { Counted self.now.places result }
     {
-        sva_host_spaces::counts(&self.state)
+        crate::spaces::counts(&self.state)
     }
 }

@@ -22,13 +22,13 @@ fn apply_for_pages(state: &mut HostState, step: &Step) -> Result<Answer, Refusal
             endpoint,
             pasid,
             page,
-        } => sva_host_endpoints::ask(state, endpoint, pasid, page),
+        } => crate::endpoints::ask(state, endpoint, pasid, page),
         Step::BeginUse {
             endpoint,
             pasid,
             page,
             write,
-        } => sva_host_endpoints::begin_use(state, endpoint, pasid, page, write),
+        } => crate::endpoints::begin_use(state, endpoint, pasid, page, write),
         Step::Fault {
             endpoint,
             pasid,
@@ -46,7 +46,7 @@ fn apply_for_pages(state: &mut HostState, step: &Step) -> Result<Answer, Refusal
                 group,
                 last,
             };
-            sva_host_endpoints::fault(state, endpoint, &fault)
+            crate::endpoints::fault(state, endpoint, &fault)
         }
         _ => unreachable!(),
     }
@@ -60,31 +60,31 @@ pub(crate) fn apply_at_host(state: &mut HostState, step: &Step) -> Result<Answer
     ensures memory { TakesNoMemory state.old step.now → result ≢ Err refusal.OutOfMemory }
 {
     match *step {
-        Step::Space => sva_host_spaces::space(state),
-        Step::DropSpace { space } => sva_host_spaces::drop_space(state, space),
-        Step::Map { space, page, write } => sva_host_spaces::map(state, space, page, write),
-        Step::Unmap { space, page, count } => sva_host_spaces::unmap(state, space, page, count),
-        Step::UnmapRange { space, page, order } => sva_host_spaces::unmap_range(
+        Step::Space => crate::spaces::space(state),
+        Step::DropSpace { space } => crate::spaces::drop_space(state, space),
+        Step::Map { space, page, write } => crate::spaces::map(state, space, page, write),
+        Step::Unmap { space, page, count } => crate::spaces::unmap(state, space, page, count),
+        Step::UnmapRange { space, page, order } => crate::spaces::unmap_range(
             state, space, page, order,
         ),
-        Step::Look { frame } => sva_host_spaces::look(state, frame),
-        Step::Bind { endpoint, space } => sva_host_bindings::bind(state, endpoint, space),
-        Step::Unbind { binding } => sva_host_bindings::unbind(state, binding),
-        Step::Bearer { pasid } => sva_host_bindings::bearer(state, pasid),
-        Step::Pump { endpoint } => sva_host_link::pump(state, endpoint),
-        Step::Deliver { message } => sva_host_link::deliver(state, message),
-        Step::EndUse { endpoint, slot } => sva_host_endpoints::end_use(state, endpoint, slot),
+        Step::Look { frame } => crate::spaces::look(state, frame),
+        Step::Bind { endpoint, space } => crate::bindings::bind(state, endpoint, space),
+        Step::Unbind { binding } => crate::bindings::unbind(state, binding),
+        Step::Bearer { pasid } => crate::bindings::bearer(state, pasid),
+        Step::Pump { endpoint } => crate::link::pump(state, endpoint),
+        Step::Deliver { message } => crate::link::deliver(state, message),
+        Step::EndUse { endpoint, slot } => crate::endpoints::end_use(state, endpoint, slot),
         Step::Evict {
             endpoint,
             pasid,
             page,
-        } => sva_host_endpoints::evict(state, endpoint, pasid, page),
+        } => crate::endpoints::evict(state, endpoint, pasid, page),
         Step::Finish {
             endpoint,
             vector,
             count,
-        } => sva_host_endpoints::finish(state, endpoint, vector, count),
-        Step::Quit { endpoint, pasid } => sva_host_endpoints::quit(state, endpoint, pasid),
+        } => crate::endpoints::finish(state, endpoint, vector, count),
+        Step::Quit { endpoint, pasid } => crate::endpoints::quit(state, endpoint, pasid),
         _ => apply_for_pages(state, step),
     }
 }

@@ -19,17 +19,17 @@ impl Host {
         ensures step { ByLabels self.old (step.Serve endpoint) result self.new }
         ensures memory { (part_of self.old endpoint).page_queue ≡ [] → result ≢ Err refusal.OutOfMemory }
     {
-        sva_host_spaces::may_serve(&self.state, endpoint)?;
-        let Some(request) = sva_host_spaces::first_request(&self.state, endpoint) else {
+        crate::spaces::may_serve(&self.state, endpoint)?;
+        let Some(request) = crate::spaces::first_request(&self.state, endpoint) else {
             return Ok(Answer::Empty);
         };
-        let Some(binding) = sva_host_spaces::bearer_at(&self.state, endpoint, request.pasid) else {
+        let Some(binding) = crate::spaces::bearer_at(&self.state, endpoint, request.pasid) else {
             unreachable!()
         };
         if self.job_table.reserve(endpoint).is_err() {
             return Err(Refusal::OutOfMemory);
         }
-        sva_host_spaces::take_request(&mut self.state, endpoint);
+        crate::spaces::take_request(&mut self.state, endpoint);
         if self.job_table.file(endpoint, binding, request) {
             Ok(Answer::Job)
         } else {

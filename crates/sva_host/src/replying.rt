@@ -30,7 +30,7 @@ impl Host {
         let Some(job) = self.job_table.held(hand) else {
             return Err(Refusal::NoJob);
         };
-        let answer = sva_host_spaces::respond(&mut self.state, job, verdict)?;
+        let answer = crate::spaces::respond(&mut self.state, job, verdict)?;
         self.job_table.let_go(hand);
         Ok(answer)
     }

@@ -14,7 +14,7 @@ impl Host {
     pub(crate) fn reset(&mut self, endpoint: u64) -> Result<Answer, Refusal>
         ensures { ByLabels self.old (step.Reset endpoint) result self.new }
     {
-        let answer = sva_host_link::reset(&mut self.state, endpoint)?;
+        let answer = crate::link::reset(&mut self.state, endpoint)?;
         self.job_table.drop_unit(endpoint);
         Ok(answer)
     }

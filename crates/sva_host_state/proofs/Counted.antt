@@ -6,7 +6,7 @@ use Rattle.sva_step.specs.declared.refusals.Refusal.TheVariants as refusal
 use Rattle.sva_step.specs.declared.steps.Step.TheVariants as step
 use Rattle.sva_model.specs.Labels.{is_set}
 use Rattle.sva_model.specs.Wire.{Wire, EndpointWire, UnitWire, FlightWire}
-use Rattle.sva_lemmas.proofs.Counting.{count_most}
+use Rattle.sva_labels.proofs.Counting.{count_most}
 use Rattle.sva_labels.specs.Finding.{unit_of, busy_at}
 use Rattle.sva_labels.specs.Causes.{deliver_causes}
 use Rattle.sva_labels.specs.Host.{Decision, checked, decide_of}

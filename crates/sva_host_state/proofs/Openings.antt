@@ -16,8 +16,8 @@ use Rattle.sva_endpoint.specs.Tables.{fresh}
 use Rattle.sva_endpoint.proofs.SoundLaws.{sound_fresh}
 use Rattle.sva_endpoint.specs.Laws.{IsSound}
 use Rattle.sva_pasid.specs.declared.places.TableEntry.{TableEntry}
-use Rattle.sva_cache.specs.declared.cached.Translation.{Translation}
-use Rattle.sva_cache.specs.Cache.{Key, Translations, key_cmp}
+use Rattle.sva_endpoint.specs.declared.cached.Translation.{Translation}
+use Rattle.sva_endpoint.specs.Cache.{Key, Translations, key_cmp}
 use Rattle.sva_parts_by_labels.specs.Device.{device_seen, translation_seen}
 use Rattle.sva_parts_by_labels.specs.Bindings.{bindings_seen}
 use Rattle.sva_parts_by_labels.specs.Flights.{flights_seen}

@@ -23,7 +23,7 @@ use Rattle.sva_labels.specs.Moves.{targets_of, target_by, cookie_at, with_pages,
 use Rattle.sva_labels.specs.Outcomes.{waits, result_of}
 use Rattle.sva_labels.specs.Sound.{IsSound, target_there, cookies_in}
 use Rattle.sva_labels.proofs.SoundRoom.{room_for_each}
-use Rattle.sva_lemmas.proofs.Lists.{tabulate_at, any_same}
+use Rattle.sva_labels.proofs.Lists.{tabulate_at, any_same}
 use Rattle.sva_address_spaces.specs.Room.{HasRoom, HaveRoom}
 use Rattle.sva_address_spaces.specs.Seen.{AddressSpacesSeen, target_seen, targets_seen}
 use Rattle.sva_address_spaces.specs.Pieces.{verdict}

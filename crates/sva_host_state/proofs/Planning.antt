@@ -13,10 +13,10 @@ use Rattle.sva_model.specs.Wire.{Wire, TargetWire}
 use Rattle.sva_labels.specs.Finding.{submits, submits_by, is_before_invalidating, has_room, unit_of, bound_at}
 use Rattle.sva_labels.specs.Causes.{lacks, waits_needed}
 use Rattle.sva_labels.specs.Moves.{target_by, target_by_stage, cookie_at, pasid_or_0}
-use Rattle.sva_lemmas.proofs.Tests.{first_alone}
-use Rattle.sva_lemmas.proofs.Words.{ℕ_cases, any_below-intro}
-use Rattle.sva_lemmas.proofs.Counting.{count_most}
-use Rattle.sva_lemmas.proofs.Lists.{tabulate_same, tabulate_length, tabulate_at, tabulate_set}
+use Rattle.sva_labels.proofs.Tests.{first_alone}
+use Rattle.sva_labels.proofs.Words.{ℕ_cases, any_below-intro}
+use Rattle.sva_labels.proofs.Counting.{count_most}
+use Rattle.sva_labels.proofs.Lists.{tabulate_same, tabulate_length, tabulate_at, tabulate_set}
 use Rattle.sva_address_spaces.specs.Pieces.{verdict}
 use Rattle.sva_address_spaces.specs.Seen.{target_seen, targets_seen}
 use Rattle.sva_pasid.specs.declared.places.TableEntry.{TableEntry}

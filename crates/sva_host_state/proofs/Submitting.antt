@@ -8,10 +8,10 @@ use Rattle.sva_model.specs.Wire.{Wire, BindingWire, UnitWire}
 use Rattle.sva_labels.specs.Finding.{submits, submits_by, is_before_invalidating, has_room, unit_of, part_of, bound_at, idle}
 use Rattle.sva_labels.specs.Moves.{part_unmapped, cookie_at, pasid_or_0, descriptors_for, with_descriptors}
 use Rattle.sva_labels.specs.Causes.{waits_needed}
-use Rattle.sva_lemmas.proofs.Tests.{first_holds, second_holds_too}
-use Rattle.sva_lemmas.proofs.Words.{ℕ_cases, any_below-false}
-use Rattle.sva_lemmas.proofs.Counting.{count_strict}
-use Rattle.sva_lemmas.proofs.Lists.{tabulate_first, tabulate_same, tabulate_length, tabulate_at, tabulate_set}
+use Rattle.sva_labels.proofs.Tests.{first_holds, second_holds_too}
+use Rattle.sva_labels.proofs.Words.{ℕ_cases, any_below-false}
+use Rattle.sva_labels.proofs.Counting.{count_strict}
+use Rattle.sva_labels.proofs.Lists.{tabulate_first, tabulate_same, tabulate_length, tabulate_at, tabulate_set}
 use Rattle.sva_iommu.specs.Seen as seen
 use Rattle.sva_host_state.specs.declared.host_state.Port.{Port}
 use Rattle.sva_host_state.specs.declared.host_state.HostState.TheInside.{Inside as HostState}

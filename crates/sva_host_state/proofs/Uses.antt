@@ -15,7 +15,7 @@ use Rattle.sva_labels.specs.Host.{Decision, checked, decide_of}
 use Rattle.sva_labels.specs.Moves as moves
 use Rattle.sva_labels.specs.Moves.{Move}
 use Rattle.sva_labels.specs.Outcomes.{by_one, label, begin_result, end_answer, result_of}
-use Rattle.sva_tables.specs.UseSlots.{slot_at}
+use Rattle.sva_endpoint.specs.UseSlots.{slot_at}
 use Rattle.sva_endpoint.specs.declared.permitted.Using.{Using}
 use Rattle.sva_endpoint.specs.Tables.{Tables}
 use Rattle.sva_endpoint.specs.Steps.{refusals_of_use, using, use_of, lowest_slot, after_begin_use, refusals_of_end, end_of, ending}

@@ -13,8 +13,8 @@ use Rattle.sva_itags.specs.declared.itags.Busy.TheVariants as place
 use Rattle.sva_model.specs.Words.{tabulate, count_below}
 use Rattle.sva_model.specs.Labels.{is_set}
 use Rattle.sva_model.specs.Wire.{BusyWire}
-use Rattle.sva_lemmas.proofs.Counting.{count_same}
-use Rattle.sva_lemmas.proofs.Lists.{tabulate_first, tabulate_same}
+use Rattle.sva_labels.proofs.Counting.{count_same}
+use Rattle.sva_labels.proofs.Lists.{tabulate_first, tabulate_same}
 use Rattle.sva_labels.specs.Moves.{completed, counting, one_more}
 use Rattle.sva_labels.specs.Outcomes.{is_last_of}
 use Rattle.sva_msg.specs.declared.messages.PageRequest.{PageRequest}

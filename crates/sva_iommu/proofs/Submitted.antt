@@ -11,7 +11,7 @@ use Rattle.sva_model.specs.Range as model
 use Rattle.sva_model.specs.Unmappings.{range_at}
 use Rattle.sva_model.specs.Wire.Descriptor.{RangeDescriptor, WaitDescriptor}
 use Rattle.sva_labels.specs.Moves.{descriptors_for}
-use Rattle.sva_lemmas.proofs.Lists.{tabulate_length}
+use Rattle.sva_labels.proofs.Lists.{tabulate_length}
 use Rattle.sva_iommu.specs.Seen.{descriptor_seen, ranges_for, orders_for}
 
 -- ranges by their number

@@ -8,12 +8,12 @@ use Rattle.std.proofs.lemmas.Map.Made.{length-remove_key}
 use Rattle.std.proofs.lemmas.Option.{get_or_from_slice_get}
 use Rattle.std.proofs.lemmas.Bool.Decides.{nat_tests}
 use Rattle.std.proofs.lemmas.Bool.{and_from, eqb-true, ltb-true, or_right}
-use Rattle.sva_lemmas.proofs.Tests.{first_holds, is_itself}
+use Rattle.sva_labels.proofs.Tests.{first_holds, is_itself}
 use Rattle.sva_model.specs.Wire.{Wire, BindingWire, StageWire, PlaceWire, TargetWire, Descriptor, UnitWire}
 use Rattle.sva_model.specs.Wire.TargetWire.{Cookie, ResetEnd}
 use Rattle.sva_model.specs.Wire.StageWire.{LiveWire, StoppingWire, DrainingWire, InvalidatingWire, QuietWire, LostWire}
 use Rattle.sva_model.specs.Wire.Descriptor.{RangeDescriptor, PasidDescriptor, WaitDescriptor}
-use Rattle.sva_lemmas.proofs.Lists.{tabulate_at, tabulate_past}
+use Rattle.sva_labels.proofs.Lists.{tabulate_at, tabulate_past}
 use Rattle.sva_labels.specs.Finding.{unit_of, bound_at, is_wait_done, has_room, submits, submits_by, is_before_invalidating}
 use Rattle.sva_labels.specs.Moves.{targets_of, target_by, target_by_stage, cookie_at}
 use Rattle.sva_labels.specs.Sound.{IsSound, HasWait, target_there, cookies_in, awaited_at}

@@ -28,8 +28,8 @@ use Rattle.sva_model.specs.Wire.PlaceWire.{FreeWire, MappedWire, WithheldWire}
 use Rattle.sva_model.specs.Wire.StageWire.{LiveWire, StoppingWire, DrainingWire, InvalidatingWire, QuietWire, LostWire}
 use Rattle.sva_model.specs.Wire.UseWire.{RunningWire, DeadWire}
 use Rattle.sva_model.specs.Wire.Descriptor.{RangeDescriptor, PasidDescriptor, WaitDescriptor}
-use Rattle.sva_lemmas.proofs.Steps.{Passed}
-use Rattle.sva_lemmas.proofs.Tests.{is_less}
+use Rattle.sva_labels.proofs.Steps.{Passed}
+use Rattle.sva_labels.proofs.Tests.{is_less}
 use Rattle.sva_labels.specs.Finding.{part_of, device_of, unit_of, bearer, binding_of, held_by, flight_of, lowest_label, cached, use_at, tag_at, group_at}
 use Rattle.sva_labels.specs.Finding.{pages_in, frames_of, free_from, idle}
 use Rattle.sva_labels.specs.Replying.{response_to, replies_success, newly_mapped, space_of_job}

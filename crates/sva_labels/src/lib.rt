@@ -1,4 +1,5 @@
-//! Every step by numbers and labels, as a host takes them that keeps no names: definitions, and what the calls of the parts need.
+//! General lemmas, on which both halves of the proof stand (proofs/), and every step by numbers and labels, as a host
+//! takes them that keeps no names: definitions, and what the calls of the parts need.
 #![tactic(auto)]
 
 ghost use Rattle.sva_labels.specs.Waiting.{FiledInTurn};

@@ -23,7 +23,7 @@ use Rattle.sva_model.specs.Outcomes.{serve_outcome, file_outcome, reply_outcome,
 use Rattle.sva_model.specs.Outcomes.{keep_outcome, is_full, request_outcome, count_outcome, page_request_outcome, marker_outcome}
 use Rattle.sva_model.specs.States.{is_open}
 use Rattle.sva_model.specs.Steps.{checked, decide, after_acts}
-use Rattle.sva_lemmas.proofs.Words.{put-same, put-other, ℕ_cases}
+use Rattle.sva_labels.proofs.Words.{put-same, put-other, ℕ_cases}
 use Rattle.sva_laws.proofs.Invariant.{Invariant}
 use Rattle.sva_laws.proofs.Keeps.{act_keeps}
 use Rattle.sva_laws.proofs.Passed.{LegalAll}

@@ -15,7 +15,7 @@ use Rattle.sva_model.specs.States.{place_by, place_of_gone}
 use Rattle.sva_model.specs.States.Place.{Mapped, Withheld}
 use Rattle.sva_model.specs.Claims.{Usable, IsPresent, IsAt, IsMapped, IsBearer, HasSentMarker, IsMatched, asker_of}
 use Rattle.sva_model.specs.Claims.Usable.{cached, in_use, under_way}
-use Rattle.sva_lemmas.proofs.Words.{all_below-false}
+use Rattle.sva_labels.proofs.Words.{all_below-false}
 use Rattle.sva_laws.proofs.Bindings.{Bindings, is_unmarked, before_unreleased, unmarked_not_invalidating, unmarked_unreleased}
 use Rattle.sva_laws.proofs.Labels.{Labels}
 use Rattle.sva_laws.proofs.Orders.{is_active, active_unreleased}

@@ -12,7 +12,7 @@ use Rattle.sva_model.specs.Acts.{act_alone, LocalAct}
 use Rattle.sva_laws.proofs.Legal.{LegalLocalAct}
 use Rattle.sva_laws.proofs.Bounds.{Bounds}
 use Rattle.sva_laws.proofs.Orders.{SentOnly}
-use Rattle.sva_lemmas.proofs.Words.{all_below-true, all_below-intro}
+use Rattle.sva_labels.proofs.Words.{all_below-true, all_below-intro}
 
 all_below-more : (n : ℕ) (p q : ℕ → Bool) → ((j : ℕ) → p j ≡ true → q j ≡ true) → all_below n p ≡ true → all_below n q ≡ true
 all_below-more n p q f h = all_below-intro n q (λ j l. f j (all_below-true n p h j l))

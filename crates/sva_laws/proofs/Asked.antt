@@ -26,12 +26,12 @@ use Rattle.sva_model.specs.Replies.{is_success, response, code_of_verdict}
 use Rattle.sva_model.specs.Outcomes.{outcome, reply_outcome}
 use Rattle.sva_model.specs.Steps.{reply, after_acts, world_after}
 use Rattle.sva_laws.specs.Asked.{IsAskedFor, IsAskedToWrite, MapsWhatIsAsked, RepliesBy, stage_of}
-use Rattle.sva_lemmas.proofs.Words.{put-same, put-other, ℕ_cases}
-use Rattle.sva_lemmas.proofs.Counting.{length_select}
+use Rattle.sva_labels.proofs.Words.{put-same, put-other, ℕ_cases}
+use Rattle.sva_labels.proofs.Counting.{length_select}
 use Rattle.sva_laws.proofs.Lookback.{after_one}
 use Rattle.sva_laws.proofs.Told.{accepted}
 use Rattle.sva_laws.proofs.Resets.{open_is, closed_is}
-use Rattle.sva_lemmas.proofs.Tests.{first_holds, second_holds, other_fails}
+use Rattle.sva_labels.proofs.Tests.{first_holds, second_holds, other_fails}
 
 -- What a list has.
 

@@ -16,9 +16,9 @@ use Rattle.sva_model.specs.Labels
 use Rattle.sva_model.specs.Outcomes.{says, bearer_answer}
 use Rattle.sva_model.specs.Steps.{Reply, checked, reply, world_after}
 use Rattle.sva_laws.specs.Bearers.{Bears, bears, bearers, IsBorneSo, TellsBearer}
-use Rattle.sva_lemmas.proofs.Words.{put-same, put-other, some_the, lowest_below, any_below-false, any_below-true}
-use Rattle.sva_lemmas.proofs.Counting.{count_off}
-use Rattle.sva_lemmas.proofs.Tests.{first_holds, second_holds}
+use Rattle.sva_labels.proofs.Words.{put-same, put-other, some_the, lowest_below, any_below-false, any_below-true}
+use Rattle.sva_labels.proofs.Counting.{count_off}
+use Rattle.sva_labels.proofs.Tests.{first_holds, second_holds}
 use Rattle.sva_laws.proofs.Invariant.{Invariant}
 use Rattle.sva_laws.proofs.Passed.{unreleased_made, unreleased_bound}
 use Rattle.sva_laws.proofs.Runs.{always}

@@ -19,8 +19,8 @@ use Rattle.sva_model.specs.Refusals.{Cause, refusals}
 use Rattle.sva_model.specs.Outcomes.{Outcome, outcome, advance_outcome}
 use Rattle.sva_model.specs.Steps.{Reply, checked, decide, reply, next, after_acts, world_after}
 use Rattle.sva_laws.specs.Steps.{unreleased, slots, bound_by, released_by, begun_by, ended_by, KeepsBooks}
-use Rattle.sva_lemmas.proofs.Words.{put-same, put-other, ℕ_cases}
-use Rattle.sva_lemmas.proofs.Counting.{bit, count_next, count_same, count_off}
+use Rattle.sva_labels.proofs.Words.{put-same, put-other, ℕ_cases}
+use Rattle.sva_labels.proofs.Counting.{bit, count_next, count_same, count_off}
 use Rattle.sva_laws.proofs.Legal.{LegalLocalAct}
 use Rattle.sva_laws.proofs.Invariant.{Invariant}
 use Rattle.sva_laws.proofs.Keeps.{Legal, act_keeps, put_keeps}

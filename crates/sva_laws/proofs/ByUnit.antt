@@ -11,13 +11,13 @@ use Rattle.sva_model.specs.Unmappings.{bound, owed_by, cookie_of}
 use Rattle.sva_model.specs.Steps.{next, world_after}
 use Rattle.sva_model.specs.Claims.{HasAnswered}
 use Rattle.sva_laws.specs.Waits.{AnswersByUnit}
-use Rattle.sva_lemmas.proofs.Words.{find_passes}
+use Rattle.sva_labels.proofs.Words.{find_passes}
 use Rattle.sva_laws.proofs.Unmap.{bound_is}
 use Rattle.sva_laws.proofs.Runs.{always}
 use Rattle.sva_laws.proofs.Lookback.{Goes, went, after_one}
 use Rattle.sva_laws.proofs.Lookback.Goes.{unmapped, dropped}
 use Rattle.sva_laws.proofs.Withheld.{answered_if, answers_if, then_part}
-use Rattle.sva_lemmas.proofs.Tests.{first_holds, second_holds}
+use Rattle.sva_labels.proofs.Tests.{first_holds, second_holds}
 
 -- every unreleased binding of the space has answered by now
 abbrev pub AllAnswered : (was then now : Endpoint) (space page : ℕ) → Type 0

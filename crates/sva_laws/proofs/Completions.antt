@@ -17,8 +17,8 @@ use Rattle.sva_model.specs.Acts.{Act, LocalAct, act, act_alone, sends}
 use Rattle.sva_model.specs.Acts.Act.{NewSpace, DropSpace, Map, Unmap, NewBinding, NewJob, Hold, LetGo, AtEndpoint}
 use Rattle.sva_model.specs.Steps.{decide, next, run, after_acts, world_after}
 use Rattle.sva_laws.specs.UnderWay.{names_order, completions, left_of}
-use Rattle.sva_lemmas.proofs.Words.{ℕ_cases}
-use Rattle.sva_lemmas.proofs.Counting.{count_same, count_zero, count_more, count_all, count_off}
+use Rattle.sva_labels.proofs.Words.{ℕ_cases}
+use Rattle.sva_labels.proofs.Counting.{count_same, count_zero, count_more, count_all, count_off}
 use Rattle.sva_laws.proofs.Legal.{LegalLocalAct}
 use Rattle.sva_laws.proofs.Resets.{Resets}
 use Rattle.sva_laws.proofs.Bounds.{Bounds}

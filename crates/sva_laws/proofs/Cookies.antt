@@ -15,8 +15,8 @@ use Rattle.sva_model.specs.Acts.{Act, LocalAct, act, act_alone, cookies_of}
 use Rattle.sva_model.specs.Acts.Act.{NewSpace, DropSpace, Map, Unmap, NewBinding, NewJob, Hold, LetGo, AtEndpoint}
 use Rattle.sva_model.specs.Steps.{decide, next, run, after_acts, world_after}
 use Rattle.sva_laws.specs.UnitSteps.{GivesCookies}
-use Rattle.sva_lemmas.proofs.Words.{find_passes}
-pub use Rattle.sva_lemmas.proofs.Counting.{count_up, count_strict}
+use Rattle.sva_labels.proofs.Words.{find_passes}
+pub use Rattle.sva_labels.proofs.Counting.{count_up, count_strict}
 use Rattle.sva_laws.proofs.Invariant.{Invariant}
 use Rattle.sva_laws.proofs.Submitted.{old_order}
 use Rattle.sva_laws.proofs.Keeps.{put_keeps}
@@ -24,7 +24,7 @@ use Rattle.sva_laws.proofs.Passed.{unreleased_bound}
 use Rattle.sva_laws.proofs.Runs.{next_keeps, opened_invariant}
 use Rattle.sva_laws.proofs.StepKinds.{IsBy, Kind, is_calm, is_calm_own, are_calm, step_kind}
 use Rattle.sva_laws.proofs.StepKinds.Kind.{calm, single, unmapping}
-use Rattle.sva_lemmas.proofs.Tests.{first_holds}
+use Rattle.sva_labels.proofs.Tests.{first_holds}
 
 -- What a step does to the waits of an endpoint: if it gives a cookie, there is one wait more, which has that.
 record PartWaits (Gets : Type 0) (given : ℕ) (p q : Endpoint) : Type 0 where

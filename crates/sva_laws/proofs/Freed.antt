@@ -29,7 +29,7 @@ use Rattle.sva_model.specs.States.Place.{Free, Mapped, Withheld}
 use Rattle.sva_model.specs.Steps.{checked, decide, next, after_acts, world_after}
 use Rattle.sva_model.specs.Claims.{IsWithheld}
 use Rattle.sva_model.specs.Words.{all_below}
-use Rattle.sva_lemmas.proofs.Words.{put-other, ℕ_cases}
+use Rattle.sva_labels.proofs.Words.{put-other, ℕ_cases}
 use Rattle.sva_laws.proofs.Invariant.{Invariant}
 use Rattle.sva_laws.proofs.Keeps.{Legal, act_keeps}
 use Rattle.sva_laws.proofs.Passed.{LegalAll}

@@ -22,8 +22,8 @@ use Rattle.sva_model.specs.Refusals.{refusals}
 use Rattle.sva_model.specs.Outcomes.{outcome, pump_outcome, head_outcome, wait_outcome, send_outcome, may_pass}
 use Rattle.sva_model.specs.Steps.{reply, world_after}
 use Rattle.sva_laws.specs.Given.{IsLowestFree, IsBorneBy, IsGivenPasid, GivesLowest, Pumps}
-use Rattle.sva_lemmas.proofs.Words.{none_is, some_the, holds_the, lowest_below, lowest_passes, find_passes, find_some, any_below-false, any_below-true}
-use Rattle.sva_lemmas.proofs.Tests.{is_less, same_frame}
+use Rattle.sva_labels.proofs.Words.{none_is, some_the, holds_the, lowest_below, lowest_passes, find_passes, find_some, any_below-false, any_below-true}
+use Rattle.sva_labels.proofs.Tests.{is_less, same_frame}
 use Rattle.sva_laws.proofs.Bounds.{Bounds}
 use Rattle.sva_laws.proofs.Orders.{queued_not}
 use Rattle.sva_laws.proofs.PageRequests.{arrived_is}

@@ -23,9 +23,9 @@ use Rattle.sva_model.specs.Replies.{is_success}
 use Rattle.sva_model.specs.Outcomes.{outcome, reply_outcome}
 use Rattle.sva_model.specs.Steps.{reply, after_acts, world_after}
 use Rattle.sva_laws.specs.Asked.{IsFirstAsk, MapsInOrder}
-use Rattle.sva_lemmas.proofs.Words.{put-same, put-other, ℕ_cases}
-use Rattle.sva_lemmas.proofs.Counting.{length_select}
-use Rattle.sva_lemmas.proofs.Tests.{other_fails}
+use Rattle.sva_labels.proofs.Words.{put-same, put-other, ℕ_cases}
+use Rattle.sva_labels.proofs.Counting.{length_select}
+use Rattle.sva_labels.proofs.Tests.{other_fails}
 use Rattle.sva_laws.proofs.Lookback.{after_one}
 use Rattle.sva_laws.proofs.Told.{accepted}
 use Rattle.sva_laws.proofs.Asked.{Has}

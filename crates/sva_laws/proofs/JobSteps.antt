@@ -31,7 +31,7 @@ use Rattle.sva_model.specs.Outcomes.{serve_outcome, file_outcome, take_outcome, 
 use Rattle.sva_model.specs.Outcomes.{completion_outcome, keep_outcome, is_full, request_outcome, count_outcome, page_request_outcome, marker_outcome}
 use Rattle.sva_model.specs.States.{is_open, is_outstanding}
 use Rattle.sva_model.specs.Steps.{checked, decide, next, run, after_acts, world_after}
-use Rattle.sva_lemmas.proofs.Words.{put-same, put-other, ℕ_cases, none_is, some_the}
+use Rattle.sva_labels.proofs.Words.{put-same, put-other, ℕ_cases, none_is, some_the}
 use Rattle.sva_laws.proofs.PageRequests.{is_whole}
 use Rattle.sva_laws.proofs.Groups.{whole_filed}
 use Rattle.sva_laws.proofs.Invariant.{IsHeldBy, Invariant}

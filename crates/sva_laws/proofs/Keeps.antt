@@ -18,7 +18,7 @@ use Rattle.sva_model.specs.Unmappings.{without_pages}
 use Rattle.sva_model.specs.Acts.{Act, LocalAct, act, act_alone, sends}
 use Rattle.sva_model.specs.Acts.Act.{NewSpace, DropSpace, Map, Unmap, NewBinding, NewJob, Hold, LetGo, AtEndpoint}
 use Rattle.sva_model.specs.State.Stage.{Unbound}
-use Rattle.sva_lemmas.proofs.Words.{put-same, put-other, ℕ_cases, all_below-true, was_true}
+use Rattle.sva_labels.proofs.Words.{put-same, put-other, ℕ_cases, all_below-true, was_true}
 use Rattle.sva_laws.proofs.Legal.{LegalLocalAct}
 use Rattle.sva_laws.proofs.Resets
 use Rattle.sva_laws.proofs.Bounds

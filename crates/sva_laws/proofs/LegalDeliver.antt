@@ -17,7 +17,7 @@ use Rattle.sva_model.specs.Refusals.{refusals}
 use Rattle.sva_model.specs.Outcomes.{outcome, subject_outcome, deliver_outcome, completion_outcome, keep_outcome, is_full, request_outcome, found_for}
 use Rattle.sva_model.specs.Outcomes.{completion_message, count_outcome, page_request_outcome, marker_outcome}
 use Rattle.sva_model.specs.Labels
-use Rattle.sva_lemmas.proofs.Words.{any_below-false}
+use Rattle.sva_labels.proofs.Words.{any_below-false}
 use Rattle.sva_laws.proofs.Legal.{NoOlderDown, NoOlderPageRequest}
 use Rattle.sva_laws.proofs.Invariant.{Invariant}
 use Rattle.sva_laws.proofs.Passed.{Passed, LegalAll}

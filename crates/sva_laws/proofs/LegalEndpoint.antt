@@ -14,13 +14,13 @@ use Rattle.sva_model.specs.Refusals.{refusals, fault_refusals}
 use Rattle.sva_model.specs.Outcomes.{outcome, fault_outcome}
 use Rattle.sva_model.specs.Labels
 use Rattle.sva_laws.specs.LabelLaws.{IsVectorOf}
-use Rattle.sva_lemmas.proofs.Words.{lowest_cases, lowest_below, some_the, any_below-false, any_below-true}
-use Rattle.sva_lemmas.proofs.Counting.{pigeons}
+use Rattle.sva_labels.proofs.Words.{lowest_cases, lowest_below, some_the, any_below-false, any_below-true}
+use Rattle.sva_labels.proofs.Counting.{pigeons}
 use Rattle.sva_laws.proofs.Bounds.{Bounds}
 use Rattle.sva_laws.proofs.Groups.{Groups}
 use Rattle.sva_laws.proofs.Invariant.{Invariant}
 use Rattle.sva_laws.proofs.Passed.{Passed, LegalAll, label_low, label_free, bearer_of}
-use Rattle.sva_lemmas.proofs.Tests.{first_fails, first_holds, is_less, one_holds, second_fails, second_holds, second_holds_too}
+use Rattle.sva_labels.proofs.Tests.{first_fails, first_holds, is_less, one_holds, second_fails, second_holds, second_holds_too}
 
 on_is : (s : PasidState) → is_on s ≡ true → s ≡ On
 on_is s h = grind arith

@@ -12,12 +12,12 @@ use Rattle.sva_model.specs.States.{is_unreleased, is_done, is_free, is_open_grou
 use Rattle.sva_model.specs.Refusals.{refusals, unbind_refusals, advance_refusals, is_queue_short}
 use Rattle.sva_model.specs.Outcomes.{outcome, unbind_outcome, advance_outcome}
 use Rattle.sva_model.specs.Labels
-use Rattle.sva_lemmas.proofs.Words.{put-same, none_is, some_the, lowest_passes, any_below-false}
+use Rattle.sva_labels.proofs.Words.{put-same, none_is, some_the, lowest_passes, any_below-false}
 use Rattle.sva_laws.proofs.Bounds.{Bounds}
 use Rattle.sva_laws.proofs.Invariant.{Invariant}
 use Rattle.sva_laws.proofs.Pasids.{every_rule}
 use Rattle.sva_laws.proofs.Passed.{Passed, LegalAll, opened_is, unreleased_bound, not_bound_at, not_bound}
-use Rattle.sva_lemmas.proofs.Tests.{first_fails, is_less, second_fails, second_holds}
+use Rattle.sva_labels.proofs.Tests.{first_fails, is_less, second_fails, second_holds}
 
 pub drop : (w : World) (n : ℕ) → Invariant w → Passed (refusals w (step.DropSpace n)) → LegalAll w (outcome w (step.DropSpace n)).acts
 drop w n i h = (not_bound w (Labels.name w n) i h.1.0, tt)

@@ -19,7 +19,7 @@ use Rattle.sva_model.specs.Outcomes.{outcome, reply_outcome}
 use Rattle.sva_model.specs.Replies.{response, response_to, is_success, replies_success, unseen, newly_mapped, maps_to, reply_maps, free_list}
 use Rattle.sva_model.specs.Replies.{is_write_asked, job_part, job_binding, job_space, job_asks}
 use Rattle.sva_model.specs.Labels
-use Rattle.sva_lemmas.proofs.Words.{put-same, put-other, ℕ_cases, none_is, some_the}
+use Rattle.sva_labels.proofs.Words.{put-same, put-other, ℕ_cases, none_is, some_the}
 use Rattle.sva_laws.proofs.Invariant.{Invariant, IsHeldBy}
 use Rattle.sva_laws.proofs.Keeps.{Legal, act_keeps}
 use Rattle.sva_laws.proofs.Passed.{Passed, LegalAll}

@@ -16,13 +16,13 @@ use Rattle.sva_model.specs.Acts.Act.{AtEndpoint, Hold}
 use Rattle.sva_model.specs.Refusals.{refusals}
 use Rattle.sva_model.specs.Outcomes.{outcome, pump_outcome, head_outcome, wait_outcome, send_outcome, may_pass, serve_outcome, file_outcome}
 use Rattle.sva_model.specs.Labels
-use Rattle.sva_lemmas.proofs.Words.{put-same, lowest_below, any_below-false, any_below-true}
+use Rattle.sva_labels.proofs.Words.{put-same, lowest_below, any_below-false, any_below-true}
 use Rattle.sva_laws.proofs.Bounds.{Bounds}
 use Rattle.sva_laws.proofs.PageRequests.{Queued as QueuedRequests, arrived_is}
 use Rattle.sva_laws.proofs.Invariant.{Invariant}
 use Rattle.sva_laws.proofs.Passed.{Passed, LegalAll, opened_is, label_low, label_free}
 use Rattle.sva_laws.proofs.Orders.{queued_not}
-use Rattle.sva_lemmas.proofs.Tests.{first_holds, is_less, second_holds}
+use Rattle.sva_labels.proofs.Tests.{first_holds, is_less, second_holds}
 
 -- Pump: the head is the lowest order that is queued.
 pub record Head (p : Endpoint) : Type 0 where

@@ -17,7 +17,7 @@ use Rattle.sva_model.specs.Acts.Act.{NewSpace, DropSpace, Map, Unmap, NewBinding
 use Rattle.sva_model.specs.Labels.{outstanding, is_waiting}
 use Rattle.sva_model.specs.Steps.{decide, next, run, after_acts, world_after, counts, is_mapped_at, is_withheld_at}
 use Rattle.sva_laws.specs.LimitLaws.{page_queue, waiting}
-use Rattle.sva_lemmas.proofs.Counting.{bit, bit_most, count_next, count_less, length_select, count_placed}
+use Rattle.sva_labels.proofs.Counting.{bit, bit_most, count_next, count_less, length_select, count_placed}
 use Rattle.sva_laws.proofs.Legal.{LegalLocalAct}
 use Rattle.sva_laws.proofs.Bounds.{Bounds}
 use Rattle.sva_laws.proofs.PageRequests.{Queued, arrival_once}

@@ -14,14 +14,14 @@ use Rattle.sva_model.specs.Unmappings.{bound, owed_by, gone_if, in_range}
 use Rattle.sva_model.specs.Acts.{Act, act}
 use Rattle.sva_model.specs.Acts.Act.{Unmap, DropSpace}
 use Rattle.sva_model.specs.Steps.{decide, next, run, after_acts, world_after}
-use Rattle.sva_lemmas.proofs.Tests.{first_holds, second_holds}
+use Rattle.sva_labels.proofs.Tests.{first_holds, second_holds}
 use Rattle.sva_laws.proofs.Invariant.{Invariant}
 use Rattle.sva_laws.proofs.Keeps.{Legal}
 use Rattle.sva_laws.proofs.Passed.{LegalAll}
 use Rattle.sva_laws.proofs.Runs.{always, step_legal, next_keeps}
 use Rattle.sva_laws.proofs.Adding.{Adds, Kind, acts_add, step_kind}
 use Rattle.sva_laws.proofs.Adding.Kind.{adding, unmapping, dropping}
-pub use Rattle.sva_lemmas.proofs.Steps.{run_append}
+pub use Rattle.sva_labels.proofs.Steps.{run_append}
 
 -- Lists of steps.
 

@@ -26,12 +26,12 @@ use Rattle.sva_model.specs.Refusals.{messages_spent, advance_refusals, unbind_re
 use Rattle.sva_model.specs.Outcomes.{Outcome, outcome, at_one, found_for, map_outcome, bind_outcome, advance_outcome, reply_outcome, completion_message}
 use Rattle.sva_model.specs.Outcomes.{request_outcome, subject_outcome, deliver_outcome, look_answer, says, bearer_answer}
 use Rattle.sva_model.specs.Steps.{checked, decide, next, reply, replies, after_acts}
-use Rattle.sva_lemmas.proofs.Words.{find_passes, holds_the, any_below-true, any_below-intro}
+use Rattle.sva_labels.proofs.Words.{find_passes, holds_the, any_below-true, any_below-intro}
 use Rattle.sva_laws.proofs.Invariant.{Invariant}
 use Rattle.sva_laws.proofs.Passed.{not_bound_at}
 use Rattle.sva_laws.proofs.Runs.{next_keeps, opened_invariant}
 use Rattle.sva_laws.proofs.Withheld.{config_next, rule_next}
-use Rattle.sva_lemmas.proofs.Tests.{is_less, same_bool}
+use Rattle.sva_labels.proofs.Tests.{is_less, same_bool}
 
 -- the same world, under the rule of one PASID for each space
 abbrev by_space : World → World

@@ -24,7 +24,7 @@ use Rattle.sva_model.specs.Words.{lowest, the}
 use Rattle.sva_model.specs.State.{PasidRule, Endpoint, World, Stage, Order, Subject, RequestState}
 use Rattle.sva_model.specs.Steps.{checked, decide, next, after_acts, world_after}
 use Rattle.sva_laws.specs.Steps.{takes_out, ChangesOnePart}
-use Rattle.sva_lemmas.proofs.Words.{put-other}
+use Rattle.sva_labels.proofs.Words.{put-other}
 use Rattle.sva_laws.proofs.Lookback.{after_one}
 
 -- an act that leaves all endpoints but this one

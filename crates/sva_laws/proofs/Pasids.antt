@@ -7,7 +7,7 @@ use Rattle.sva_model.specs.State.{PasidRule, Endpoint, World}
 use Rattle.sva_model.specs.State.PasidRule.{PerEndpoint, PerSpace}
 use Rattle.sva_model.specs.States.{is_unreleased}
 use Rattle.sva_model.specs.Labels
-use Rattle.sva_lemmas.proofs.Words.{none_is, holds_the, find_passes, find_some, any_below-false, any_below-true, any_below-intro}
+use Rattle.sva_labels.proofs.Words.{none_is, holds_the, find_passes, find_some, any_below-false, any_below-true, any_below-intro}
 use Rattle.sva_laws.proofs.Shared.{IsOf}
 use Rattle.sva_laws.proofs.Invariant.{Invariant}
 use Rattle.sva_laws.proofs.Passed.{unreleased_bound}

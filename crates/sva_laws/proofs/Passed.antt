@@ -13,8 +13,8 @@ use Rattle.sva_model.specs.Refusals.{Cause}
 use Rattle.sva_model.specs.Outcomes.{Outcome}
 use Rattle.sva_model.specs.Steps.{checked, after_acts}
 use Rattle.sva_model.specs.Labels
-pub use Rattle.sva_lemmas.proofs.Steps.{Passed}
-use Rattle.sva_lemmas.proofs.Words.{none_is, lowest_passes, any_below-false}
+pub use Rattle.sva_labels.proofs.Steps.{Passed}
+use Rattle.sva_labels.proofs.Words.{none_is, lowest_passes, any_below-false}
 use Rattle.sva_laws.proofs.Invariant.{Invariant}
 use Rattle.sva_laws.proofs.Keeps.{Legal, act_keeps}
 

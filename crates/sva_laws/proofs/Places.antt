@@ -20,9 +20,9 @@ use Rattle.sva_model.specs.Outcomes.{outcome, is_full}
 use Rattle.sva_model.specs.Steps.{decide, next, run, after_acts, world_after}
 use Rattle.sva_laws.specs.LimitLaws.{cached_translations}
 use Rattle.sva_laws.specs.Steps.{takes_out}
-use Rattle.sva_lemmas.proofs.Words.{put-other, ℕ_cases, any_below-false}
-use Rattle.sva_lemmas.proofs.Tests.{other_fails}
-use Rattle.sva_lemmas.proofs.Counting.{bit_most, bit_less, count_next, count_less, count_more}
+use Rattle.sva_labels.proofs.Words.{put-other, ℕ_cases, any_below-false}
+use Rattle.sva_labels.proofs.Tests.{other_fails}
+use Rattle.sva_labels.proofs.Counting.{bit_most, bit_less, count_next, count_less, count_more}
 use Rattle.sva_laws.proofs.Legal.{LegalLocalAct}
 use Rattle.sva_laws.proofs.Bounds.{Bounds}
 use Rattle.sva_laws.proofs.Invariant.{Invariant}

@@ -23,8 +23,8 @@ use Rattle.sva_model.specs.Outcomes.{Outcome, outcome}
 use Rattle.sva_model.specs.Steps.{Reply, checked, reply, next, after_acts, world_after}
 use Rattle.sva_laws.specs.Causes.{IsUnitFull, IsWaitingFor, LacksPlaces, LacksPlacesFor, AreSpent, AreAllBorne}
 use Rattle.sva_laws.specs.EndpointCauses.{HasCause}
-use Rattle.sva_lemmas.proofs.Words.{none_is, some_the, lowest_cases, find_passes, any_below-false, any_below-true, all_below_cases}
-use Rattle.sva_lemmas.proofs.Tests.{first_holds, second_holds, one_holds, taken_off}
+use Rattle.sva_labels.proofs.Words.{none_is, some_the, lowest_cases, find_passes, any_below-false, any_below-true, all_below_cases}
+use Rattle.sva_labels.proofs.Tests.{first_holds, second_holds, one_holds, taken_off}
 use Rattle.sva_laws.proofs.Resets.{open_is}
 use Rattle.sva_laws.proofs.Invariant.{Invariant}
 use Rattle.sva_laws.proofs.Lookback.{after_one}

@@ -18,8 +18,8 @@ use Rattle.sva_model.specs.LinkOrder.{MessageKind, stays_behind}
 use Rattle.sva_model.specs.Labels
 use Rattle.sva_model.specs.Refusals.{refusals, fault_refusals, delivery_sends, is_read_only}
 use Rattle.sva_laws.specs.EndpointCauses.{HasCause, IsNowhere, IsUncached, IsNotPending, IsInUse, IsBusy, IsOvertaking}
-use Rattle.sva_lemmas.proofs.Words.{any_below-false, any_below-true}
-use Rattle.sva_lemmas.proofs.Tests.{first_holds, second_holds, one_holds}
+use Rattle.sva_labels.proofs.Words.{any_below-false, any_below-true}
+use Rattle.sva_labels.proofs.Tests.{first_holds, second_holds, one_holds}
 use Rattle.sva_laws.proofs.Resets.{open_is}
 use Rattle.sva_laws.proofs.Bounds.{Bounds}
 use Rattle.sva_laws.proofs.Invariant.{Invariant}

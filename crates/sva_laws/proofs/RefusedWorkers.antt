@@ -28,8 +28,8 @@ use Rattle.sva_model.specs.Steps.{reply, world_after}
 use Rattle.sva_laws.specs.Asked.{IsAskedFor, stage_of}
 use Rattle.sva_laws.specs.Causes.{IsNotIn, AreNewPages, IsOfNewPages}
 use Rattle.sva_laws.specs.EndpointCauses.{HasCause, IsBadVerdict}
-use Rattle.sva_lemmas.proofs.Words.{none_is, some_the, holds_the, any_below-false}
-use Rattle.sva_lemmas.proofs.Tests.{first_holds, second_holds, is_itself}
+use Rattle.sva_labels.proofs.Words.{none_is, some_the, holds_the, any_below-false}
+use Rattle.sva_labels.proofs.Tests.{first_holds, second_holds, is_itself}
 use Rattle.sva_laws.proofs.Resets.{open_is}
 use Rattle.sva_laws.proofs.Invariant.{Invariant}
 use Rattle.sva_laws.proofs.Runs.{always}

@@ -20,8 +20,8 @@ use Rattle.sva_model.specs.Replies.{maps_to, reply_maps, replies_success, newly_
 use Rattle.sva_model.specs.Outcomes.{Outcome, outcome, reply_outcome}
 use Rattle.sva_model.specs.Steps.{checked, decide, next, run, after_acts, world_after}
 use Rattle.sva_laws.specs.Answers.{MapsPages}
-use Rattle.sva_lemmas.proofs.Words.{put-other, ℕ_cases, was_true}
-use Rattle.sva_lemmas.proofs.Counting.{bit_most, count_next, count_same, count_less, count_more}
+use Rattle.sva_labels.proofs.Words.{put-other, ℕ_cases, was_true}
+use Rattle.sva_labels.proofs.Counting.{bit_most, count_next, count_same, count_less, count_more}
 use Rattle.sva_laws.proofs.Invariant.{Invariant}
 use Rattle.sva_laws.proofs.Passed.{Passed, LegalAll}
 use Rattle.sva_laws.proofs.Runs.{step_legal, next_keeps, opened_invariant}

@@ -1,6 +1,6 @@
 -- Each usable translation is present, or its mapping is gone and the endpoint hasn't answered for it: an order ahead of
 -- the wait will strike it first.
-use Rattle.sva_lemmas.proofs.Words.{put-same}
+use Rattle.sva_labels.proofs.Words.{put-same}
 use Rattle.std.proofs.Common.{sym, subst, ◌≡◌, ◌≢◌, ◌⊎◌, inl, inr, ℕ, ◌+◌, ◌<◌, ◌≤◌, Bool, true, false, arith}
 use Rattle.std.specs.Prelude.{Some, None}
 use Rattle.std.proofs.lemmas.Bool.Decides.{nat_tests}

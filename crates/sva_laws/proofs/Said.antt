@@ -25,8 +25,8 @@ use Rattle.sva_model.specs.Outcomes.{outcome, look_answer, count_outcome, delive
 use Rattle.sva_model.specs.Steps.{decide, reply, after_acts, world_after}
 use Rattle.sva_laws.specs.UnitSteps.{Delivers}
 use Rattle.sva_laws.specs.Answers.{Finishes, Uses, Looks, made_done}
-use Rattle.sva_lemmas.proofs.Words.{put-same}
-use Rattle.sva_lemmas.proofs.Counting.{count_same}
+use Rattle.sva_labels.proofs.Words.{put-same}
+use Rattle.sva_labels.proofs.Counting.{count_same}
 use Rattle.sva_laws.proofs.Passed.{label_low}
 use Rattle.sva_laws.proofs.LegalEndpoint.{cached_is}
 use Rattle.sva_laws.proofs.Lookback.{after_one}

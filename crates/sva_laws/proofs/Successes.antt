@@ -22,8 +22,8 @@ use Rattle.sva_model.specs.Replies.{maps_to, reply_maps, replies_success, newly_
 use Rattle.sva_model.specs.Outcomes.{outcome, reply_outcome}
 use Rattle.sva_model.specs.Steps.{reply, after_acts, world_after}
 use Rattle.sva_laws.specs.Answers.{MapsPages, Succeeds}
-use Rattle.sva_lemmas.proofs.Words.{put-same, put-other, ℕ_cases, some_the}
-use Rattle.sva_lemmas.proofs.Counting.{bit, count_next, count_same}
+use Rattle.sva_labels.proofs.Words.{put-same, put-other, ℕ_cases, some_the}
+use Rattle.sva_labels.proofs.Counting.{bit, count_next, count_same}
 use Rattle.sva_laws.proofs.Passed.{LegalAll}
 use Rattle.sva_laws.proofs.Runs.{always, step_legal}
 use Rattle.sva_laws.proofs.Lookback.{after_one}

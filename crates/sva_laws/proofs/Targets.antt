@@ -16,13 +16,13 @@ use Rattle.sva_model.specs.State.Phase.{Open}
 use Rattle.sva_model.specs.States.{is_done, is_wait, answered}
 use Rattle.sva_model.specs.Steps.{world_after}
 use Rattle.sva_laws.specs.Waits.{HasFront, IsBehind, FitsDebt, IsAwaited, AwaitsTarget}
-use Rattle.sva_lemmas.proofs.Words.{all_below-intro}
+use Rattle.sva_labels.proofs.Words.{all_below-intro}
 use Rattle.sva_laws.proofs.Orders.{Orders}
 use Rattle.sva_laws.proofs.Fronts.{Fronts, always_fronts}
 use Rattle.sva_laws.proofs.Debts.{always_debts}
 use Rattle.sva_laws.proofs.Runs.{always}
 use Rattle.sva_laws.proofs.Fronts.{is_queued as queued_apart}
-use Rattle.sva_lemmas.proofs.Tests.{first_fails, second_fails}
+use Rattle.sva_labels.proofs.Tests.{first_fails, second_fails}
 
 done_apart : (z : OrderState) → z ≡ Done → (z ≡ Queued) ⊎ (z ≡ Void) → ⊥
 done_apart z h (inl e) = absurd (cc (sym h ∙ e))

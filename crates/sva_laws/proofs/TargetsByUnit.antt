@@ -31,7 +31,7 @@ use Rattle.sva_laws.proofs.Lookback.Goes.{unmapped, dropped}
 use Rattle.sva_laws.proofs.ByUnit.{AllAnswered, unit_answers}
 use Rattle.sva_laws.proofs.FrontExact.{same_order, is_ahead}
 use Rattle.sva_laws.proofs.Runs.{always, next_keeps}
-use Rattle.sva_lemmas.proofs.Tests.{second_fails}
+use Rattle.sva_labels.proofs.Tests.{second_fails}
 
 -- what is kept of a debt
 abbrev kept_by : Bool → TargetWire → Option TargetWire

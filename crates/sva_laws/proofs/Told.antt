@@ -30,14 +30,14 @@ use Rattle.sva_model.specs.Outcomes.{Outcome, outcome, frames_at, unmap_answer, 
 use Rattle.sva_model.specs.Steps.{checked, decide, reply, after_acts, world_after}
 use Rattle.sva_model.specs.Claims.{IsAt, IsWithheld}
 use Rattle.sva_laws.specs.Laws.{IsTold, IsToldOfRange}
-use Rattle.sva_lemmas.proofs.Words.{put-same, lowest_passes, some_the, all_below-true, all_below-false}
+use Rattle.sva_labels.proofs.Words.{put-same, lowest_passes, some_the, all_below-true, all_below-false}
 use Rattle.sva_laws.proofs.Orders.{Orders}
 use Rattle.sva_laws.proofs.Invariant.{Invariant}
 use Rattle.sva_laws.proofs.Passed.{Passed}
 use Rattle.sva_laws.proofs.Runs.{always}
 use Rattle.sva_laws.proofs.Lookback.{after_one}
 use Rattle.sva_laws.proofs.Withheld.{config_kept, is_withheld, place_withheld}
-use Rattle.sva_lemmas.proofs.Tests.{first_holds, not_below_itself, second_holds}
+use Rattle.sva_labels.proofs.Tests.{first_holds, not_below_itself, second_holds}
 
 -- What is accepted has passed every test; it answers and does what its outcome says.
 

@@ -19,8 +19,8 @@ use Rattle.sva_model.specs.Steps.{reply, decide, next, after_acts, world_after}
 use Rattle.sva_laws.specs.UnitSteps.{Delivers, PassesWait, CompletesOrder}
 use Rattle.sva_laws.specs.Waits.{IsBehind, FitsDebt}
 use Rattle.sva_laws.specs.Steps.{wait_of, AnswersBy}
-use Rattle.sva_lemmas.proofs.Words.{all_below-true}
-use Rattle.sva_lemmas.proofs.Words.{all_below-intro}
+use Rattle.sva_labels.proofs.Words.{all_below-true}
+use Rattle.sva_labels.proofs.Words.{all_below-intro}
 use Rattle.sva_laws.proofs.Legal.{LegalLocalAct}
 use Rattle.sva_laws.proofs.Orders.{Orders}
 use Rattle.sva_laws.proofs.Invariant.{Invariant}
@@ -36,7 +36,7 @@ use Rattle.sva_laws.proofs.Freed.{next_place}
 use Rattle.sva_laws.proofs.Answered.{or_more as or_kept}
 use Rattle.sva_laws.proofs.Answered.{and_more as and_kept}
 use Rattle.sva_laws.proofs.Answered.{less_more as more}
-use Rattle.sva_lemmas.proofs.Tests.{first_fails, one_holds, second_fails, second_holds}
+use Rattle.sva_labels.proofs.Tests.{first_fails, one_holds, second_fails, second_holds}
 
 -- the counter of reset-dones stays, or a reset-done is delivered
 own_counts : (w : World) (s : Step) (e : ℕ) (a : Answer) (o : LocalAct) → reply w s ≡ Ok a → IsBy w s e o a → LegalLocalAct w.mappings w.bindings (w.part e) o

@@ -26,7 +26,7 @@ use Rattle.sva_model.specs.Outcomes.{outcome, pump_outcome, head_outcome, wait_o
 use Rattle.sva_model.specs.Outcomes.{count_outcome, marker_outcome}
 use Rattle.sva_model.specs.Steps.{reply, decide, next, after_acts, world_after}
 use Rattle.sva_laws.specs.UnitSteps.{Delivers, OrdersReset, PassesWait, CompletesOrder, CountsResetDones, ChangesOrders, NotesMarkers}
-use Rattle.sva_lemmas.proofs.Words.{put-same, put-other, ℕ_cases}
+use Rattle.sva_labels.proofs.Words.{put-same, put-other, ℕ_cases}
 use Rattle.sva_laws.proofs.Legal.{LegalLocalAct}
 use Rattle.sva_laws.proofs.Invariant.{Invariant}
 use Rattle.sva_laws.proofs.Keeps.{put_keeps}

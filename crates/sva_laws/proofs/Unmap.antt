@@ -15,7 +15,7 @@ use Rattle.sva_model.specs.Unmappings.{bound, submits_at, submits, owed_by_unit,
 use Rattle.sva_model.specs.Unmappings.{part_after_unmap, gone_if, in_range, without_pages}
 use Rattle.sva_model.specs.Acts.{act}
 use Rattle.sva_model.specs.Acts.Act.{Unmap}
-use Rattle.sva_lemmas.proofs.Words.{put-same, put-other, ℕ_cases, find_passes, find_some}
+use Rattle.sva_labels.proofs.Words.{put-same, put-other, ℕ_cases, find_passes, find_some}
 use Rattle.sva_model.specs.Words.{put_range, unless}
 use Rattle.sva_laws.proofs.Bounds.{Bounds}
 use Rattle.sva_laws.proofs.Orders.{is_active, active_unreleased}

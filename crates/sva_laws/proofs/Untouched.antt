@@ -29,8 +29,8 @@ use Rattle.sva_model.specs.Outcomes.{Outcome, outcome, subject_outcome, deliver_
 use Rattle.sva_model.specs.Steps.{Reply, checked, reply, decide, next, after_acts, world_after}
 use Rattle.sva_laws.specs.UnitSteps.{Delivers}
 use Rattle.sva_laws.specs.Untouched.{Evicts, Takes, Brings, Stops, Quits, Asks, Disables, CutsOff, DrainsOnce, is_of_endpoint}
-use Rattle.sva_lemmas.proofs.Tests.{both_same}
-use Rattle.sva_lemmas.proofs.Words.{put-same, put-other}
+use Rattle.sva_labels.proofs.Tests.{both_same}
+use Rattle.sva_labels.proofs.Words.{put-same, put-other}
 use Rattle.sva_laws.proofs.Submitted.{old_order}
 use Rattle.sva_laws.proofs.Legal.{LegalLocalAct}
 use Rattle.sva_laws.proofs.Invariant.{Invariant}

@@ -16,8 +16,8 @@ use Rattle.sva_model.specs.StateChanges.{counted_if, completing_if, count_field}
 use Rattle.sva_model.specs.Acts.{LocalAct, act_alone}
 use Rattle.sva_laws.specs.LabelLaws.{IsVectorOf, count_read}
 use Rattle.sva_laws.specs.UnderWay.{names_order, left_of}
-use Rattle.sva_lemmas.proofs.Words.{put-same, put-other}
-use Rattle.sva_lemmas.proofs.Counting.{count_off}
+use Rattle.sva_labels.proofs.Words.{put-same, put-other}
+use Rattle.sva_labels.proofs.Counting.{count_off}
 use Rattle.sva_laws.proofs.Legal.{LegalLocalAct}
 use Rattle.sva_laws.proofs.Resets.{Resets}
 use Rattle.sva_laws.proofs.Bounds.{Bounds}

@@ -25,8 +25,8 @@ use Rattle.sva_model.specs.Acts.Act.{Unmap}
 use Rattle.sva_model.specs.Steps.{next, run, after_acts, decide, world_after}
 use Rattle.sva_model.specs.Claims.{IsAt, IsMapped, IsBeforeInvalidating, HasSubmitted, AreDone, HasAnswered, IsWithheld}
 use Rattle.sva_model.specs.Claims.HasAnswered.{was_done, orders_done, pasid_done, was_reset}
-use Rattle.sva_lemmas.proofs.Words.{put-same, find_passes, all_below-true, all_below_cases}
-use Rattle.sva_lemmas.proofs.Words.{all_below-intro}
+use Rattle.sva_labels.proofs.Words.{put-same, find_passes, all_below-true, all_below_cases}
+use Rattle.sva_labels.proofs.Words.{all_below-intro}
 use Rattle.sva_laws.proofs.Invariant.{Invariant}
 use Rattle.sva_laws.proofs.Ranges.{range_of, order_of, order_covers}
 use Rattle.sva_laws.proofs.Resets.{open_is}
@@ -35,7 +35,7 @@ use Rattle.sva_laws.proofs.Runs.{always, next_keeps}
 use Rattle.sva_laws.proofs.Agreement.{withheld_at}
 use Rattle.sva_laws.proofs.Lookback.{Goes, Later, moves, later, went, run_append, after_one, one_more}
 use Rattle.sva_laws.proofs.Lookback.Goes.{unmapped, dropped}
-use Rattle.sva_lemmas.proofs.Tests.{first_holds, one_holds, same_inside, second_holds}
+use Rattle.sva_labels.proofs.Tests.{first_holds, one_holds, same_inside, second_holds}
 
 -- What an endpoint owes for an unmapping is answered, exactly where it has answered for its binding.
 

@@ -1,3 +1,9 @@
 pub mod Pieces
 pub mod Words
 pub mod Kinds
+pub mod Memory
+pub mod Devices
+pub mod Units
+pub mod Messages
+pub mod Listing
+pub mod Worked

@@ -1,5 +1,5 @@
 //! Runs that are worked out by hand: the definitions give these answers, line by line, and these counts of frames. Those of
-//! further themes are in `sva_runs`.
+//! further themes are in `sva_refinement`.
 
 ghost use Rattle.sva_model.specs.RunsOfWire.{InvalidationsUnderWay, GroupsUnderWay, TwoTargets, Drained};
 ghost use Rattle.sva_model.specs.RunsOfWire.{RangesQueued, JobsQueued};

@@ -1,2 +1,3 @@
 mod Highest
 mod Removed
+mod Counted

@@ -7,3 +7,4 @@ pub mod Links
 pub mod Acts
 pub mod Safe
 pub mod Checks
+pub mod Finding

@@ -1,12 +1,16 @@
-//! The open world: memory, and endpoints with their units and links, whose host may be anybody's. Its state is what its
-//! definitions speak of: plain records of lists.
+//! The open world: memory, and endpoints with their units and links, whose host may be anybody's. Its state is what
+//! its definitions speak of: plain records of lists. Beside it stand what a line names at an endpoint by its age, or
+//! by what it is of, as the act that it is now; and what a driver is.
 #![tactic(auto)]
 
 mod acts;
 mod descriptors;
+mod drivers;
+mod finding;
 mod frames;
 mod lists;
 mod messages;
+mod naming;
 mod numbers;
 mod opening;
 mod opens;
@@ -18,9 +22,12 @@ mod works;
 
 pub use acts::{Act, LocalAct};
 pub use descriptors::{Arrived, Descriptor, Filed, Issued};
+pub use drivers::{Budget, Device, Driver, Fault, Line, Page, Saying, Workers};
+pub use finding::{found, is_of_kind, is_taken, is_use, kind_of};
 pub use frames::{Mapping, Target, Tenure, Translation};
 pub use lists::{before, drop_at, drop_first, lowest_free, put, set_at};
 pub use messages::{Message, PageRequest, Sent};
+pub use naming::{Kind, Named};
 pub use opens::Open;
 pub use parts::Part;
 pub use rows::{Entry, KeptEntry, Row, State};

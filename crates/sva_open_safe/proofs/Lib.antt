@@ -12,3 +12,6 @@ pub mod Sound
 pub mod SwapParts
 pub mod SwapWorlds
 pub mod Tested
+mod Firsts
+mod Quiet
+mod WrongsAndSafety

@@ -1,3 +1,4 @@
 pub mod Plain
 pub mod Swaps
 pub mod Classes
+pub mod Wrongs

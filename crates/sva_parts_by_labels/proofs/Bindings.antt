@@ -6,7 +6,7 @@ use Rattle.std.specs.List.{count_by, list_any, range_with_len}
 use Rattle.std.specs.Option.{option_or}
 use Rattle.std.proofs.lemmas.List.{map-append}
 use Rattle.std.proofs.lemmas.Bool.Decides.{nat_tests}
-use Rattle.sva_lemmas.proofs.Tests.{one_shifted}
+use Rattle.sva_labels.proofs.Tests.{one_shifted}
 use Rattle.sva_model.specs.Words as words
 use Rattle.sva_model.specs.Words.{lowest, step_lowest, if_found}
 use Rattle.sva_model.specs.Wire.{Wire, BindingWire}

@@ -15,11 +15,11 @@ use Rattle.sva_model.specs.Wire.{TranslationWire, insert_by, is_before}
 use Rattle.sva_labels.specs.Finding.{is_at_page}
 use Rattle.sva_labels.specs.Moves.{kept}
 use Rattle.sva_labels.specs.Outcomes.{is_other, is_full}
-use Rattle.sva_cache.specs.declared.cached.Translation.{Translation}
-use Rattle.sva_cache.specs.Cache.{Key, Translations, key_cmp, key_cmp_total, has_room_for}
-use Rattle.sva_cache.proofs.Edits as edits
-use Rattle.sva_cache.proofs.Edits.{key_cmp-IsAntisymmetric}
-use Rattle.sva_cache.proofs.Facts.{of_entries}
+use Rattle.sva_endpoint.specs.declared.cached.Translation.{Translation}
+use Rattle.sva_endpoint.specs.Cache.{Key, Translations, key_cmp, key_cmp_total, has_room_for}
+use Rattle.sva_endpoint.proofs.Edits as edits
+use Rattle.sva_endpoint.proofs.Edits.{key_cmp-IsAntisymmetric}
+use Rattle.sva_endpoint.proofs.Facts.{of_entries}
 use Rattle.sva_parts_by_labels.proofs.Tables.{count_first}
 use Rattle.sva_parts_by_labels.specs.Device.{translation_seen, cache_seen}
 

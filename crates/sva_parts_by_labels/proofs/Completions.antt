@@ -12,17 +12,17 @@ use Rattle.sva_model.specs.Labels.{is_set, names_none}
 use Rattle.sva_labels.specs.Finding.{taken_at, waits_for_use}
 use Rattle.sva_labels.specs.Moves as moves
 use Rattle.sva_itags.specs.Vector.{is_named}
-use Rattle.sva_tables.specs.declared.taken_table.Taken.{Taken}
-use Rattle.sva_tables.specs.Taken.{are_pending, is_one_waiting, without_named, waits}
+use Rattle.sva_endpoint.specs.declared.taken_table.Taken.{Taken}
+use Rattle.sva_endpoint.specs.Taken.{are_pending, is_one_waiting, without_named, waits}
 use Rattle.sva_endpoint.specs.Tables.{Tables}
 use Rattle.sva_endpoint.specs.Laws.{IsSound}
-use Rattle.sva_lemmas.proofs.Words.{any_below-false}
-use Rattle.sva_lemmas.proofs.Tests.{none_before, one_shifted}
-use Rattle.sva_lemmas.proofs.Lists.{tabulate_same}
+use Rattle.sva_labels.proofs.Words.{any_below-false}
+use Rattle.sva_labels.proofs.Tests.{none_before, one_shifted}
+use Rattle.sva_labels.proofs.Lists.{tabulate_same}
 use Rattle.sva_parts_by_labels.specs.Device.{taken_seen, device_seen}
 use Rattle.sva_parts_by_labels.specs.DeviceLaws.{FinishIsSeen}
 use Rattle.sva_parts_by_labels.proofs.Tables.{seen_at, map_twice}
-pub use Rattle.sva_lemmas.proofs.Lists.{tabulate_first as tabulate_front}
+pub use Rattle.sva_labels.proofs.Lists.{tabulate_first as tabulate_front}
 
 -- Searches and tables from their first number on.
 

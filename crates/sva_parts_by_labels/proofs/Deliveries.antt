@@ -3,7 +3,7 @@ use Rattle.std.proofs.Common.{◌≡◌, refl, ap, sym, ◌∙◌, ℕ, zero, su
 use Rattle.std.specs.Prelude.{◌&&◌, ◌||◌, not, if◌then◌else◌, Some, None, option_map, List, [], ◌∷◌, map, drop, length, replicate, slice_set}
 use Rattle.std.specs.FinMap.{insert, entries, empty, from_sorted, empty_of_len, len-entries, entries-from_sorted}
 use Rattle.std.proofs.lemmas.List.{map-set, set-get_or}
-use Rattle.sva_lemmas.proofs.Tests.{turned}
+use Rattle.sva_labels.proofs.Tests.{turned}
 use Rattle.sva_step.specs.declared.answers.Answer.TheVariants as answer
 use Rattle.sva_model.specs.State.{PasidState as DeviceState}
 use Rattle.sva_model.specs.States.{Extent as DeviceExtent}
@@ -14,21 +14,21 @@ use Rattle.sva_labels.specs.Outcomes.{is_full, response_said}
 use Rattle.sva_msg.specs.declared.messages.Code.{Code}
 use Rattle.sva_msg.specs.declared.extents.Extent.{Extent}
 use Rattle.sva_msg.specs.declared.extents.Extent.TheVariants.{Pages, All}
-use Rattle.sva_cache.specs.declared.coverage.Invalidation.{Invalidation}
-use Rattle.sva_cache.specs.Coverage.{covers, is_within}
-use Rattle.sva_cache.specs.declared.cached.Translation.{Translation}
-use Rattle.sva_cache.specs.Cache.{Key, Translations, key_cmp, has_room_for}
-use Rattle.sva_tables.specs.declared.pasid_states.PasidState.TheVariants.{Off, On, Stopping}
-use Rattle.sva_tables.specs.declared.request_tags.RequestTag.{RequestTag}
-use Rattle.sva_tables.specs.declared.request_tags.RequestTag.TheVariants.{Free, Out, Doomed}
-use Rattle.sva_tables.specs.declared.use_slots.UseSlot.{UseSlot}
-use Rattle.sva_tables.specs.declared.use_slots.UseSlot.TheVariants as slots
-use Rattle.sva_tables.specs.declared.groups.GroupPlace.{GroupPlace}
-use Rattle.sva_tables.specs.declared.groups.GroupPlace.TheVariants as groups
-use Rattle.sva_tables.specs.PasidStates.{with_state}
-use Rattle.sva_tables.specs.RequestTags.{request_at, doomed_by}
-use Rattle.sva_tables.specs.UseSlots.{runs_covered, cut_off}
-use Rattle.sva_tables.specs.Groups.{group_at}
+use Rattle.sva_endpoint.specs.declared.coverage.Invalidation.{Invalidation}
+use Rattle.sva_endpoint.specs.Coverage.{covers, is_within}
+use Rattle.sva_endpoint.specs.declared.cached.Translation.{Translation}
+use Rattle.sva_endpoint.specs.Cache.{Key, Translations, key_cmp, has_room_for}
+use Rattle.sva_endpoint.specs.declared.pasid_states.PasidState.TheVariants.{Off, On, Stopping}
+use Rattle.sva_endpoint.specs.declared.request_tags.RequestTag.{RequestTag}
+use Rattle.sva_endpoint.specs.declared.request_tags.RequestTag.TheVariants.{Free, Out, Doomed}
+use Rattle.sva_endpoint.specs.declared.use_slots.UseSlot.{UseSlot}
+use Rattle.sva_endpoint.specs.declared.use_slots.UseSlot.TheVariants as slots
+use Rattle.sva_endpoint.specs.declared.groups.GroupPlace.{GroupPlace}
+use Rattle.sva_endpoint.specs.declared.groups.GroupPlace.TheVariants as groups
+use Rattle.sva_endpoint.specs.PasidStates.{with_state}
+use Rattle.sva_endpoint.specs.RequestTags.{request_at, doomed_by}
+use Rattle.sva_endpoint.specs.UseSlots.{runs_covered, cut_off}
+use Rattle.sva_endpoint.specs.Groups.{group_at}
 use Rattle.sva_endpoint.specs.Tables.{Tables, fresh}
 use Rattle.sva_endpoint.specs.Deliveries.{answer_to_completion, cache_after, after_invalidate, answer_to_response, is_failure}
 use Rattle.sva_endpoint.specs.Laws.{IsSound}

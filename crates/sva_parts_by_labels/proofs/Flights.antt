@@ -5,7 +5,7 @@ use Rattle.std.specs.List.{list_any, range_with_len}
 use Rattle.std.specs.Map.{lookup, remove_entry}
 use Rattle.std.proofs.lemmas.List.{map-append}
 use Rattle.std.proofs.lemmas.Bool.Decides.{nat_tests}
-use Rattle.sva_lemmas.proofs.Tests.{one_shifted}
+use Rattle.sva_labels.proofs.Tests.{one_shifted}
 use Rattle.sva_model.specs.Words.{tabulate}
 use Rattle.sva_model.specs.LinkOrder.{stays_behind}
 use Rattle.sva_model.specs.Wire.{FlightWire}
@@ -17,9 +17,9 @@ use Rattle.sva_msg.specs.declared.messages.Kind.TheVariants.{Marker, ResetDone}
 use Rattle.sva_msg.specs.Kind.{kind_of}
 use Rattle.sva_msg.specs.Bag.{InFlight, AreNumbered, MayDeliver, copies_of, must_follow}
 use Rattle.sva_msg.proofs.Deliverable.{any_older, may_deliver-is}
-use Rattle.sva_lemmas.proofs.Lists.{tabulate_same}
+use Rattle.sva_labels.proofs.Lists.{tabulate_same}
 use Rattle.sva_parts_by_labels.specs.Flights.{kind_seen, flight_seen, flights_seen, flight_at, FlightLaws}
-use Rattle.sva_lemmas.proofs.Lists.{tabulate_first}
+use Rattle.sva_labels.proofs.Lists.{tabulate_first}
 use Rattle.sva_parts_by_labels.proofs.Tables.{map_twice}
 
 abbrev Entry : Type 0

@@ -13,18 +13,18 @@ use Rattle.sva_model.specs.Wire.{GroupWire}
 use Rattle.sva_labels.specs.Finding as finding
 use Rattle.sva_labels.specs.Causes.{may_request, is_other_group, is_busy_pasid}
 use Rattle.sva_labels.specs.Moves as moves
-use Rattle.sva_tables.specs.declared.pasid_states.PasidState.{PasidState}
-use Rattle.sva_tables.specs.declared.pasid_states.PasidState.TheVariants.{Off, On, Stopping}
-use Rattle.sva_tables.specs.declared.request_tags.RequestTag.{RequestTag}
-use Rattle.sva_tables.specs.declared.request_tags.RequestTag.TheVariants as tags
-use Rattle.sva_tables.specs.declared.use_slots.UseSlot.{UseSlot}
-use Rattle.sva_tables.specs.declared.use_slots.UseSlot.TheVariants as slots
-use Rattle.sva_tables.specs.declared.groups.GroupPlace.{GroupPlace}
-use Rattle.sva_tables.specs.declared.groups.GroupPlace.TheVariants.{Free, Collecting, Out, Stale}
-use Rattle.sva_tables.specs.PasidStates.{state_of, is_off}
-use Rattle.sva_tables.specs.RequestTags.{asks_under}
-use Rattle.sva_tables.specs.UseSlots.{runs_under}
-use Rattle.sva_tables.specs.Groups.{is_free, is_collecting, group_at, group_of, with_request, stale_of, requests_of, outstanding}
+use Rattle.sva_endpoint.specs.declared.pasid_states.PasidState.{PasidState}
+use Rattle.sva_endpoint.specs.declared.pasid_states.PasidState.TheVariants.{Off, On, Stopping}
+use Rattle.sva_endpoint.specs.declared.request_tags.RequestTag.{RequestTag}
+use Rattle.sva_endpoint.specs.declared.request_tags.RequestTag.TheVariants as tags
+use Rattle.sva_endpoint.specs.declared.use_slots.UseSlot.{UseSlot}
+use Rattle.sva_endpoint.specs.declared.use_slots.UseSlot.TheVariants as slots
+use Rattle.sva_endpoint.specs.declared.groups.GroupPlace.{GroupPlace}
+use Rattle.sva_endpoint.specs.declared.groups.GroupPlace.TheVariants.{Free, Collecting, Out, Stale}
+use Rattle.sva_endpoint.specs.PasidStates.{state_of, is_off}
+use Rattle.sva_endpoint.specs.RequestTags.{asks_under}
+use Rattle.sva_endpoint.specs.UseSlots.{runs_under}
+use Rattle.sva_endpoint.specs.Groups.{is_free, is_collecting, group_at, group_of, with_request, stale_of, requests_of, outstanding}
 use Rattle.sva_endpoint.specs.declared.permitted.Fault.{Fault}
 use Rattle.sva_endpoint.specs.Tables.{Tables}
 use Rattle.sva_endpoint.specs.Steps.{may_send, is_of_group, index_for, group_after, is_busy}

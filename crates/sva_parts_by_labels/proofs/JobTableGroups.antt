@@ -4,7 +4,7 @@ use Rattle.std.specs.Prelude.{cond, ◌==◌, ◌&&◌, ◌||◌, not, Some, unw
 use Rattle.std.specs.List.{list_any}
 use Rattle.std.proofs.lemmas.List.{map-append}
 use Rattle.std.proofs.lemmas.Bool.{eq-eqb, eqb-true}
-use Rattle.sva_lemmas.proofs.Tests.{first_fails, second_fails, turned}
+use Rattle.sva_labels.proofs.Tests.{first_fails, second_fails, turned}
 use Rattle.sva_model.specs.Wire.{HostGroupWire}
 use Rattle.sva_labels.specs.Moves as moves
 use Rattle.sva_labels.specs.Outcomes.{asks_of}

@@ -5,7 +5,7 @@ use Rattle.std.specs.List.{list_any}
 use Rattle.std.proofs.lemmas.Bool.{eqb-true, ne_eqb}
 use Rattle.sva_prq.specs.Groups.{OpenGroup, answered_among}
 use Rattle.sva_parts_by_labels.specs.JobTableLaws.{IsIn, AreRising}
-pub use Rattle.sva_lemmas.proofs.Tests.{same_bool as same_tests}
+pub use Rattle.sva_labels.proofs.Tests.{same_bool as same_tests}
 
 -- A thing of a list.
 

@@ -3,7 +3,7 @@ use Rattle.std.proofs.Common.{◌≡◌, ◌≢◌, ◌⊎◌, inl, inr, refl, a
 use Rattle.std.specs.Prelude.{◌==◌, not, Option, Some, None, List, [], ◌∷◌, filter, length, drop, slice_get}
 use Rattle.std.proofs.lemmas.List.{get_or-set_same, get_or-set_other, length-set}
 use Rattle.std.proofs.lemmas.Bool.{eq-eqb}
-use Rattle.sva_lemmas.proofs.Words.{ℕ_cases}
+use Rattle.sva_labels.proofs.Words.{ℕ_cases}
 use Rattle.sva_prq.specs.Job.{Job}
 use Rattle.sva_prq.specs.Groups.{OpenGroup, is_of_other_unit as is_of_other}
 use Rattle.sva_prq.specs.JobTable.{JobTable, no_jobs, with_room, hand, taken, after_answer, after_answer_of, is_job_of_other_unit, without_unit}

@@ -7,9 +7,9 @@ use Rattle.sva_model.specs.State.{PasidState as DeviceState}
 use Rattle.sva_model.specs.States as states
 use Rattle.sva_labels.specs.Finding.{pasid_state}
 use Rattle.sva_labels.specs.Moves.{with_pasid}
-use Rattle.sva_tables.specs.declared.pasid_states.PasidState.{PasidState}
-use Rattle.sva_tables.specs.declared.pasid_states.PasidState.TheVariants.{Off, On, Stopping}
-use Rattle.sva_tables.specs.PasidStates.{state_of, with_state, is_on, is_stopping}
+use Rattle.sva_endpoint.specs.declared.pasid_states.PasidState.{PasidState}
+use Rattle.sva_endpoint.specs.declared.pasid_states.PasidState.TheVariants.{Off, On, Stopping}
+use Rattle.sva_endpoint.specs.PasidStates.{state_of, with_state, is_on, is_stopping}
 use Rattle.sva_endpoint.specs.Tables.{Tables}
 use Rattle.sva_parts_by_labels.specs.Device.{pasid_seen, device_seen}
 use Rattle.sva_endpoint.specs.Laws.{IsSound}

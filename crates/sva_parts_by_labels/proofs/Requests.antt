@@ -3,9 +3,9 @@ use Rattle.std.proofs.Common.{◌≡◌, refl, ap, sym, ◌∙◌, ℕ, ◌^◌}
 use Rattle.std.specs.Prelude.{not, is_none, [], ◌∷◌}
 use Rattle.std.proofs.lemmas.List.{map-set}
 use Rattle.sva_step.specs.declared.refusals.Refusal.TheVariants as refusal
-use Rattle.sva_tables.specs.declared.request_tags.RequestTag.{RequestTag}
-use Rattle.sva_tables.specs.declared.request_tags.RequestTag.TheVariants.{Free, Out, Doomed}
-use Rattle.sva_tables.specs.RequestTags.{is_free}
+use Rattle.sva_endpoint.specs.declared.request_tags.RequestTag.{RequestTag}
+use Rattle.sva_endpoint.specs.declared.request_tags.RequestTag.TheVariants.{Free, Out, Doomed}
+use Rattle.sva_endpoint.specs.RequestTags.{is_free}
 use Rattle.sva_endpoint.specs.Tables.{Tables}
 use Rattle.sva_endpoint.specs.Steps.{lowest_tag}
 use Rattle.sva_parts_by_labels.specs.Device.{tag_seen, device_seen}

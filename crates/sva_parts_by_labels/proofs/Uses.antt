@@ -8,12 +8,12 @@ use Rattle.sva_labels.specs.Finding.{cached, use_at}
 use Rattle.sva_labels.specs.Causes.{is_read_only}
 use Rattle.sva_labels.specs.Moves.{unnoted}
 use Rattle.sva_labels.specs.Outcomes.{end_answer}
-use Rattle.sva_cache.specs.declared.cached.Translation.{Translation}
-use Rattle.sva_tables.specs.declared.use_slots.UseSlot.{UseSlot}
-use Rattle.sva_tables.specs.declared.use_slots.UseSlot.TheVariants.{Free, Running, Dead}
-use Rattle.sva_tables.specs.declared.taken_table.Taken.{Taken}
-use Rattle.sva_tables.specs.UseSlots.{is_free, slot_at}
-use Rattle.sva_tables.specs.Taken.{without_note}
+use Rattle.sva_endpoint.specs.declared.cached.Translation.{Translation}
+use Rattle.sva_endpoint.specs.declared.use_slots.UseSlot.{UseSlot}
+use Rattle.sva_endpoint.specs.declared.use_slots.UseSlot.TheVariants.{Free, Running, Dead}
+use Rattle.sva_endpoint.specs.declared.taken_table.Taken.{Taken}
+use Rattle.sva_endpoint.specs.UseSlots.{is_free, slot_at}
+use Rattle.sva_endpoint.specs.Taken.{without_note}
 use Rattle.sva_endpoint.specs.Tables.{Tables}
 use Rattle.sva_endpoint.specs.Steps.{lowest_slot, translation_at, end_of}
 use Rattle.sva_endpoint.specs.Laws.{IsSound}

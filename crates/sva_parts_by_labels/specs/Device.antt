@@ -5,17 +5,17 @@ use Rattle.sva_model.specs.State.{GroupState, PasidState as DeviceState}
 use Rattle.sva_model.specs.Wire.{DeviceWire, RequestWire, TranslationWire, UseWire, TakenWire, GroupWire}
 use Rattle.sva_model.specs.Wire.UseWire.{RunningWire, DeadWire}
 use Rattle.sva_msg.specs.Seen.{extent_seen}
-use Rattle.sva_cache.specs.declared.cached.Translation.{Translation}
-use Rattle.sva_cache.specs.Cache.{Key, Translations}
-use Rattle.sva_tables.specs.declared.pasid_states.PasidState.{PasidState}
-use Rattle.sva_tables.specs.declared.pasid_states.PasidState.TheVariants.{Off, On, Stopping}
-use Rattle.sva_tables.specs.declared.request_tags.RequestTag.{RequestTag}
-use Rattle.sva_tables.specs.declared.request_tags.RequestTag.TheVariants.{Free as NoRequest, Out, Doomed}
-use Rattle.sva_tables.specs.declared.use_slots.UseSlot.{UseSlot}
-use Rattle.sva_tables.specs.declared.use_slots.UseSlot.TheVariants.{Free as NoUse, Running, Dead}
-use Rattle.sva_tables.specs.declared.taken_table.Taken.{Taken}
-use Rattle.sva_tables.specs.declared.groups.GroupPlace.{GroupPlace}
-use Rattle.sva_tables.specs.declared.groups.GroupPlace.TheVariants.{Free as NoGroup, Collecting, Out as GroupOut, Stale}
+use Rattle.sva_endpoint.specs.declared.cached.Translation.{Translation}
+use Rattle.sva_endpoint.specs.Cache.{Key, Translations}
+use Rattle.sva_endpoint.specs.declared.pasid_states.PasidState.{PasidState}
+use Rattle.sva_endpoint.specs.declared.pasid_states.PasidState.TheVariants.{Off, On, Stopping}
+use Rattle.sva_endpoint.specs.declared.request_tags.RequestTag.{RequestTag}
+use Rattle.sva_endpoint.specs.declared.request_tags.RequestTag.TheVariants.{Free as NoRequest, Out, Doomed}
+use Rattle.sva_endpoint.specs.declared.use_slots.UseSlot.{UseSlot}
+use Rattle.sva_endpoint.specs.declared.use_slots.UseSlot.TheVariants.{Free as NoUse, Running, Dead}
+use Rattle.sva_endpoint.specs.declared.taken_table.Taken.{Taken}
+use Rattle.sva_endpoint.specs.declared.groups.GroupPlace.{GroupPlace}
+use Rattle.sva_endpoint.specs.declared.groups.GroupPlace.TheVariants.{Free as NoGroup, Collecting, Out as GroupOut, Stale}
 use Rattle.sva_endpoint.specs.Tables.{Tables}
 
 -- the state of a PASID at its endpoint (PCI Express Base 5.0, section 6.20); one that is told to stop is Ending in the definitions

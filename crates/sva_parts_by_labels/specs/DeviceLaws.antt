@@ -17,8 +17,8 @@ use Rattle.sva_labels.specs.Moves.{with_pasid, without_tag, kept, taking, ended,
 use Rattle.sva_labels.specs.Outcomes.{end_answer, is_full, response_said}
 use Rattle.sva_msg.specs.declared.messages.Code.{Code}
 use Rattle.sva_msg.specs.declared.messages.Kind.TheVariants.{Start, Stop, Reset, Completion, Response}
-use Rattle.sva_cache.specs.declared.coverage.Invalidation.{Invalidation}
-use Rattle.sva_tables.specs.UseSlots.{slot_at}
+use Rattle.sva_endpoint.specs.declared.coverage.Invalidation.{Invalidation}
+use Rattle.sva_endpoint.specs.UseSlots.{slot_at}
 use Rattle.sva_endpoint.specs.declared.permitted.Fault.{Fault}
 use Rattle.sva_endpoint.specs.Tables.{Tables}
 use Rattle.sva_endpoint.specs.Steps.{refusals_of_ask, lowest_tag, after_ask, refusals_of_use, lowest_slot, translation_at, after_begin_use}

@@ -22,8 +22,8 @@ use std::sync::Wait;
 use sva_core::{World, run};
 use sva_frames::Counts;
 use sva_grammar::{ParseFault, parse};
-use sva_streams::{DriveFault, Told, read_all, write_all};
 use sva_step::{Answer, Config, Refusal, Step};
+use sva_streams::{DriveFault, Told, read_all, write_all};
 
 /// The report was made.
 const DONE: u8 = 0;

@@ -14,13 +14,13 @@ use Rattle.sva_streams.specs.declared.streams.DriveFault.TheVariants.{Read, Writ
 use Rattle.sva_streams.specs.declared.streams.Outcome.{Outcome}
 use Rattle.sva_streams.specs.declared.streams.Outcome.TheVariants.{Done, Faulted}
 use Rattle.sva_reports.specs.Report.{check_of, report_of}
-use Rattle.sva_scenario.proofs.StormLemmas.{lacking_of}
+use Rattle.sva_scenario.proofs.StormReportLemmas.{lacking_of}
 use Rattle.sva_script_reading.specs.Said.{Prints}
 use Rattle.sva_script_reading.specs.Said.{Said}
 use Rattle.sva_script_reports.specs.Scripts.{plain_of, test_of}
 use Rattle.sva_script_reports.specs.Shows.{show_of}
 use Rattle.sva_script_reports.specs.Whys.{whys_of}
-use Rattle.sva_script_traces.specs.Traces.{trace_of}
+use Rattle.sva_script_reports.specs.Traces.{trace_of}
 use Rattle.sva_why.specs.Why.{why_of}
 use Rattle.sva_program.specs.Run.{HasCause, Makes, Reports, Rules, RunsTo, WhereKnown, explored_of, is_strict, ran_of, ruled_of, status_of, status_of_untried}
 use Rattle.sva_program.specs.Run.{style_of}

@@ -3,7 +3,7 @@ use Rattle.std.specs.Prelude.{◌≡◌, ◌≢◌, ◌⊎◌, ◌≤◌, ℕ, �
 use Rattle.std.specs.Prelude.{Result, Ok, Err}
 use Rattle.std.specs.Io.KnownBytes.{Appends, Keeps}
 use Rattle.sva_reports.specs.Report.{check_of, check_outcome_of, outcome_of, report_of}
-use Rattle.sva_scenario.specs.Storms.{StormsOf}
+use Rattle.sva_scenario.specs.StormReports.{StormsOf}
 use Rattle.sva_streams.specs.Streams.{AppendsPrefix, Stream, Writes}
 use Rattle.sva_streams.specs.declared.reading.TheConstants.{MOST_TURNS}
 use Rattle.sva_streams.specs.declared.streams.DriveFault.{DriveFault}
@@ -11,14 +11,14 @@ use Rattle.sva_streams.specs.declared.streams.DriveFault.TheVariants.{Read, Writ
 use Rattle.sva_streams.specs.declared.streams.Outcome.{Outcome}
 use Rattle.sva_streams.specs.declared.streams.Outcome.TheVariants.{Done, Faulted}
 use Rattle.sva_charts.specs.Charts.{Charts}
-use Rattle.sva_script_traces.specs.declared.rows.Columns.{Columns}
-use Rattle.sva_script_traces.specs.declared.rows.Columns.TheVariants.{Padded, Tabbed}
-use Rattle.sva_script_traces.specs.declared.rows.Style.{Style}
+use Rattle.sva_script_reports.specs.declared.rows.Columns.{Columns}
+use Rattle.sva_script_reports.specs.declared.rows.Columns.TheVariants.{Padded, Tabbed}
+use Rattle.sva_script_reports.specs.declared.rows.Style.{Style}
 use Rattle.sva_script_reading.specs.Said.{Prints}
 use Rattle.sva_script_reports.specs.Scripts.{plain_of, test_of}
 use Rattle.sva_script_reports.specs.Shows.{show_of}
 use Rattle.sva_script_reports.specs.Whys.{whys_of}
-use Rattle.sva_script_traces.specs.Traces.{trace_of}
+use Rattle.sva_script_reports.specs.Traces.{trace_of}
 use Rattle.sva_why.specs.Why.{why_of}
 use Rattle.sva_race_reports.specs.declared.judging.Judged.{Judged}
 use Rattle.sva_race_reports.specs.declared.judging.Judged.TheVariants.{Holds, Fails, Unknown}
@@ -26,7 +26,7 @@ use Rattle.sva_race_reports.specs.declared.searching.Wanted.{Wanted}
 use Rattle.sva_race_reports.specs.Explored.{Explores}
 use Rattle.sva_driver_reports.specs.declared.reports.Ruling.{Ruling}
 use Rattle.sva_driver_reports.specs.declared.reports.Ruling.TheVariants.{Safe, Untried, Right, Unsafe, Stuck, CutOff}
-use Rattle.sva_driver_runs.specs.Judged.{Judges, Runs}
+use Rattle.sva_driver_reports.specs.Judged.{Judges, Runs}
 use Rattle.sva_command.specs.declared.command.Asked.{Asked}
 use Rattle.sva_command.specs.declared.command.Asked.TheVariants.{Replay, Check, Storm, Plain, Test, Show, Why, Chart, Explore, Judge, Trace}
 use Rattle.sva_program.specs.declared.run.Ending.{Ending}

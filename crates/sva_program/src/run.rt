@@ -18,12 +18,10 @@ use std::sync::Wait;
 use std::thread::Threads;
 use sva_charts::{Drawing, chart};
 use sva_command::{Asked, NO_TEXT, parse};
-use sva_driver_reports::Ruling;
-use sva_driver_runs::{judge, run};
+use sva_driver_reports::{Ruling, judge, run};
 use sva_race_reports::{Judged, Wanted, explore};
 use sva_scenario::{DriveFault, Outcome, Told, check, drive, write_all};
-use sva_script_reports::{Saying, print};
-use sva_script_traces::{Columns, Style, trace};
+use sva_script_reports::{Columns, Saying, Style, print, trace};
 use sva_search::Watch;
 use sva_why::Explainer;
 

@@ -4,7 +4,7 @@ ghost use Rattle.std.specs.Prelude.{◌≡◌, ◌⊎◌, ◌≤◌, vec_len, If
 ghost use Rattle.std.specs.Io.KnownBytes.{IsAtEnd};
 ghost use Rattle.sva_step.specs.Limits.{Fits};
 ghost use Rattle.sva_streams.specs.declared.reading.TheConstants.{MOST_TURNS};
-ghost use Rattle.sva_scenario.specs.Storms.{HasFoundFrames, StormsOf};
+ghost use Rattle.sva_scenario.specs.StormReports.{HasFoundFrames, StormsOf};
 ghost use Rattle.sva_streams.specs.Streams.{IsNew};
 
 use std::alloc::{AllocError, Global};

@@ -17,8 +17,8 @@ use Rattle.sva_model.specs.Claims.{Fits}
 use Rattle.sva_model.specs.Steps.{checked, reply, world_after}
 use Rattle.sva_model.specs.Wire.{Wire}
 use Rattle.sva_model.specs.Words.{any_below, holds_of}
-use Rattle.sva_lemmas.proofs.Steps.{Passed}
-use Rattle.sva_lemmas.proofs.Tests.{one_holds}
+use Rattle.sva_labels.proofs.Steps.{Passed}
+use Rattle.sva_labels.proofs.Tests.{one_holds}
 use Rattle.sva_labels.specs.Host.{first_wire, reply_of, run_of}
 use Rattle.sva_labels.specs.Sound.{IsSound}
 use Rattle.sva_laws.proofs.Invariant.{Invariant}

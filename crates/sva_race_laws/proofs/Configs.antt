@@ -17,9 +17,9 @@ use Rattle.sva_script_reading.specs.Faults.{Fault}
 use Rattle.sva_script_laws.proofs.StepLines.{config_part}
 use Rattle.sva_script_laws.proofs.StepWords.{part}
 use Rattle.sva_script_laws.proofs.Written.{config_line_read}
-use Rattle.sva_race_words.specs.Limits.{limits_text}
-use Rattle.sva_race_lines.specs.Texts.{RaceRead, if_right, race_behind, race_of, race_read, read_of, right_or_said}
-use Rattle.sva_race_lines.specs.Texts.{too_large}
+use Rattle.sva_race_texts.specs.Limits.{limits_text}
+use Rattle.sva_race_texts.specs.Texts.{RaceRead, if_right, race_behind, race_of, race_read, read_of, right_or_said}
+use Rattle.sva_race_texts.specs.Texts.{too_large}
 
 -- ---- What was read
 

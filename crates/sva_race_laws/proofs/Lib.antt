@@ -1,3 +1,6 @@
+pub mod Lists
+pub mod There
+pub mod Back
 pub mod StepTexts
 pub mod Writing
 pub mod ReadTexts

@@ -14,10 +14,10 @@ use Rattle.sva_model.specs.Wire.{Wire}
 use Rattle.sva_labels.specs.Host.{first_wire, next_of, reply_of, run_of}
 use Rattle.sva_grammar.specs.Laws.{HasLine}
 use Rattle.sva_race_parts.specs.Latest.{group_in, latest_by, place_by, requested, sent, with_latest}
-use Rattle.sva_race_terms.specs.declared.choices.Choice.{Choice}
+use Rattle.sva_race_texts.specs.declared.terms.choices.Choice.{Choice}
 use Rattle.sva_race_parts.specs.declared.latest.Latest.{Latest}
-use Rattle.sva_race_terms.specs.declared.races.Line.{Line}
-use Rattle.sva_race_terms.specs.declared.races.Race.{Race}
+use Rattle.sva_race_texts.specs.declared.terms.races.Line.{Line}
+use Rattle.sva_race_texts.specs.declared.terms.races.Race.{Race}
 use Rattle.sva_race.specs.Acts.{next_in}
 use Rattle.sva_race.specs.Moments.{Moment, done, done_by, done_first, start_of, step_of_line}
 use Rattle.sva_race.specs.Moves.{act_step, line_step, step_and, step_before, step_if, step_of, steps_before, steps_from}

@@ -17,12 +17,12 @@ use Rattle.sva_grammar.specs.Laws.{HasLine}
 use Rattle.sva_race_parts.specs.Devices.{cached_at, fault_by, fault_of_group}
 use Rattle.sva_race_parts.specs.Devices.{group_pasid, manners, pasid_in}
 use Rattle.sva_race_parts.specs.Latest.{group_place, last_by, latest_at}
-use Rattle.sva_race_terms.specs.declared.choices.Act.{Act}
-use Rattle.sva_race_terms.specs.declared.choices.Act.TheVariants as act
-use Rattle.sva_race_terms.specs.declared.choices.Choice.{Choice}
+use Rattle.sva_race_texts.specs.declared.terms.choices.Act.{Act}
+use Rattle.sva_race_texts.specs.declared.terms.choices.Act.TheVariants as act
+use Rattle.sva_race_texts.specs.declared.terms.choices.Choice.{Choice}
 use Rattle.sva_race_parts.specs.declared.latest.Latest.{Latest}
-use Rattle.sva_race_terms.specs.declared.races.Line.{Line}
-use Rattle.sva_race_terms.specs.declared.races.Race.{Race}
+use Rattle.sva_race_texts.specs.declared.terms.races.Line.{Line}
+use Rattle.sva_race_texts.specs.declared.terms.races.Race.{Race}
 use Rattle.sva_race.specs.Acts.{answering, count_of, is_there, places_of, success_step}
 use Rattle.sva_race.specs.Leave.{device_pages}
 use Rattle.sva_race.specs.Moments.{Moment, known_in}

@@ -14,8 +14,8 @@ use Rattle.sva_script_laws.proofs.Following.{numbered}
 use Rattle.sva_script_laws.proofs.Replaying.{reported}
 use Rattle.sva_script_laws.proofs.Written.{Clean, lines_clean}
 use Rattle.sva_race.specs.Stepping.{replays}
-use Rattle.sva_race_lines.specs.declared.kept.Text.{Text}
-use Rattle.sva_race_lines.specs.Texts.{IsText, RaceRead}
+use Rattle.sva_race_texts.specs.declared.kept.Text.{Text}
+use Rattle.sva_race_texts.specs.Texts.{IsText, RaceRead}
 use Rattle.sva_race_reports.specs.Witnesses.{scenario_text}
 use Rattle.sva_race_laws.specs.Witnesses.{WitnessesReplay, steps_of}
 use Rattle.sva_race_laws.proofs.Configs.{IsRead, config_has, found_zero, race_is_read}

@@ -6,16 +6,16 @@ use Rattle.std.specs.Global.{Global}
 use Rattle.std.specs.Prelude.{Vec, nat_lt, slice_get}
 use Rattle.sva_step.specs.declared.steps.Step.{Step}
 use Rattle.sva_grammar.specs.Replies.{ended}
-use Rattle.sva_script_traces.specs.Traces.{NoEnd}
-use Rattle.sva_script_traces.proofs.TraceLemmas.{no_end-both}
+use Rattle.sva_script_reports.specs.Traces.{NoEnd}
+use Rattle.sva_script_reports.proofs.TraceLemmas.{no_end-both}
 use Rattle.sva_script_laws.proofs.AnswerTexts.{number_behind}
 use Rattle.sva_script_laws.proofs.PlainWords.{joined_line}
 use Rattle.sva_script_laws.proofs.Written.{Clean, written}
-use Rattle.sva_race_terms.specs.declared.choices.Act.{Act}
-use Rattle.sva_race_terms.specs.declared.choices.Act.TheVariants as act
-use Rattle.sva_race_terms.specs.declared.choices.Choice.{Choice}
-use Rattle.sva_race_terms.specs.declared.races.Line.{Line}
-use Rattle.sva_race_terms.specs.declared.races.Race.{Race}
+use Rattle.sva_race_texts.specs.declared.terms.choices.Act.{Act}
+use Rattle.sva_race_texts.specs.declared.terms.choices.Act.TheVariants as act
+use Rattle.sva_race_texts.specs.declared.terms.choices.Choice.{Choice}
+use Rattle.sva_race_texts.specs.declared.terms.races.Line.{Line}
+use Rattle.sva_race_texts.specs.declared.terms.races.Race.{Race}
 use Rattle.sva_race.specs.Acts.{next_in}
 use Rattle.sva_race.specs.Moments.{Moment, start_of}
 use Rattle.sva_race.specs.Moves.{step_and, step_before, step_of, steps_before, steps_from}

@@ -13,8 +13,8 @@ use Rattle.sva_grammar.specs.Grammar.{is_skipped}
 use Rattle.sva_grammar.specs.Laws.{access_word, config_words, flags_word, group_word, hexadecimal, last_word}
 use Rattle.sva_grammar.specs.Laws.{step_words, verdict_word}
 use Rattle.sva_grammar.proofs.VectorLemmas.{digit_char-ge}
-use Rattle.sva_script_traces.specs.Traces.{NoEnd}
-use Rattle.sva_script_traces.proofs.TraceLemmas.{no_end-both}
+use Rattle.sva_script_reports.specs.Traces.{NoEnd}
+use Rattle.sva_script_reports.proofs.TraceLemmas.{no_end-both}
 use Rattle.sva_script_laws.proofs.AnswerTexts.{decimal_clean}
 use Rattle.sva_script_laws.proofs.Written.{Clean}
 

@@ -6,11 +6,11 @@ use Rattle.sva_step.specs.declared.steps.Step.{Step}
 use Rattle.sva_labels.specs.Host.{next_of, reply_of}
 use Rattle.sva_race_parts.specs.Devices.{left_of}
 use Rattle.sva_race_parts.specs.Latest.{requested}
-use Rattle.sva_race_terms.specs.declared.choices.Act.{Act}
-use Rattle.sva_race_terms.specs.declared.choices.Act.TheVariants as act
-use Rattle.sva_race_terms.specs.declared.choices.Choice.{Choice}
-use Rattle.sva_race_terms.specs.declared.races.Line.{Line}
-use Rattle.sva_race_terms.specs.declared.races.Race.{Race}
+use Rattle.sva_race_texts.specs.declared.terms.choices.Act.{Act}
+use Rattle.sva_race_texts.specs.declared.terms.choices.Act.TheVariants as act
+use Rattle.sva_race_texts.specs.declared.terms.choices.Choice.{Choice}
+use Rattle.sva_race_texts.specs.declared.terms.races.Line.{Line}
+use Rattle.sva_race_texts.specs.declared.terms.races.Race.{Race}
 use Rattle.sva_race.specs.Acts.{behind_act, behind_next, behind_paid, behind_step, does, is_there, next_in, own_step}
 use Rattle.sva_race.specs.Counts.{counting, with_counts}
 use Rattle.sva_race.specs.Leave.{behind_payment, is_paid_for, paid, paying}

@@ -8,11 +8,11 @@ use Rattle.std.specs.Str.{bytes_eq}
 use Rattle.sva_grammar.specs.Grammar.{words_of}
 use Rattle.sva_script.specs.Lines.{begins_comment, is_arrow, name_before, parts_by, parts_of, said, said_alone}
 use Rattle.sva_script.specs.Lines.{script_words, split_at}
-use Rattle.sva_script_traces.specs.Traces.{NoEnd}
-use Rattle.sva_script_traces.proofs.TraceLemmas.{no_end-both, none_of}
+use Rattle.sva_script_reports.specs.Traces.{NoEnd}
+use Rattle.sva_script_reports.proofs.TraceLemmas.{no_end-both, none_of}
 use Rattle.sva_script_laws.proofs.Written.{Clean}
-use Rattle.sva_race_words.specs.Roles.{is_of_endpoint, is_of_unit, is_of_worker, role_of}
-use Rattle.sva_race_words.specs.Words.{word_at}
+use Rattle.sva_race_texts.specs.Roles.{is_of_endpoint, is_of_unit, is_of_worker, role_of}
+use Rattle.sva_race_texts.specs.Words.{word_at}
 
 -- ---- The words of a line
 

@@ -12,23 +12,23 @@ use Rattle.sva_script_reading.specs.Said.{faults_text}
 use Rattle.sva_script_reading.specs.Lines.{is_end}
 use Rattle.sva_script_laws.proofs.Following.{CleanLines}
 use Rattle.sva_script_laws.proofs.Written.{Clean}
-use Rattle.sva_script_traces.specs.Traces.{NoEnd}
-use Rattle.sva_race_terms.specs.declared.claims.Claiming.{Claiming}
-use Rattle.sva_race_words.specs.declared.faults.RaceWanted.{RaceWanted}
-use Rattle.sva_race_words.specs.declared.faults.RaceWrong.{RaceWrong}
-use Rattle.sva_race_words.specs.Faults.{wrong_at, no_more}
-use Rattle.sva_race_words.specs.Words.{word_at}
-use Rattle.sva_race_claims.specs.Conditions.{begins_claim, claiming_of, claims_at, condition_of, is_of_ends}
-use Rattle.sva_race_claims.specs.Steps.{endpoint_in, named, step_judged}
-use Rattle.sva_race_lines.specs.Claims.{claim_by, with_claim, with_literals}
-use Rattle.sva_race_lines.specs.Devices.{device_of}
-use Rattle.sva_race_lines.specs.Readings.{Reading, nothing}
-use Rattle.sva_race_lines.specs.Texts.{before_race, behind, behind_race, behind_words, from_race, is_misspelt}
-use Rattle.sva_race_lines.specs.Texts.{is_of_thread, is_race, line_before, lines_before}
-use Rattle.sva_race_lines.specs.Texts.{nameless, names_from, other_line, race_judged, race_line, read_of, script_of}
-use Rattle.sva_race_lines.specs.Threads.{device_at, device_line, heading_line, is_try, line_of, thread_line, thread_of}
-use Rattle.sva_race_lines.specs.Threads.{tries, unanswered, verdicts_of}
-use Rattle.sva_race_lines.specs.Threads.{with_line, workers_line}
+use Rattle.sva_script_reports.specs.Traces.{NoEnd}
+use Rattle.sva_race_texts.specs.declared.terms.claims.Claiming.{Claiming}
+use Rattle.sva_race_texts.specs.declared.faults.RaceWanted.{RaceWanted}
+use Rattle.sva_race_texts.specs.declared.faults.RaceWrong.{RaceWrong}
+use Rattle.sva_race_texts.specs.Faults.{wrong_at, no_more}
+use Rattle.sva_race_texts.specs.Words.{word_at}
+use Rattle.sva_race_texts.specs.Conditions.{begins_claim, claiming_of, claims_at, condition_of, is_of_ends}
+use Rattle.sva_race_texts.specs.Steps.{endpoint_in, named, step_judged}
+use Rattle.sva_race_texts.specs.Claims.{claim_by, with_claim, with_literals}
+use Rattle.sva_race_texts.specs.Devices.{device_of}
+use Rattle.sva_race_texts.specs.Readings.{Reading, nothing}
+use Rattle.sva_race_texts.specs.Texts.{before_race, behind, behind_race, behind_words, from_race, is_misspelt}
+use Rattle.sva_race_texts.specs.Texts.{is_of_thread, is_race, line_before, lines_before}
+use Rattle.sva_race_texts.specs.Texts.{nameless, names_from, other_line, race_judged, race_line, read_of, script_of}
+use Rattle.sva_race_texts.specs.Threads.{device_at, device_line, heading_line, is_try, line_of, thread_line, thread_of}
+use Rattle.sva_race_texts.specs.Threads.{tries, unanswered, verdicts_of}
+use Rattle.sva_race_texts.specs.Threads.{with_line, workers_line}
 use Rattle.sva_race_laws.proofs.ThreadNames.{drop_clean, line_words, parts_clean, thread_clean, word_clean}
 use Rattle.sva_race_laws.proofs.Writing.{clean_both}
 

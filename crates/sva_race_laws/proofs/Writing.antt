@@ -8,7 +8,7 @@ use Rattle.sva_step.specs.declared.steps.Step.{Step}
 use Rattle.sva_grammar.specs.Grammar.{is_skipped}
 use Rattle.sva_grammar.specs.Laws.{step_name, step_values}
 use Rattle.sva_grammar.specs.Replies.{ended}
-use Rattle.sva_script_traces.specs.Traces.{NoEnd}
+use Rattle.sva_script_reports.specs.Traces.{NoEnd}
 use Rattle.sva_script_laws.proofs.PlainWords.{joined_line}
 use Rattle.sva_script_laws.proofs.Written.{Clean, written}
 use Rattle.sva_race_reports.specs.Witnesses.{step_line}

@@ -1,1 +1,2 @@
+pub mod ByNames
 pub mod Witnesses

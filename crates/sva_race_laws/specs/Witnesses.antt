@@ -7,13 +7,13 @@ use Rattle.sva_reports.specs.Report.{report_of}
 use Rattle.sva_grammar.specs.Replies.{ended, reply_text}
 use Rattle.sva_reports.specs.Counts.{counts_at}
 use Rattle.sva_search.specs.Rules.{LeadsTo}
-use Rattle.sva_race_terms.specs.declared.choices.Choice.{Choice}
-use Rattle.sva_race_terms.specs.declared.races.Race.{Race}
+use Rattle.sva_race_texts.specs.declared.terms.choices.Choice.{Choice}
+use Rattle.sva_race_texts.specs.declared.terms.races.Race.{Race}
 use Rattle.sva_race.specs.Moments.{Moment, start_of}
 use Rattle.sva_race.specs.Moves.{steps_before, steps_from}
 use Rattle.sva_race.specs.Rules.{rules_of}
-use Rattle.sva_race_lines.specs.declared.kept.Text.{Text}
-use Rattle.sva_race_lines.specs.Texts.{IsText, RaceRead, race_of}
+use Rattle.sva_race_texts.specs.declared.kept.Text.{Text}
+use Rattle.sva_race_texts.specs.Texts.{IsText, RaceRead, race_of}
 use Rattle.sva_race_reports.specs.Witnesses.{scenario_text}
 
 -- the steps of a witness: those of the lines before the race, and those of the choices

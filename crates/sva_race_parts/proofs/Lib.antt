@@ -6,3 +6,12 @@ pub mod Noted
 pub mod Same
 pub mod Naming
 pub mod Tallies
+pub mod Forgotten
+pub mod Placed
+pub mod Resolved
+pub mod Quiet
+pub mod Plain
+pub mod Parting
+pub mod Unnamed
+pub mod Compared
+pub mod Columns

@@ -5,3 +5,8 @@ pub mod Latest
 pub mod Names
 pub mod Reading
 pub mod Usable
+pub mod Unnumbered
+pub mod Nameless
+pub mod Plain
+pub mod Moments
+pub mod Laws

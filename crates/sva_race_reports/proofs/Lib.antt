@@ -1,3 +1,5 @@
+pub mod Counting
+pub mod Rows
 pub mod Rulings
 pub mod Verdicts
 pub mod Endings

@@ -1,6 +1,8 @@
+pub mod Ends
+pub mod Kinds
 pub mod Judging
 pub mod Witnesses
-pub mod Ends
+pub mod WitnessEnds
 pub mod Held
 pub mod Literals
 pub mod Reports

@@ -7,10 +7,10 @@ ghost use Rattle.sva_race_reports.specs.Reports.{asks, claimed};
 use crate::claims::{judged_at, put_reach, put_whole};
 use crate::judging::Judged;
 use crate::searching::Wanted;
+use crate::telling::put_counted;
 use std::alloc::{AllocError, Global};
 use sva_race::{Choice, Claim, End, Race};
-use sva_race_ends::put_counted;
-use sva_race_lines::{Asked, AskedLiteral};
+use sva_race_texts::{Asked, AskedLiteral};
 use sva_reports::Explains;
 use sva_search::Found;
 

@@ -1,8 +1,8 @@
 //! The report of a race that was searched.
 
 ghost use Rattle.std.specs.Prelude.{◌≡◌, ◌++◌, ◌+◌, ◌<◌, ◌^◌, OnOk, option_map};
-ghost use Rattle.sva_race_lines.specs.Readings.{asked_seen};
-ghost use Rattle.sva_race_reports.specs.Ends.{ends_text};
+ghost use Rattle.sva_race_texts.specs.Readings.{asked_seen};
+ghost use Rattle.sva_race_reports.specs.WitnessEnds.{ends_text};
 ghost use Rattle.sva_race_reports.specs.Held.{held_in};
 ghost use Rattle.sva_race_reports.specs.Judging.{judged_at};
 ghost use Rattle.sva_race_reports.specs.declared.judging.Judged.TheVariants.{Holds};
@@ -15,11 +15,11 @@ use crate::held::put_held_in;
 use crate::judging::{Judged, both, judge, witness_of, word_of};
 use crate::literals::put_literals;
 use crate::searching::Wanted;
+use crate::telling::{put_counted, put_end_texts};
 use crate::witnesses::put_witness;
 use std::alloc::{AllocError, Global};
 use sva_race::{Choice, Claim, Claiming, End, Race};
-use sva_race_ends::{put_counted, put_end_texts};
-use sva_race_lines::{Asked, AskedLiteral};
+use sva_race_texts::{Asked, AskedLiteral};
 use sva_reports::Explains;
 use sva_script_reading::put_number;
 use sva_search::Found;

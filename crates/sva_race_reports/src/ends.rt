@@ -8,8 +8,8 @@ ghost use Rattle.sva_script_reading.specs.Begins.{joined_words};
 ghost use Rattle.sva_script_reports.specs.Whys.{case_line, held_text};
 ghost use Rattle.sva_search.specs.Rules.{run_from};
 ghost use Rattle.sva_race.specs.Rules.{rules_of};
-ghost use Rattle.sva_race_reports.specs.Ends.{Leads, ends_line, ends_text, moment_behind, no_number_line};
-ghost use Rattle.sva_race_reports.specs.Ends.{wait_text, waiting_text, waits_text};
+ghost use Rattle.sva_race_reports.specs.WitnessEnds.{Leads, ends_line, ends_text, moment_behind, no_number_line};
+ghost use Rattle.sva_race_reports.specs.WitnessEnds.{wait_text, waiting_text, waits_text};
 
 use crate::steps::put_words;
 use crate::witnesses::choice_at;

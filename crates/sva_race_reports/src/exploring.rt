@@ -10,9 +10,9 @@ use crate::judging::Judged;
 use crate::searching::{Wanted, explore_text};
 use std::alloc::Global;
 use std::io::{Read, Write};
-use sva_streams::{DriveFault, Told, read_all, write_all};
 use sva_reports::Explains;
 use sva_search::Watch;
+use sva_streams::{DriveFault, Told, read_all, write_all};
 
 /// Reads a race to its end, and writes what comes of exploring it, as `explore_text` has it. After `Write` a prefix of the
 /// text was written, after `Read` or `Memory` nothing. The watch is told before that how far the search is.

@@ -8,9 +8,9 @@ use crate::witnesses::put_scenario;
 use std::alloc::{AllocError, Global};
 use sva_race::{Choice, Race};
 use sva_reports::Explains;
+use sva_script::is;
 use sva_script_reading::put_number;
 use sva_script_reports::why;
-use sva_words::is;
 
 /// What `why` says where no step was held back.
 const NOTHING: &[u8] = b"nothing was refused, blocked or withheld\n";

@@ -1,4 +1,5 @@
-//! What is said of a race: how far a search came, what that says of each claim, and shortest witnesses as scenarios.
+//! What is said of a race: how far a search came, what its ends come to, what that says of each claim, and shortest
+//! witnesses as scenarios.
 #![tactic(auto)]
 
 mod briefs;
@@ -7,9 +8,12 @@ mod ends;
 mod exploring;
 mod held;
 mod judging;
+mod kinds;
 mod literals;
+mod pieces;
 mod searching;
 mod steps;
+mod telling;
 mod witnesses;
 
 pub use exploring::explore;

@@ -1,7 +1,7 @@
 //! Literals that were at no moment true.
 
 ghost use Rattle.std.specs.Prelude.{◌≡◌, ◌+◌, ◌++◌, ◌<◌, ◌^◌, OnOk, length};
-ghost use Rattle.sva_race_lines.specs.Readings.{asked_literal_seen};
+ghost use Rattle.sva_race_texts.specs.Readings.{asked_literal_seen};
 ghost use Rattle.sva_race_reports.specs.Literals.{asked_literals, literal_at, literal_line, literal_text};
 ghost use Rattle.sva_race_reports.specs.Literals.{literals_from, never_true};
 
@@ -9,7 +9,7 @@ use crate::claims::judged_at;
 use crate::judging::Judged;
 use std::alloc::AllocError;
 use sva_race::{Choice, Claiming, End};
-use sva_race_lines::AskedLiteral;
+use sva_race_texts::AskedLiteral;
 use sva_script_reading::put_number;
 use sva_search::Found;
 

@@ -6,9 +6,9 @@ ghost use Rattle.sva_race_reports.specs.Witnesses.{act_who, before_text, front_t
 ghost use Rattle.sva_race_reports.specs.Witnesses.{move_text, moves_text, scenario_text, step_line_if, title, witness_text};
 
 use crate::steps::{put_config, put_step};
+use crate::telling::put_counted;
 use std::alloc::{AllocError, Global};
 use sva_race::{Act, Choice, Moment, Race};
-use sva_race_ends::put_counted;
 use sva_script_reading::put_number;
 use sva_step::Step;
 

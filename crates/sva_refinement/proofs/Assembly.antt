@@ -14,7 +14,7 @@ use Rattle.sva_model.specs.Refusals.{refusals}
 use Rattle.sva_model.specs.Outcomes.{outcome}
 use Rattle.sva_model.specs.Steps.{decide, reply, next, after_acts}
 use Rattle.sva_model.specs.Wire.{wire}
-use Rattle.sva_lemmas.proofs.Words.{put-same, put-other, ℕ_cases}
+use Rattle.sva_labels.proofs.Words.{put-same, put-other, ℕ_cases}
 use Rattle.sva_laws.proofs.Jobs.{is_past}
 use Rattle.sva_laws.proofs.Fronts.{AllFronts, act_fronts}
 use Rattle.sva_laws.proofs.Debts.{AllDebts, act_debts}

@@ -6,10 +6,10 @@ use Rattle.sva_model.specs.State.{World}
 use Rattle.sva_model.specs.States.{is_unreleased}
 use Rattle.sva_model.specs.Unmappings.{bound}
 use Rattle.sva_model.specs.Wire.{BindingWire, number, binding_wire, wire}
-use Rattle.sva_lemmas.proofs.Words.{ℕ_cases, find_passes}
+use Rattle.sva_labels.proofs.Words.{ℕ_cases, find_passes}
 use Rattle.sva_laws.proofs.Invariant.{Invariant}
 use Rattle.sva_laws.proofs.Passed.{unreleased_bound}
-use Rattle.sva_lemmas.proofs.Tests.{first_holds}
+use Rattle.sva_labels.proofs.Tests.{first_holds}
 use Rattle.sva_labels.specs.Finding.{bound_at}
 use Rattle.sva_refinement.proofs.LookedLists.{find_same, find_seen}
 use Rattle.sva_refinement.proofs.SpaceLists.{same_number}

@@ -13,7 +13,7 @@ use Rattle.sva_model.specs.Acts.{LocalAct, act_alone, act}
 use Rattle.sva_model.specs.Acts.Act.{AtEndpoint}
 use Rattle.sva_model.specs.Wire.{BindingWire, StageWire, number, cookie_number, stage_wire, binding_wire, wire}
 use Rattle.sva_model.specs.Wire.StageWire.{LiveWire, StoppingWire, DrainingWire, InvalidatingWire, QuietWire}
-use Rattle.sva_lemmas.proofs.Words.{put-same, put-other, ℕ_cases}
+use Rattle.sva_labels.proofs.Words.{put-same, put-other, ℕ_cases}
 use Rattle.sva_laws.proofs.Legal.{LegalLocalAct}
 use Rattle.sva_laws.proofs.Orders.{Orders}
 use Rattle.sva_laws.proofs.Invariant.{Invariant}
@@ -22,7 +22,7 @@ use Rattle.sva_labels.specs.Moves.{with_stage, without_binding, cut_off, cut_off
 use Rattle.sva_refinement.proofs.Selected.{select_seen, select_filtered, select_one, select_less, map_twice}
 use Rattle.sva_refinement.proofs.Flights.{part_after, same_view}
 use Rattle.sva_laws.proofs.Cookies.{own_old as old_order}
-use Rattle.sva_lemmas.proofs.Tests.{and_no, is_itself}
+use Rattle.sva_labels.proofs.Tests.{and_no, is_itself}
 
 -- What an entry of a binding reads: the order that its stage waits for among them.
 abbrev pub KeepsOrder : (p q : Endpoint) → Stage → Type 0

@@ -18,8 +18,8 @@ use Rattle.sva_model.specs.Labels
 use Rattle.sva_model.specs.Outcomes as outcomes
 use Rattle.sva_model.specs.Wire.{BusyWire, number, group_wire, busy_wire, wire}
 use Rattle.sva_laws.specs.LabelLaws.{IsVectorOf}
-use Rattle.sva_lemmas.proofs.Counting.{count_placed}
-use Rattle.sva_lemmas.proofs.Lists.{tabulate_at}
+use Rattle.sva_labels.proofs.Counting.{count_placed}
+use Rattle.sva_labels.proofs.Lists.{tabulate_at}
 use Rattle.sva_labels.specs.Finding.{unit_of, group_at, busy_at}
 use Rattle.sva_labels.specs.Moves.{Move, extent_in, extent_or_all}
 use Rattle.sva_labels.specs.Outcomes.{by_one, response_said, count_result, count_read, is_last_of}
@@ -31,7 +31,7 @@ use Rattle.sva_refinement.proofs.Reached.{IsReached}
 use Rattle.sva_refinement.proofs.Alike.{result_by}
 use Rattle.sva_refinement.proofs.DeliverResults.{ArrivesAlike, by_message, open_seen}
 use Rattle.sva_laws.proofs.Groups.{answerable_outstanding as waits_on}
-use Rattle.sva_lemmas.proofs.Tests.{first_holds, second_holds}
+use Rattle.sva_labels.proofs.Tests.{first_holds, second_holds}
 
 -- An Invalidate: its range is read from the code.
 

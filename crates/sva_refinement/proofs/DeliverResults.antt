@@ -2,7 +2,7 @@
 use Rattle.std.proofs.Common.{◌≡◌, refl, ap, ap₂, sym, subst, ◌∙◌, ℕ, ◌<◌, Bool, true, false}
 use Rattle.std.specs.Prelude.{Option, Some, None}
 use Rattle.std.proofs.lemmas.Bool.{not-false}
-use Rattle.sva_lemmas.proofs.Tests.{second_holds}
+use Rattle.sva_labels.proofs.Tests.{second_holds}
 use Rattle.sva_step.specs.declared.steps.Step.TheVariants as step
 use Rattle.sva_model.specs.Words.{is_some}
 use Rattle.sva_model.specs.Message.{Message}

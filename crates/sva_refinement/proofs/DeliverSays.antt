@@ -15,8 +15,8 @@ use Rattle.sva_model.specs.Refusals as names
 use Rattle.sva_model.specs.Refusals.{refusals}
 use Rattle.sva_model.specs.Wire.{UnitWire, FlightWire, flight_wire, wire}
 use Rattle.sva_laws.specs.LabelLaws.{IsCarried}
-use Rattle.sva_lemmas.proofs.Words.{ℕ_cases}
-use Rattle.sva_lemmas.proofs.Tests.{is_itself}
+use Rattle.sva_labels.proofs.Words.{ℕ_cases}
+use Rattle.sva_labels.proofs.Tests.{is_itself}
 use Rattle.sva_labels.specs.Finding.{kind_of, flight_of, holds_back, may_deliver, unit_of}
 use Rattle.sva_labels.specs.Causes.{causes_of, deliver_causes, delivery_sends}
 use Rattle.sva_refinement.proofs.Lookups.{any_seen, any_same, find_one, find_none}

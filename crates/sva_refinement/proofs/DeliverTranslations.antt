@@ -18,13 +18,13 @@ use Rattle.sva_model.specs.StateChanges.{is_replaced}
 use Rattle.sva_model.specs.Outcomes as names
 use Rattle.sva_model.specs.Wire.{DeviceWire, number, insert_by, sorted_by, is_before, is_doomed, stage_wire, page_wire, request_wire, cached_wire}
 use Rattle.sva_model.specs.Wire.{device_wire, wire}
-use Rattle.sva_lemmas.proofs.Words.{some_the}
-use Rattle.sva_lemmas.proofs.Counting.{count_same}
+use Rattle.sva_labels.proofs.Words.{some_the}
+use Rattle.sva_labels.proofs.Counting.{count_same}
 use Rattle.sva_laws.proofs.Invariant.{Invariant}
 use Rattle.sva_laws.proofs.Found.{found}
 use Rattle.sva_laws.proofs.Resets.{open_is}
 use Rattle.sva_laws.proofs.Orders.{active_unreleased}
-use Rattle.sva_lemmas.proofs.Tests.{none_before}
+use Rattle.sva_labels.proofs.Tests.{none_before}
 use Rattle.sva_labels.specs.Finding.{is_live, bearer, pages_in, page_at, device_of, tag_at}
 use Rattle.sva_labels.specs.Moves.{Move}
 use Rattle.sva_labels.specs.Outcomes.{by_one, found_for, completion_of, request_result, completion_result, completion_by, keep_result, is_other, is_full}

@@ -8,7 +8,7 @@ use Rattle.sva_model.specs.States.{is_unreleased, is_out, is_busy, covers}
 use Rattle.sva_model.specs.StateChanges.{none_if, is_replaced, binding_of, extent_of}
 use Rattle.sva_model.specs.Acts.{act_alone, LocalAct}
 use Rattle.sva_model.specs.Wire.{TranslationWire, sorted_by, insert_by, is_before, cached_wire, cache_wire, translation_wire}
-use Rattle.sva_lemmas.proofs.Words.{put-same, put-other, ℕ_cases}
+use Rattle.sva_labels.proofs.Words.{put-same, put-other, ℕ_cases}
 use Rattle.sva_laws.proofs.Legal.{LegalLocalAct}
 use Rattle.sva_laws.proofs.Bounds.{Bounds}
 use Rattle.sva_laws.proofs.Bindings.{Bindings}

@@ -11,7 +11,7 @@ use Rattle.sva_model.specs.Labels
 use Rattle.sva_model.specs.StateChanges.{binding_of, extent_of, completing_if, lapse}
 use Rattle.sva_model.specs.Acts.{act_alone, LocalAct}
 use Rattle.sva_model.specs.Wire.{chain, taken_by, is_noted, use_wire, translation_wire}
-use Rattle.sva_lemmas.proofs.Words.{put-same, put-other}
+use Rattle.sva_labels.proofs.Words.{put-same, put-other}
 use Rattle.sva_laws.proofs.Legal.{LegalLocalAct}
 use Rattle.sva_laws.proofs.Bounds.{Bounds}
 use Rattle.sva_laws.proofs.Labels.{Labels}
@@ -23,7 +23,7 @@ use Rattle.sva_refinement.proofs.DeviceRows.{tabulate_map}
 use Rattle.sva_refinement.proofs.DeviceTaken.{notes, taken_seen, taken_wire, taken_by_same}
 use Rattle.sva_refinement.proofs.DeviceTags.{covers_same}
 use Rattle.sva_refinement.proofs.DeviceSlots.{slots_wire, seen_use, other_use, slot_made, running_unreleased}
-use Rattle.sva_lemmas.proofs.Lists.{tabulate_same, tabulate_set, tabulate_at}
+use Rattle.sva_labels.proofs.Lists.{tabulate_same, tabulate_set, tabulate_at}
 
 -- The ITags of a vector are finished.
 pub taken_finished :

@@ -10,8 +10,8 @@ use Rattle.sva_model.specs.States.{is_off, is_outstanding}
 use Rattle.sva_model.specs.StateChanges.{sent_as, stale_if}
 use Rattle.sva_model.specs.Acts.{act_alone, LocalAct}
 use Rattle.sva_model.specs.Wire.{GroupWire, group_wire}
-use Rattle.sva_lemmas.proofs.Words.{put-same, put-other}
-use Rattle.sva_lemmas.proofs.Counting.{count_same, count_zero}
+use Rattle.sva_labels.proofs.Words.{put-same, put-other}
+use Rattle.sva_labels.proofs.Counting.{count_same, count_zero}
 use Rattle.sva_laws.proofs.Legal.{LegalLocalAct}
 use Rattle.sva_laws.proofs.Bounds.{Bounds}
 use Rattle.sva_laws.proofs.Bindings.{Bindings}
@@ -21,7 +21,7 @@ use Rattle.sva_labels.specs.Moves.{with_request, stale_of}
 use Rattle.sva_refinement.proofs.DevicePasids.{unreleased_unless}
 use Rattle.sva_refinement.proofs.DeviceTags.{pasids_differ}
 use Rattle.sva_refinement.proofs.DeviceRows.{tabulate_map, row_same, row_set, row_map}
-use Rattle.sva_lemmas.proofs.Lists.{tabulate_at}
+use Rattle.sva_labels.proofs.Lists.{tabulate_at}
 
 abbrev pub groups_wire : Endpoint → List (Option GroupWire)
 groups_wire p = tabulate 32 (λ i. option_map (group_wire p) (p.at_index i))

@@ -11,7 +11,7 @@ use Rattle.sva_model.specs.Acts.{act}
 use Rattle.sva_model.specs.Acts.Act.{Map}
 use Rattle.sva_model.specs.Wire.{sorted_by, is_before, cached_wire, cache_wire, translation_wire, use_wire, is_noted, device_wire}
 use Rattle.sva_model.specs.Wire.UseWire.{RunningWire, DeadWire}
-use Rattle.sva_lemmas.proofs.Words.{put-other, some_the}
+use Rattle.sva_labels.proofs.Words.{put-other, some_the}
 use Rattle.sva_laws.proofs.Owners.{Owners}
 use Rattle.sva_refinement.proofs.DeviceRows.{row_same, select_seen}
 use Rattle.sva_refinement.proofs.DeviceTaken.{taken_wire, taken_same}

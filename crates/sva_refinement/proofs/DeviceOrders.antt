@@ -12,7 +12,7 @@ use Rattle.sva_model.specs.StateChanges.{binding_of, extent_of, void_queued, cou
 use Rattle.sva_model.specs.Acts.{act_alone, LocalAct}
 use Rattle.sva_model.specs.Labels
 use Rattle.sva_model.specs.Wire.{chain, taken_by, is_noted}
-use Rattle.sva_lemmas.proofs.Words.{put-same, put-other, ℕ_cases}
+use Rattle.sva_labels.proofs.Words.{put-same, put-other, ℕ_cases}
 use Rattle.sva_laws.proofs.Legal.{LegalLocalAct}
 use Rattle.sva_laws.proofs.Resets.{Resets}
 use Rattle.sva_laws.proofs.Bounds.{Bounds}
@@ -21,7 +21,7 @@ use Rattle.sva_laws.proofs.Orders.{Orders}
 use Rattle.sva_refinement.proofs.DeviceTaken.{notes, taken_seen, taken_wire, taken_by_same, taken_same}
 use Rattle.sva_refinement.proofs.DeviceTags.{busy_unreleased}
 use Rattle.sva_refinement.proofs.DeviceSlots.{slot_made}
-use Rattle.sva_lemmas.proofs.Lists.{tabulate_same}
+use Rattle.sva_labels.proofs.Lists.{tabulate_same}
 
 -- an order that bears an ITag was submitted
 pub busy_made : (p : Endpoint) (g k : ℕ) → Bounds g p → is_busy (p.order_state k) ≡ true → k < p.orders

@@ -7,13 +7,13 @@ use Rattle.sva_model.specs.State.PasidState.{Off}
 use Rattle.sva_model.specs.States.{is_unreleased, is_off}
 use Rattle.sva_model.specs.Acts.{act_alone, LocalAct}
 use Rattle.sva_model.specs.Wire.{DeviceWire, state_of_pasid}
-use Rattle.sva_lemmas.proofs.Words.{put-same, put-other, ℕ_cases}
+use Rattle.sva_labels.proofs.Words.{put-same, put-other, ℕ_cases}
 use Rattle.sva_laws.proofs.Legal.{LegalLocalAct}
 use Rattle.sva_laws.proofs.Bindings.{Bindings, is_unmarked}
 use Rattle.sva_laws.proofs.Labels.{Labels}
 use Rattle.sva_labels.specs.Moves.{with_pasid}
 use Rattle.sva_refinement.proofs.DeviceRows.{tabulate_map}
-use Rattle.sva_lemmas.proofs.Lists.{tabulate_same, tabulate_set}
+use Rattle.sva_labels.proofs.Lists.{tabulate_same, tabulate_set}
 
 abbrev pub pasids_wire : Endpoint → List PasidState
 pasids_wire p = tabulate 32 (λ t. state_of_pasid p (p.at_pasid (suc t)))

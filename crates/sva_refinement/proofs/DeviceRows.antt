@@ -3,7 +3,7 @@ use Rattle.std.proofs.Common.{◌≡◌, ◌≢◌, refl, ap, sym, ◌∙◌, �
 use Rattle.std.specs.Prelude.{Option, Some, None, option_map, [], ◌∷◌, ◌++◌, map, slice_set}
 use mathlib.Core.List.{map-append}
 use Rattle.sva_model.specs.Words.{select, tabulate}
-use Rattle.sva_lemmas.proofs.Lists.{tabulate_same, tabulate_set}
+use Rattle.sva_labels.proofs.Lists.{tabulate_same, tabulate_set}
 use Rattle.sva_refinement.proofs.Picked.{picked_same}
 
 -- a table with each entry changed alike

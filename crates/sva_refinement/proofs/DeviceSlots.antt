@@ -9,7 +9,7 @@ use Rattle.sva_model.specs.StateChanges
 use Rattle.sva_model.specs.Acts.{act_alone, LocalAct}
 use Rattle.sva_model.specs.Wire.{UseWire, TranslationWire, use_wire, translation_wire}
 use Rattle.sva_model.specs.Wire.UseWire.{RunningWire, DeadWire}
-use Rattle.sva_lemmas.proofs.Words.{put-same, put-other}
+use Rattle.sva_labels.proofs.Words.{put-same, put-other}
 use Rattle.sva_laws.proofs.Legal.{LegalLocalAct}
 use Rattle.sva_laws.proofs.Bounds.{Bounds}
 use Rattle.sva_laws.proofs.Labels.{Labels, has_slot}

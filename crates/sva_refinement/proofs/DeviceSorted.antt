@@ -5,8 +5,8 @@ use Rattle.std.proofs.lemmas.List.Elements.{filter-append}
 use mathlib.Core.List.{map-append}
 use Rattle.sva_model.specs.Words.{select}
 use Rattle.sva_model.specs.Wire.{insert_by, sorted_by}
-use Rattle.sva_lemmas.proofs.Words.{ℕ_cases}
-use Rattle.sva_lemmas.proofs.Lists.{select_same}
+use Rattle.sva_labels.proofs.Words.{ℕ_cases}
+use Rattle.sva_labels.proofs.Lists.{select_same}
 
 -- an order of which some elements may be equals
 pub record IsOrder {A : Type 0} (below : A → A → Bool) : Type 0 where

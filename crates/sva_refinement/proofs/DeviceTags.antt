@@ -11,14 +11,14 @@ use Rattle.sva_model.specs.States.Extent.{Pages, AllPages}
 use Rattle.sva_model.specs.StateChanges.{doom_if, binding_of, extent_of}
 use Rattle.sva_model.specs.Acts.{act_alone, LocalAct}
 use Rattle.sva_model.specs.Wire.{RequestWire, request_wire, is_doomed}
-use Rattle.sva_lemmas.proofs.Words.{put-same, put-other, ℕ_cases}
+use Rattle.sva_labels.proofs.Words.{put-same, put-other, ℕ_cases}
 use Rattle.sva_laws.proofs.Legal.{LegalLocalAct}
 use Rattle.sva_laws.proofs.Bounds.{Bounds}
 use Rattle.sva_laws.proofs.Bindings.{Bindings}
 use Rattle.sva_laws.proofs.Labels.{Labels}
 use Rattle.sva_laws.proofs.Requests.{Requests}
 use Rattle.sva_laws.proofs.Orders.{Orders, is_undone, active_unreleased}
-use Rattle.sva_lemmas.proofs.Tests.{same_inside, turned}
+use Rattle.sva_labels.proofs.Tests.{same_inside, turned}
 use Rattle.sva_labels.specs.Finding
 use Rattle.sva_labels.specs.Moves.{doomed}
 use Rattle.sva_refinement.proofs.DevicePasids.{unreleased_unless}

@@ -6,7 +6,7 @@ use Rattle.sva_model.specs.State.{Mappings, OrderState, Endpoint}
 use Rattle.sva_model.specs.State.OrderState.{Queued, Sent, Taken, Lapsed, Completing, Done, Void}
 use Rattle.sva_model.specs.StateChanges.{binding_of, extent_of}
 use Rattle.sva_model.specs.Wire.{TakenWire, chain, taken_by, is_noted}
-use Rattle.sva_lemmas.proofs.Lists.{tabulate_same}
+use Rattle.sva_labels.proofs.Lists.{tabulate_same}
 
 -- what the device keeps of the invalidation that bears an ITag
 abbrev pub taken_seen : Mappings → Endpoint → (order : ℕ) → Option TakenWire

@@ -15,8 +15,8 @@ use Rattle.sva_model.specs.Refusals as names
 use Rattle.sva_model.specs.Refusals.{page_range, refusals}
 use Rattle.sva_model.specs.Outcomes.{outcome}
 use Rattle.sva_model.specs.Wire.{DeviceWire, GroupWire, group_wire, wire}
-use Rattle.sva_lemmas.proofs.Words.{ℕ_cases}
-use Rattle.sva_lemmas.proofs.Counting.{count_zero, count_off}
+use Rattle.sva_labels.proofs.Words.{ℕ_cases}
+use Rattle.sva_labels.proofs.Counting.{count_zero, count_off}
 use Rattle.sva_laws.proofs.Invariant.{Invariant}
 use Rattle.sva_laws.proofs.Found.{found}
 use Rattle.sva_laws.proofs.Passed.{Passed}
@@ -31,7 +31,7 @@ use Rattle.sva_refinement.proofs.EndpointLookups.{started_seen, ending_seen, gro
 use Rattle.sva_refinement.proofs.EndpointSays.{below_seen, bearer_pasid}
 use Rattle.sva_refinement.proofs.Alike.{SaysAlike, result_by}
 use Rattle.sva_laws.proofs.LegalEndpoint.{unfinished_is}
-use Rattle.sva_lemmas.proofs.Tests.{is_itself, is_less, same_inside}
+use Rattle.sva_labels.proofs.Tests.{is_itself, is_less, same_inside}
 
 -- The page requests that are outstanding, group by group and one by one.
 

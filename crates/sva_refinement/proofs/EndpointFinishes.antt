@@ -15,7 +15,7 @@ use Rattle.sva_model.specs.Wire.{chain, is_noted, taken_by, wire}
 use Rattle.sva_laws.proofs.Labels.{running_slot}
 use Rattle.sva_laws.proofs.Invariant.{Invariant}
 use Rattle.sva_laws.proofs.Orders.{taken_busy}
-use Rattle.sva_lemmas.proofs.Tests.{first_holds, second_holds}
+use Rattle.sva_labels.proofs.Tests.{first_holds, second_holds}
 use Rattle.sva_labels.specs.Finding.{device_of, taken_at, waits_for_use}
 use Rattle.sva_labels.specs.Causes.{causes_of}
 use Rattle.sva_refinement.proofs.Lookups.{any_table, any_same}

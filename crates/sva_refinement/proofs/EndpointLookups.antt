@@ -11,13 +11,13 @@ use Rattle.sva_model.specs.State.PasidState.{Off}
 use Rattle.sva_model.specs.States.{is_on, is_ending, is_unreleased}
 use Rattle.sva_model.specs.Labels
 use Rattle.sva_model.specs.Wire.{chain, is_before, state_of_pasid, request_wire, cached_wire, use_wire, taken_by, group_wire, device_wire}
-use Rattle.sva_lemmas.proofs.Words.{lowest_below, any_below-true, any_below-intro, some_the}
+use Rattle.sva_labels.proofs.Words.{lowest_below, any_below-true, any_below-intro, some_the}
 use Rattle.sva_laws.proofs.Labels as Bears
 use Rattle.sva_laws.proofs.Invariant.{PartInvariant}
 use Rattle.sva_laws.proofs.Passed.{bearer_of}
 use Rattle.sva_laws.proofs.Orders.{active_unreleased}
-use Rattle.sva_lemmas.proofs.Tests.{both_same, same_inside}
-use Rattle.sva_lemmas.proofs.Lists.{tabulate_past, tabulate_at}
+use Rattle.sva_labels.proofs.Tests.{both_same, same_inside}
+use Rattle.sva_labels.proofs.Lists.{tabulate_past, tabulate_at}
 use Rattle.sva_labels.specs.Finding.{pasid_state, is_at_page, cached, group_at, use_at, tag_at, taken_at}
 use Rattle.sva_refinement.proofs.Lookups.{find_one, find_none, find_sorted, alone_select, and_two}
 

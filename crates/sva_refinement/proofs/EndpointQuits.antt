@@ -15,7 +15,7 @@ use Rattle.sva_model.specs.Claims.{IsBearer}
 use Rattle.sva_model.specs.Labels
 use Rattle.sva_model.specs.Refusals.{refusals}
 use Rattle.sva_model.specs.Wire.{UseWire, request_wire, use_wire, group_wire, translation_wire, device_wire, wire}
-use Rattle.sva_lemmas.proofs.Words.{any_below-true, any_below-intro}
+use Rattle.sva_labels.proofs.Words.{any_below-true, any_below-intro}
 use Rattle.sva_laws.proofs.Labels.{running_slot}
 use Rattle.sva_laws.proofs.Invariant.{Invariant}
 use Rattle.sva_laws.proofs.Found.{found}

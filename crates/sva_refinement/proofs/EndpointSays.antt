@@ -15,11 +15,11 @@ use Rattle.sva_model.specs.Labels
 use Rattle.sva_model.specs.Refusals as names
 use Rattle.sva_model.specs.Refusals.{refusals}
 use Rattle.sva_model.specs.Wire.{DeviceWire, UseWire, translation_wire, cached_wire, request_wire, use_wire, wire}
-use Rattle.sva_lemmas.proofs.Words.{some_the}
+use Rattle.sva_labels.proofs.Words.{some_the}
 use Rattle.sva_laws.proofs.Invariant.{Invariant}
 use Rattle.sva_laws.proofs.Passed.{bearer_of}
 use Rattle.sva_laws.proofs.LegalEndpoint.{cached_is}
-use Rattle.sva_lemmas.proofs.Tests.{and_no, is_less, second_holds}
+use Rattle.sva_labels.proofs.Tests.{and_no, is_less, second_holds}
 use Rattle.sva_labels.specs.Finding.{device_of, lowest_label, cached, use_at}
 use Rattle.sva_labels.specs.Causes.{causes_of, not_started, not_held, is_read_only}
 use Rattle.sva_labels.specs.Moves.{Move}

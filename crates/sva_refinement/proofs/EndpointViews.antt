@@ -6,7 +6,7 @@ use Rattle.sva_model.specs.State.{World}
 use Rattle.sva_model.specs.Refusals as names
 use Rattle.sva_model.specs.Refusals.{Cause}
 use Rattle.sva_model.specs.Wire.{wire, part_wire, device_wire, unit_wire}
-use Rattle.sva_lemmas.proofs.Lists.{tabulate_at, tabulate_length}
+use Rattle.sva_labels.proofs.Lists.{tabulate_at, tabulate_length}
 use Rattle.sva_labels.specs.Finding.{idle, part_of, device_of, unit_of}
 use Rattle.sva_labels.specs.Causes.{no_such_endpoint, numbers_spent}
 use Rattle.sva_refinement.proofs.Alike.{IsAlike, alike_more}

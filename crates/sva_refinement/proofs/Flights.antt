@@ -11,8 +11,8 @@ use Rattle.sva_model.specs.StateChanges.{scope_of, extent_of, binding_of, count_
 use Rattle.sva_model.specs.Acts.{LocalAct, act_alone, act, sends}
 use Rattle.sva_model.specs.Acts.Act.{AtEndpoint}
 use Rattle.sva_model.specs.Wire.{FlightWire, number, flight_wire, wire}
-use Rattle.sva_lemmas.proofs.Words.{put-same, put-other, ℕ_cases}
-use Rattle.sva_lemmas.proofs.Lists.{tabulate_same}
+use Rattle.sva_labels.proofs.Words.{put-same, put-other, ℕ_cases}
+use Rattle.sva_labels.proofs.Lists.{tabulate_same}
 use Rattle.sva_refinement.proofs.Selected.{select_seen, select_filtered, select_more}
 
 -- the endpoint after an act of it

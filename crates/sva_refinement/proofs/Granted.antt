@@ -28,7 +28,7 @@ use Rattle.sva_model.specs.Outcomes.{Outcome, outcome, unbind_outcome, advance_o
 use Rattle.sva_model.specs.Outcomes.{serve_outcome, file_outcome, reply_outcome, fault_outcome, deliver_outcome, completion_outcome, keep_outcome, is_full}
 use Rattle.sva_model.specs.Outcomes.{request_outcome, count_outcome, page_request_outcome, marker_outcome}
 use Rattle.sva_model.specs.Steps.{checked, decide, next, run, after_acts, world_after}
-use Rattle.sva_lemmas.proofs.Tests.{other_fails}
+use Rattle.sva_labels.proofs.Tests.{other_fails}
 use Rattle.sva_laws.proofs.Invariant.{Invariant}
 use Rattle.sva_laws.proofs.Keeps.{Legal, act_keeps}
 use Rattle.sva_laws.proofs.Passed.{Passed, LegalAll}

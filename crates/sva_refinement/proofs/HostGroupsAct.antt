@@ -10,11 +10,11 @@ use Rattle.sva_model.specs.States.{is_open, is_open_group}
 use Rattle.sva_model.specs.StateChanges.{discarded}
 use Rattle.sva_model.specs.Acts.{LocalAct, act_alone}
 use Rattle.sva_model.specs.Wire.{number, ask_wire, asks_wire, host_group_wire, host_groups_wire, begins_open, is_part}
-use Rattle.sva_lemmas.proofs.Words.{put-same, put-other, ℕ_cases}
+use Rattle.sva_labels.proofs.Words.{put-same, put-other, ℕ_cases}
 use Rattle.sva_laws.proofs.Legal.{LegalLocalAct}
 use Rattle.sva_laws.proofs.Bounds.{Bounds}
 use Rattle.sva_laws.proofs.Invariant.{PartInvariant}
-use Rattle.sva_lemmas.proofs.Tests.{first_holds}
+use Rattle.sva_labels.proofs.Tests.{first_holds}
 use Rattle.sva_refinement.proofs.Picked.{picked_same, picked_none}
 use Rattle.sva_refinement.proofs.Selected.{map_twice}
 use Rattle.sva_refinement.proofs.UnitQueue.{old_put}

@@ -14,15 +14,15 @@ use Rattle.sva_model.specs.StateChanges.{filed_as}
 use Rattle.sva_model.specs.Acts.{LocalAct, act_alone}
 use Rattle.sva_model.specs.Wire.{number, ask_wire, asks_wire, page_request_wire, host_group_wire, host_groups_wire, group_job, begins_open, is_part}
 use Rattle.sva_model.specs.Wire.{AskWire, HostGroupWire}
-use Rattle.sva_lemmas.proofs.Lists.{none_below}
-use Rattle.sva_lemmas.proofs.Words.{put-same, put-other, ℕ_cases, any_below-false, any_below-intro, lowest_below}
+use Rattle.sva_labels.proofs.Lists.{none_below}
+use Rattle.sva_labels.proofs.Words.{put-same, put-other, ℕ_cases, any_below-false, any_below-intro, lowest_below}
 use Rattle.sva_laws.proofs.Legal.{LegalLocalAct}
 use Rattle.sva_laws.proofs.Orders.{is_active}
 use Rattle.sva_laws.proofs.PageRequests.{is_whole}
 use Rattle.sva_laws.proofs.Groups.{Groups, is_filed_group}
 use Rattle.sva_laws.proofs.Invariant.{PartInvariant}
 use Rattle.sva_laws.proofs.OnTheWay.{OnTheWay}
-use Rattle.sva_lemmas.proofs.Tests.{all_three, first_alone, first_holds}
+use Rattle.sva_labels.proofs.Tests.{all_three, first_alone, first_holds}
 use Rattle.sva_labels.specs.Moves.{filed, is_begun, is_of_job}
 use Rattle.sva_refinement.proofs.Picked.{if_passes, picked_next, picked_same, picked_none, picked_filter}
 use Rattle.sva_refinement.proofs.UnitQueue.{old_put}

@@ -4,10 +4,10 @@ use Rattle.std.proofs.Common.{◌≡◌, ◌≢◌, ◌⊎◌, inl, inr, refl, a
 use Rattle.std.specs.Prelude.{◌&&◌, not, ◌==◌, if◌then◌else◌, List, [], ◌∷◌, ◌++◌, map}
 use Rattle.sva_model.specs.Words.{any_below, select}
 use Rattle.sva_model.specs.Wire.{PageRequestWire, HostGroupWire}
-use Rattle.sva_lemmas.proofs.Words.{ℕ_cases}
+use Rattle.sva_labels.proofs.Words.{ℕ_cases}
 use Rattle.sva_labels.specs.Moves.{filed, is_begun}
 use Rattle.sva_refinement.proofs.Picked.{if_passes, picked_next, picked_same}
-use Rattle.sva_lemmas.proofs.Lists.{any_same}
+use Rattle.sva_labels.proofs.Lists.{any_same}
 
 -- what a page request begins, and what it is added to
 abbrev pub begun_by : (binding : ℕ) → PageRequestWire → HostGroupWire

@@ -12,12 +12,12 @@ use Rattle.sva_model.specs.Acts.{LocalAct, act_alone, act}
 use Rattle.sva_model.specs.Acts.Act.{AtEndpoint}
 use Rattle.sva_model.specs.Labels
 use Rattle.sva_model.specs.Wire.{AskWire, number, ask_wire, asks_wire, group_job, job_wire, wire}
-use Rattle.sva_lemmas.proofs.Words.{put-same, put-other, ℕ_cases}
+use Rattle.sva_labels.proofs.Words.{put-same, put-other, ℕ_cases}
 use Rattle.sva_laws.proofs.Legal.{LegalLocalAct}
 use Rattle.sva_laws.proofs.Bounds.{Bounds}
 use Rattle.sva_laws.proofs.Invariant.{Invariant, IsHeldBy}
 use Rattle.sva_laws.proofs.Jobs.{is_past}
-use Rattle.sva_lemmas.proofs.Lists.{tabulate_same}
+use Rattle.sva_labels.proofs.Lists.{tabulate_same}
 use Rattle.sva_refinement.proofs.Selected.{select_seen, select_filtered, select_less, map_twice}
 use Rattle.sva_refinement.proofs.Picked.{picked_drop}
 use Rattle.sva_refinement.proofs.Flights.{part_after}

@@ -1,3 +1,4 @@
+pub mod FullSpace
 pub mod LowestFree
 pub mod OtherMappings
 pub mod PagesOfSpaces

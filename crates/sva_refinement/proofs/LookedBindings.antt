@@ -10,15 +10,15 @@ use Rattle.sva_model.specs.State.Stage.{Unbound}
 use Rattle.sva_model.specs.States.{is_unreleased}
 use Rattle.sva_model.specs.Labels
 use Rattle.sva_model.specs.Wire.{number, binding_wire, wire}
-use Rattle.sva_lemmas.proofs.Words.{any_below-true, any_below-intro}
+use Rattle.sva_labels.proofs.Words.{any_below-true, any_below-intro}
 use Rattle.sva_laws.proofs.Invariant.{Invariant}
 use Rattle.sva_laws.proofs.Passed.{unreleased_made, unreleased_bound}
 use Rattle.sva_labels.specs.Finding.{binding_of, bearer, is_bound, is_borne}
 use Rattle.sva_refinement.proofs.Bound.{binding_seen}
 use Rattle.sva_refinement.proofs.LookedLists.{find_none, find_only, find_seen}
 use Rattle.sva_refinement.proofs.Lookups.{any_seen}
-pub use Rattle.sva_lemmas.proofs.Tests.{same_bool as both_ways}
-use Rattle.sva_lemmas.proofs.Tests.{first_holds, same_inside, second_holds, taken_off}
+pub use Rattle.sva_labels.proofs.Tests.{same_bool as both_ways}
+use Rattle.sva_labels.proofs.Tests.{first_holds, same_inside, second_holds, taken_off}
 
 -- is it unreleased, at its own endpoint?
 abbrev pub is_kept : World → (binding : ℕ) → Bool

@@ -12,12 +12,12 @@ use Rattle.sva_model.specs.States.{is_open_group, is_outstanding}
 use Rattle.sva_model.specs.Acts.{LocalAct, act_alone}
 use Rattle.sva_model.specs.State.{Mappings}
 use Rattle.sva_model.specs.Wire.{number, ask_wire, asks_wire, begins_open, is_part, host_group_wire, host_groups_wire}
-use Rattle.sva_lemmas.proofs.Words.{find_passes, find_some}
+use Rattle.sva_labels.proofs.Words.{find_passes, find_some}
 use Rattle.sva_laws.proofs.Groups.{is_filed_group}
 use Rattle.sva_laws.proofs.Invariant.{PartInvariant}
 use Rattle.sva_laws.proofs.OnTheWay.{OnTheWay}
-use Rattle.sva_lemmas.proofs.Tests.{all_three, first_holds, same_inside, second_holds}
-use Rattle.sva_lemmas.proofs.Lists.{none_below}
+use Rattle.sva_labels.proofs.Tests.{all_three, first_holds, same_inside, second_holds}
+use Rattle.sva_labels.proofs.Lists.{none_below}
 use Rattle.sva_labels.specs.Moves.{is_begun}
 use Rattle.sva_labels.specs.Outcomes.{asks_of}
 use Rattle.sva_refinement.proofs.HostGroupsAct.{filed_group, asks_seen}

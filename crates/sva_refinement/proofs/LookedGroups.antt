@@ -8,11 +8,11 @@ use Rattle.sva_model.specs.State.HostGroupState.{NotFiled}
 use Rattle.sva_model.specs.States.{is_open_group}
 use Rattle.sva_model.specs.Labels
 use Rattle.sva_model.specs.Wire.{number, begins_open, host_group_wire, part_wire}
-use Rattle.sva_lemmas.proofs.Words.{any_below-true, any_below-intro, lowest_below}
+use Rattle.sva_labels.proofs.Words.{any_below-true, any_below-intro, lowest_below}
 use Rattle.sva_laws.proofs.Bounds.{Bounds}
 use Rattle.sva_laws.proofs.Groups.{open_filed}
-use Rattle.sva_lemmas.proofs.Tests.{first_holds, second_holds}
-use Rattle.sva_lemmas.proofs.Lists.{none_below}
+use Rattle.sva_labels.proofs.Tests.{first_holds, second_holds}
+use Rattle.sva_labels.proofs.Lists.{none_below}
 use Rattle.sva_labels.specs.Finding.{has_open_group}
 use Rattle.sva_refinement.proofs.HostGroupsFiled.{Filings}
 use Rattle.sva_refinement.proofs.LookedBindings.{both_ways}

@@ -10,9 +10,9 @@ use Rattle.std.proofs.lemmas.List.Sums.{sum_by-append}
 use Rattle.std.proofs.lemmas.Bool.Decides.{nat_tests}
 use Rattle.std.proofs.lemmas.Bool.{eq-eqb, lt-ltb}
 use Rattle.sva_model.specs.Words.{find, if_found, lowest, step_lowest, count_below, select}
-use Rattle.sva_lemmas.proofs.Words.{lowest_cases, find_some}
-use Rattle.sva_lemmas.proofs.Tests.{lower_differs, none_before}
-use Rattle.sva_lemmas.proofs.Lists.{select_length}
+use Rattle.sva_labels.proofs.Words.{lowest_cases, find_some}
+use Rattle.sva_labels.proofs.Tests.{lower_differs, none_before}
+use Rattle.sva_labels.proofs.Lists.{select_length}
 pub use Rattle.sva_refinement.proofs.DeviceSorted.{none_selected as select_none}
 
 -- Searches by number.

@@ -12,11 +12,11 @@ use Rattle.sva_model.specs.States.{is_unreleased}
 use Rattle.sva_model.specs.Outcomes as names
 use Rattle.sva_model.specs.Labels
 use Rattle.sva_model.specs.Wire.{number, wire}
-use Rattle.sva_lemmas.proofs.Words.{any_below-true, any_below-intro, find_passes, find_some, lowest_cases}
-use Rattle.sva_lemmas.proofs.Counting.{count_placed}
+use Rattle.sva_labels.proofs.Words.{any_below-true, any_below-intro, find_passes, find_some, lowest_cases}
+use Rattle.sva_labels.proofs.Counting.{count_placed}
 use Rattle.sva_laws.proofs.Invariant.{Invariant}
 use Rattle.sva_laws.proofs.Passed.{unreleased_made, unreleased_bound}
-use Rattle.sva_lemmas.proofs.Tests.{first_holds, same_inside, second_holds}
+use Rattle.sva_labels.proofs.Tests.{first_holds, same_inside, second_holds}
 use Rattle.sva_labels.specs.Finding.{pasid_by, pasid_for, is_borne}
 use Rattle.sva_labels.specs.Outcomes.{bearer_answer}
 use Rattle.sva_refinement.proofs.Bound.{binding_seen}

@@ -21,8 +21,8 @@ use Rattle.sva_model.specs.Wire.{job_wire, wire}
 use Rattle.sva_laws.proofs.Groups.{is_filed_group}
 use Rattle.sva_laws.proofs.Invariant.{Invariant, IsHeldBy}
 use Rattle.sva_laws.proofs.LegalUnit.{group_there}
-use Rattle.sva_lemmas.proofs.Tests.{none_before}
-use Rattle.sva_lemmas.proofs.Lists.{select_same, select_length, tabulate_length}
+use Rattle.sva_labels.proofs.Tests.{none_before}
+use Rattle.sva_labels.proofs.Lists.{select_same, select_length, tabulate_length}
 use Rattle.sva_labels.specs.Finding.{pages_in, page_at, is_mapped, is_free, free_from, binding_of}
 use Rattle.sva_labels.specs.Replying.{response_by, response_for, response_to, responds, replies_success, space_by, pages_of_job, newly_mapped}
 use Rattle.sva_labels.specs.Replying.{is_write_asked, is_read_only_at, is_write_of_read_only}

@@ -9,9 +9,9 @@ use Rattle.sva_model.specs.State.{World}
 use Rattle.sva_model.specs.Outcomes.{frames_at}
 use Rattle.sva_model.specs.Labels
 use Rattle.sva_model.specs.Wire.{number, page_wire, pages_wire, wire}
-use Rattle.sva_lemmas.proofs.Words.{all_below-true}
+use Rattle.sva_labels.proofs.Words.{all_below-true}
 use Rattle.sva_laws.proofs.Invariant.{Mapped}
-use Rattle.sva_lemmas.proofs.Lists.{tabulate_same}
+use Rattle.sva_labels.proofs.Lists.{tabulate_same}
 use Rattle.sva_refinement.proofs.PagesOfSpaces.{page_at_is, pages_length}
 pub use Rattle.sva_refinement.proofs.PlacesByNumber.{lowest_is as lowest_there, free_is as frames_free}
 use Rattle.sva_refinement.proofs.SpacesByNumber.{space_found, space_missing}

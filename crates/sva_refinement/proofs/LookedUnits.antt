@@ -17,11 +17,11 @@ use Rattle.sva_model.specs.Refusals.{is_queue_short}
 use Rattle.sva_model.specs.Labels
 use Rattle.sva_model.specs.Wire.{TargetWire, number, end_number, cookie_number, stage_wire, binding_wire, descriptor, unit_wire, wire}
 use Rattle.sva_laws.specs.Waits.{HasFront}
-use Rattle.sva_lemmas.proofs.Words.{any_below-true, any_below-intro}
-use Rattle.sva_lemmas.proofs.Counting.{count_same}
+use Rattle.sva_labels.proofs.Words.{any_below-true, any_below-intro}
+use Rattle.sva_labels.proofs.Counting.{count_same}
 use Rattle.sva_laws.proofs.Invariant.{Invariant}
-use Rattle.sva_lemmas.proofs.Tests.{first_holds, second_holds}
-use Rattle.sva_lemmas.proofs.Lists.{tabulate_at}
+use Rattle.sva_labels.proofs.Tests.{first_holds, second_holds}
+use Rattle.sva_labels.proofs.Lists.{tabulate_at}
 use Rattle.sva_labels.specs.Finding.{unit_of, bound_at, is_wait_done, is_before_invalidating, has_room, submits, submits_by}
 use Rattle.sva_labels.specs.Moves.{target_by, target_by_stage, cookie_at, targets_of}
 use Rattle.sva_labels.specs.Causes.{waits_needed}

@@ -11,12 +11,12 @@ use Rattle.sva_model.specs.Words as words
 use Rattle.sva_model.specs.Words.{step_lowest, lowest, any_below, select, tabulate}
 use Rattle.sva_model.specs.Labels
 use Rattle.sva_model.specs.Wire.{insert_by, sorted_by}
-use Rattle.sva_lemmas.proofs.Words.{ℕ_cases, lowest_cases}
-use Rattle.sva_lemmas.proofs.Tests.{lower_differs, or_no}
-use Rattle.sva_lemmas.proofs.Lists.{tabulate_length, lowest_same}
+use Rattle.sva_labels.proofs.Words.{ℕ_cases, lowest_cases}
+use Rattle.sva_labels.proofs.Tests.{lower_differs, or_no}
+use Rattle.sva_labels.proofs.Lists.{tabulate_length, lowest_same}
 use Rattle.sva_labels.specs.Finding.{lowest_label}
 use Rattle.sva_labels.specs.Outcomes.{label}
-pub use Rattle.sva_lemmas.proofs.Lists.{any_same}
+pub use Rattle.sva_labels.proofs.Lists.{any_same}
 
 -- The first place that passes.
 

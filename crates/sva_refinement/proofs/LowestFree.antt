@@ -4,7 +4,7 @@ use Rattle.std.specs.Prelude.{if◌then◌else◌, ◌==◌, List, [], ◌∷◌
 use Rattle.std.proofs.lemmas.Bool.Decides.{nat_tests}
 use Rattle.sva_model.specs.Words.{step_lowest, lowest, tabulate}
 use Rattle.sva_model.specs.Wire.{PlaceWire}
-use Rattle.sva_lemmas.proofs.Lists.{tabulate_length}
+use Rattle.sva_labels.proofs.Lists.{tabulate_length}
 use Rattle.sva_labels.specs.Places.{is_free, lowest_free}
 
 one_more : (l n : ℕ) (b t : Bool) → (l == n) ≡ t → suc (step_lowest t l n b) ≡ step_lowest (suc l == suc n) (suc l) (suc n) b

@@ -8,8 +8,8 @@ use Rattle.sva_model.specs.State.{Owed, Mappings, World}
 use Rattle.sva_model.specs.States.{is_present}
 use Rattle.sva_model.specs.Unmappings.{without_pages}
 use Rattle.sva_model.specs.Wire.{PageWire, PlaceWire, insert_by, is_lower_page, is_page_of, page_wire, pages_below, pages_wire}
-use Rattle.sva_lemmas.proofs.Words.{put-same, put-other, ℕ_cases}
-use Rattle.sva_lemmas.proofs.Lists.{tabulate_same, tabulate_set}
+use Rattle.sva_labels.proofs.Words.{put-same, put-other, ℕ_cases}
+use Rattle.sva_labels.proofs.Lists.{tabulate_same, tabulate_set}
 use Rattle.sva_refinement.proofs.OtherMappings.{with_mappings}
 use Rattle.sva_refinement.proofs.PagesOfSpaces.{pages_same, pages_rising, filter_insert, gone_test, those_kept, others_kept}
 use Rattle.sva_labels.specs.Moves.{placed}

@@ -13,7 +13,7 @@ use Rattle.sva_model.specs.StateChanges.{dropped_arrived}
 use Rattle.sva_model.specs.Acts.{LocalAct, act_alone}
 use Rattle.sva_model.specs.Labels.{is_waiting}
 use Rattle.sva_model.specs.Wire.{page_request_wire, page_queue_wire, PageRequestWire}
-use Rattle.sva_lemmas.proofs.Words.{put-same, put-other}
+use Rattle.sva_labels.proofs.Words.{put-same, put-other}
 use Rattle.sva_laws.proofs.Legal.{LegalLocalAct}
 use Rattle.sva_laws.proofs.Bounds.{Bounds}
 use Rattle.sva_laws.proofs.PageRequests.{Queued, arrived_is}

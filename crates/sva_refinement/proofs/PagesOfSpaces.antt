@@ -12,9 +12,9 @@ use Rattle.sva_model.specs.Unmappings.{gone_if}
 use Rattle.sva_model.specs.Acts.{act}
 use Rattle.sva_model.specs.Acts.Act.{Map}
 use Rattle.sva_model.specs.Wire.{PageWire, insert_by, is_lower_page, is_page_of, page_wire, pages_below, pages_wire}
-use Rattle.sva_lemmas.proofs.Words.{put-same, put-other, ℕ_cases}
+use Rattle.sva_labels.proofs.Words.{put-same, put-other, ℕ_cases}
 use Rattle.sva_laws.proofs.Invariant.{Mapped}
-use Rattle.sva_lemmas.proofs.Tests.{first_holds, same_inside, second_holds}
+use Rattle.sva_labels.proofs.Tests.{first_holds, same_inside, second_holds}
 use Rattle.sva_labels.specs.Places.{page_at}
 
 -- Lists of pages.

@@ -3,7 +3,7 @@
 use Rattle.std.proofs.Common.{◌≡◌, ◌≢◌, ◌⊎◌, inl, inr, refl, ap, ap₂, sym, ◌∙◌, ℕ, zero, suc, ◌+◌, ◌<◌, Bool, true, false, arith, append-nil, append_assoc}
 use Rattle.std.specs.Prelude.{if◌then◌else◌, List, [], ◌∷◌, ◌++◌, map, filter, drop}
 use Rattle.sva_model.specs.Words.{select, tabulate}
-use Rattle.sva_lemmas.proofs.Words.{ℕ_cases}
+use Rattle.sva_labels.proofs.Words.{ℕ_cases}
 pub use Rattle.sva_refinement.proofs.LookedLists.{seen_next as picked_next}
 
 -- what stands at a number that may pass

@@ -10,10 +10,10 @@ use Rattle.sva_model.specs.Acts.Act.{Map}
 use Rattle.sva_model.specs.Labels
 use Rattle.sva_model.specs.Wire.{PlaceWire, withheld_wire, place_wire_by, places_wire}
 use Rattle.sva_model.specs.Wire.PlaceWire.{FreeWire, MappedWire}
-use Rattle.sva_lemmas.proofs.Words.{put-same, put-other}
+use Rattle.sva_labels.proofs.Words.{put-same, put-other}
 use Rattle.sva_laws.proofs.Invariant.{Mapped}
 use Rattle.sva_labels.specs.Places.{is_free, lowest_free}
-use Rattle.sva_lemmas.proofs.Lists.{tabulate_length, tabulate_set, lowest_same}
+use Rattle.sva_labels.proofs.Lists.{tabulate_length, tabulate_set, lowest_same}
 use Rattle.sva_refinement.proofs.LowestFree.{lowest_free_is}
 use Rattle.sva_refinement.proofs.OtherMappings.{with_mappings}
 

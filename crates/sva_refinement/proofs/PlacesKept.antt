@@ -15,22 +15,22 @@ use Rattle.sva_model.specs.Wire.{PlaceWire, cookie_number, target_of, target_wir
 use Rattle.sva_model.specs.Wire.PlaceWire.{WithheldWire}
 use Rattle.sva_model.specs.Wire.TargetWire.{Cookie}
 use Rattle.sva_laws.specs.Waits.{IsBehind, FitsDebt}
-use Rattle.sva_lemmas.proofs.Words.{all_below-false}
+use Rattle.sva_labels.proofs.Words.{all_below-false}
 use Rattle.sva_laws.proofs.Legal.{LegalLocalAct}
 use Rattle.sva_laws.proofs.Bounds.{Bounds}
 use Rattle.sva_laws.proofs.Orders.{Orders, SentOnly}
 use Rattle.sva_laws.proofs.Answered.{answered_own}
-use Rattle.sva_lemmas.proofs.Words.{all_below-intro}
+use Rattle.sva_labels.proofs.Words.{all_below-intro}
 use Rattle.sva_laws.proofs.Cookies.{own_old}
 use Rattle.sva_laws.proofs.Debts.{AllDebts}
 use Rattle.sva_laws.proofs.Invariant.{Invariant}
 use Rattle.sva_laws.proofs.Keeps.{Legal, put_keeps}
-use Rattle.sva_lemmas.proofs.Lists.{tabulate_same, all_same}
+use Rattle.sva_labels.proofs.Lists.{tabulate_same, all_same}
 use Rattle.sva_refinement.proofs.PlacesByNumber.{gone_seen, seen_by}
 use Rattle.sva_refinement.proofs.PlacesOut.{places_same}
 pub use Rattle.sva_laws.proofs.Targets.{no_reset}
 pub use Rattle.sva_laws.proofs.Targets.{both_done}
-use Rattle.sva_lemmas.proofs.Tests.{first_fails, second_fails}
+use Rattle.sva_labels.proofs.Tests.{first_fails, second_fails}
 
 -- What isn't answered waits for a wait that isn't done.
 

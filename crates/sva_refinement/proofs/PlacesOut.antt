@@ -10,10 +10,10 @@ use Rattle.sva_model.specs.States.{is_present, place}
 use Rattle.sva_model.specs.Unmappings.{gone_if, without_pages}
 use Rattle.sva_model.specs.Wire.{PlaceWire, is_page_of, pages_wire, place_wire_by, places_wire}
 use Rattle.sva_model.specs.Wire.PlaceWire.{FreeWire, MappedWire}
-use Rattle.sva_lemmas.proofs.Words.{any_below-true, any_below-false}
+use Rattle.sva_labels.proofs.Words.{any_below-true, any_below-false}
 use Rattle.sva_laws.proofs.Invariant.{Mapped}
-use Rattle.sva_lemmas.proofs.Tests.{first_holds, second_holds}
-use Rattle.sva_lemmas.proofs.Lists.{tabulate_same}
+use Rattle.sva_labels.proofs.Tests.{first_holds, second_holds}
+use Rattle.sva_labels.proofs.Lists.{tabulate_same}
 use Rattle.sva_refinement.proofs.PagesOfSpaces.{present_is}
 use Rattle.sva_refinement.proofs.PlacesByNumber.{seen_by, seen_at, place_seen}
 use Rattle.sva_labels.specs.Moves.{placed}

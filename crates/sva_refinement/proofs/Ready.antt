@@ -26,7 +26,7 @@ use Rattle.sva_model.specs.Replies.{maps_to, reply_maps, replies_success, newly_
 use Rattle.sva_model.specs.Outcomes.{outcome, unbind_outcome, advance_outcome, pump_outcome, head_outcome, wait_outcome, send_outcome, may_pass}
 use Rattle.sva_model.specs.Outcomes.{serve_outcome, file_outcome, reply_outcome, fault_outcome, subject_outcome, deliver_outcome, completion_outcome}
 use Rattle.sva_model.specs.Outcomes.{keep_outcome, is_full, request_outcome, count_outcome, page_request_outcome, marker_outcome}
-use Rattle.sva_lemmas.proofs.Words.{put-same, any_below-true, lowest_below, lowest_cases}
+use Rattle.sva_labels.proofs.Words.{put-same, any_below-true, lowest_below, lowest_cases}
 use Rattle.sva_laws.proofs.Invariant.{Invariant}
 use Rattle.sva_laws.proofs.OnTheWay.{AllOn}
 use Rattle.sva_laws.proofs.JobSteps.{JobsOf, not_past}

@@ -17,10 +17,10 @@ use Rattle.sva_model.specs.Outcomes.{unbind_outcome, advance_outcome}
 use Rattle.sva_model.specs.Labels
 use Rattle.sva_model.specs.Wire.{BindingWire, number, cookie_number, stage_wire, binding_wire, wire}
 use Rattle.sva_laws.specs.Waits.{HasFront}
-use Rattle.sva_lemmas.proofs.Words.{find_passes, find_some, any_below-true, any_below-intro}
+use Rattle.sva_labels.proofs.Words.{find_passes, find_some, any_below-true, any_below-intro}
 use Rattle.sva_laws.proofs.Invariant.{Invariant}
 use Rattle.sva_laws.proofs.Passed.{unreleased_bound}
-use Rattle.sva_lemmas.proofs.Tests.{is_less}
+use Rattle.sva_labels.proofs.Tests.{is_less}
 use Rattle.sva_labels.specs.Finding.{binding_of, bound_at, pasid_for, has_room, has_open_group, is_wait_done}
 use Rattle.sva_labels.specs.Causes.{causes_of, no_such_endpoint, no_such_space, resetting, numbers_spent, bind_causes, unbind_causes, advance_causes}
 use Rattle.sva_labels.specs.Causes.{unbind_by, advance_by}

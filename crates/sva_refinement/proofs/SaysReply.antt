@@ -16,7 +16,7 @@ use Rattle.sva_model.specs.Outcomes.{reply_outcome, code_answer}
 use Rattle.sva_model.specs.Labels
 use Rattle.sva_model.specs.Wire.{AskWire, number, job_wire, wire}
 use Rattle.sva_laws.proofs.Invariant.{Invariant}
-use Rattle.sva_lemmas.proofs.Tests.{is_less}
+use Rattle.sva_labels.proofs.Tests.{is_less}
 use Rattle.sva_labels.specs.Finding.{pages_in, free_from, held_by}
 use Rattle.sva_labels.specs.Replying.{responds, space_by, space_of_job, newly_mapped, is_write_asked, is_write_of_read_only}
 use Rattle.sva_labels.specs.Moves.{Move, pasid_or_0}

@@ -17,14 +17,14 @@ use Rattle.sva_model.specs.Refusals.{Cause, refusals}
 use Rattle.sva_model.specs.Outcomes.{file_outcome, serve_outcome, take_outcome}
 use Rattle.sva_model.specs.Labels
 use Rattle.sva_model.specs.Wire.{JobWire, number, ask_wire, page_request_wire, page_queue_wire, part_wire, group_job, job_wire, binding_wire, wire}
-use Rattle.sva_lemmas.proofs.Words.{put-same, lowest_below, any_below-true}
+use Rattle.sva_labels.proofs.Words.{put-same, lowest_below, any_below-true}
 use Rattle.sva_laws.proofs.Invariant.{Invariant}
 use Rattle.sva_laws.proofs.OnTheWay.{OnTheWay}
 use Rattle.sva_laws.proofs.Passed.{opened_is}
 use Rattle.sva_laws.proofs.Bindings.{before_unreleased}
 use Rattle.sva_laws.proofs.PageRequests.{arrived_is}
-use Rattle.sva_lemmas.proofs.Tests.{is_less}
-use Rattle.sva_lemmas.proofs.Lists.{tabulate_at, tabulate_length}
+use Rattle.sva_labels.proofs.Tests.{is_less}
+use Rattle.sva_labels.proofs.Lists.{tabulate_at, tabulate_length}
 use Rattle.sva_labels.specs.Finding.{bearer, held_by}
 use Rattle.sva_labels.specs.Moves.{Move}
 use Rattle.sva_labels.specs.Causes.{resetting, no_such_worker}

@@ -16,10 +16,10 @@ use Rattle.sva_model.specs.Labels
 use Rattle.sva_model.specs.Wire.{number, pages_wire, place_wire_by, withheld_wire, wire}
 use Rattle.sva_model.specs.Wire.PlaceWire.{FreeWire}
 use Rattle.sva_laws.specs.Waits.{HasFront}
-use Rattle.sva_lemmas.proofs.Counting.{count_same}
+use Rattle.sva_labels.proofs.Counting.{count_same}
 use Rattle.sva_laws.proofs.Invariant.{Invariant}
-use Rattle.sva_lemmas.proofs.Tests.{added_back, is_less}
-use Rattle.sva_lemmas.proofs.Lists.{tabulate_at, all_same}
+use Rattle.sva_labels.proofs.Tests.{added_back, is_less}
+use Rattle.sva_labels.proofs.Lists.{tabulate_at, all_same}
 use Rattle.sva_refinement.proofs.PlacesByNumber.{gone_seen, seen_by, seen_at, place_seen, places_length}
 use Rattle.sva_refinement.proofs.SpacesByNumber.{space_is, spaces_length}
 use Rattle.sva_labels.specs.Finding.{pages_in, is_bound, is_mapped, frames_of}

@@ -22,12 +22,12 @@ use Rattle.sva_model.specs.Outcomes as outcomes
 use Rattle.sva_model.specs.Outcomes.{outcome, head_outcome, pump_outcome, send_outcome}
 use Rattle.sva_model.specs.Labels
 use Rattle.sva_model.specs.Wire.{Descriptor, number, cookie_number, descriptor, busy_wire, unit_wire, page_request_wire, page_queue_wire, part_wire, wire}
-use Rattle.sva_lemmas.proofs.Words.{put-same, put-other, lowest_cases, lowest_below, any_below-true, any_below-false, any_below-intro}
-use Rattle.sva_lemmas.proofs.Counting.{count_zero, count_off}
+use Rattle.sva_labels.proofs.Words.{put-same, put-other, lowest_cases, lowest_below, any_below-true, any_below-false, any_below-intro}
+use Rattle.sva_labels.proofs.Counting.{count_zero, count_off}
 use Rattle.sva_laws.proofs.Labels as labels
 use Rattle.sva_laws.proofs.Bounds.{Bounds}
 use Rattle.sva_laws.proofs.Invariant.{Invariant}
-use Rattle.sva_lemmas.proofs.Tests.{is_less}
+use Rattle.sva_labels.proofs.Tests.{is_less}
 use Rattle.sva_labels.specs.Finding.{unit_of, lowest_label, is_some_busy}
 use Rattle.sva_labels.specs.Moves.{Move}
 use Rattle.sva_labels.specs.Causes.{no_such_endpoint, resetting, lacks, is_invalidation, sends_invalidate}

@@ -10,7 +10,7 @@ use Rattle.sva_model.specs.Unmappings.{submitted_if, submits, bound, cookie_of}
 use Rattle.sva_model.specs.Acts.{Act, LocalAct, act, act_alone, sends}
 use Rattle.sva_model.specs.Acts.Act.{NewSpace, DropSpace, Map, Unmap, NewBinding, NewJob, Hold, LetGo, AtEndpoint}
 use Rattle.sva_model.specs.Steps.{decide, next, run, after_acts, world_after}
-use Rattle.sva_lemmas.proofs.Words.{ℕ_cases, put-same, put-other}
+use Rattle.sva_labels.proofs.Words.{ℕ_cases, put-same, put-other}
 use Rattle.sva_laws.proofs.Legal.{LegalLocalAct}
 use Rattle.sva_laws.proofs.Resets.{Resets}
 use Rattle.sva_laws.proofs.Invariant.{Invariant}

@@ -18,7 +18,7 @@ use Rattle.sva_model.specs.Wire.{TargetWire, cookie_number, target_of, target_wi
 use Rattle.sva_model.specs.Wire.PlaceWire.{FreeWire, WithheldWire}
 use Rattle.sva_model.specs.Wire.TargetWire.{Cookie, ResetEnd}
 use Rattle.sva_laws.specs.Waits.{FitsDebt}
-use Rattle.sva_lemmas.proofs.Words.{put-same, put-other, ℕ_cases}
+use Rattle.sva_labels.proofs.Words.{put-same, put-other, ℕ_cases}
 use Rattle.sva_laws.proofs.Legal.{LegalLocalAct}
 use Rattle.sva_laws.proofs.Bounds.{Bounds}
 use Rattle.sva_laws.proofs.Orders.{SentOnly}
@@ -27,7 +27,7 @@ use Rattle.sva_laws.proofs.Answered.{answered_own}
 use Rattle.sva_laws.proofs.Debts.{AllDebts, act_debts}
 use Rattle.sva_laws.proofs.Invariant.{Invariant}
 use Rattle.sva_laws.proofs.Keeps.{Legal}
-use Rattle.sva_lemmas.proofs.Lists.{tabulate_set, tabulate_at}
+use Rattle.sva_labels.proofs.Lists.{tabulate_set, tabulate_at}
 use Rattle.sva_refinement.proofs.PlacesByNumber.{seen_by}
 use Rattle.sva_labels.specs.Moves.{place_for, settled, settled_at, settled_cookie}
 use Rattle.sva_refinement.proofs.PlacesOut.{places_changed}

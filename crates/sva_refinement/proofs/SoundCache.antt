@@ -8,7 +8,7 @@ use mathlib.Core.List.{map-append}
 use Rattle.sva_model.specs.Words.{select, is_some, the}
 use Rattle.sva_model.specs.State.{Mappings, Endpoint}
 use Rattle.sva_model.specs.Wire.{TranslationWire, insert_by, sorted_by, is_before, cached_wire, cache_wire}
-use Rattle.sva_lemmas.proofs.Words.{some_the}
+use Rattle.sva_labels.proofs.Words.{some_the}
 use Rattle.sva_laws.proofs.Orders.{active_unreleased}
 use Rattle.sva_laws.proofs.Invariant.{PartInvariant}
 

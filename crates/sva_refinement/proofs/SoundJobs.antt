@@ -16,14 +16,14 @@ use Rattle.sva_model.specs.Labels
 use Rattle.sva_model.specs.Replies.{response, job_binding}
 use Rattle.sva_model.specs.Wire.{BindingWire, JobWire, HostGroupWire, PageRequestWire, number, binding_wire, asks_wire, ask_wire, group_job, job_wire}
 use Rattle.sva_model.specs.Wire.{part_wire, wire}
-use Rattle.sva_lemmas.proofs.Counting.{count_placed, pigeons}
+use Rattle.sva_labels.proofs.Counting.{count_placed, pigeons}
 use Rattle.sva_laws.proofs.LegalUnit.{group_there}
 use Rattle.sva_laws.proofs.Orders.{is_active}
 use Rattle.sva_laws.proofs.Bounds.{Bounds}
 use Rattle.sva_laws.proofs.Groups.{is_filed_group, whole_filed, open_filed}
 use Rattle.sva_laws.proofs.PageRequests.{is_whole, arrived_is}
 use Rattle.sva_laws.proofs.Invariant.{PartInvariant, Invariant, IsHeldBy}
-use Rattle.sva_lemmas.proofs.Lists.{none_below}
+use Rattle.sva_labels.proofs.Lists.{none_below}
 use Rattle.sva_labels.specs.Finding.{idle, part_of, binding_of, bearer, held_by, has_open_group}
 use Rattle.sva_labels.specs.Moves.{is_of_job}
 use Rattle.sva_labels.specs.Replying.{responds}
@@ -37,7 +37,7 @@ use Rattle.sva_refinement.proofs.LookedGroups.{open_there}
 use Rattle.sva_refinement.proofs.LookedLists.{length_seen}
 use Rattle.sva_refinement.proofs.LookedReplies.{InHandNow, job_there, responds_there}
 use Rattle.sva_refinement.proofs.Lookups.{any_seen}
-use Rattle.sva_lemmas.proofs.Lists.{tabulate_past}
+use Rattle.sva_labels.proofs.Lists.{tabulate_past}
 use Rattle.sva_refinement.proofs.SaysServe.{held_there}
 use Rattle.sva_refinement.proofs.SoundFlights.{IsWaitingAt, waiting_at, bearer_found}
 use Rattle.sva_refinement.proofs.SoundLists.{seen_get}
@@ -46,7 +46,7 @@ use Rattle.sva_laws.proofs.Filed.{FiledOnce}
 use Rattle.sva_refinement.proofs.SoundSizes.{Sized}
 use Rattle.sva_laws.proofs.Groups.{filed_made as group_made}
 use Rattle.sva_laws.proofs.Bindings.{before_unreleased}
-use Rattle.sva_lemmas.proofs.Tests.{first_holds, second_holds}
+use Rattle.sva_labels.proofs.Tests.{first_holds, second_holds}
 
 one_of : {A : Type 0} (a c : A) → Some a ≡ Some c → a ≡ c
 one_of a c h = cc

@@ -4,8 +4,8 @@ use Rattle.std.specs.Prelude.{Option, Some, None, option_map, if◌then◌else�
 use Rattle.std.proofs.lemmas.Option.{slice_get-map, slice_get_within}
 use Rattle.std.proofs.lemmas.List.{append-nil}
 use Rattle.sva_model.specs.Words.{select, tabulate}
-use Rattle.sva_lemmas.proofs.Words.{ℕ_cases}
-use Rattle.sva_lemmas.proofs.Lists.{get_before, get_end, tabulate_length}
+use Rattle.sva_labels.proofs.Words.{ℕ_cases}
+use Rattle.sva_labels.proofs.Lists.{get_before, get_end, tabulate_length}
 
 -- at a place of a list with one more at its end
 push_get : {A : Type 0} (xs : List A) (a x : A) (k : ℕ) → slice_get (xs ++ a ∷ []) k ≡ Some x → (slice_get xs k ≡ Some x) ⊎ ((k ≡ length xs) × (x ≡ a))

@@ -11,7 +11,7 @@ use Rattle.sva_model.specs.State.Phase.{Open}
 use Rattle.sva_model.specs.States.{is_outstanding}
 use Rattle.sva_model.specs.Labels.{outstanding, is_waiting}
 use Rattle.sva_model.specs.Wire.{page_request_wire, page_queue_wire, ask_wire, asks_wire}
-use Rattle.sva_lemmas.proofs.Counting.{count_off, count_placed}
+use Rattle.sva_labels.proofs.Counting.{count_off, count_placed}
 use Rattle.sva_laws.proofs.PageRequests.{arrived_is, arrival_once}
 use Rattle.sva_laws.proofs.Invariant.{PartInvariant}
 use Rattle.sva_laws.proofs.Filed.{FiledOnce, filed_made}

@@ -13,8 +13,8 @@ use Rattle.sva_model.specs.Acts.{Act, LocalAct, act, act_alone}
 use Rattle.sva_model.specs.Acts.Act.{NewSpace, DropSpace, Map, Unmap, NewBinding, NewJob, Hold, LetGo, AtEndpoint}
 use Rattle.sva_model.specs.Labels
 use Rattle.sva_model.specs.Steps.{world_after}
-use Rattle.sva_lemmas.proofs.Words.{put-same, put-other}
-use Rattle.sva_lemmas.proofs.Counting.{count_same, count_less, count_zero}
+use Rattle.sva_labels.proofs.Words.{put-same, put-other}
+use Rattle.sva_labels.proofs.Counting.{count_same, count_less, count_zero}
 use Rattle.sva_laws.proofs.Legal.{LegalLocalAct}
 use Rattle.sva_laws.proofs.Bounds.{Bounds}
 use Rattle.sva_laws.proofs.Invariant.{Invariant}

@@ -6,7 +6,7 @@ use Rattle.sva_model.specs.Words.{select, is_some}
 use Rattle.sva_model.specs.State.{Mappings, Endpoint}
 use Rattle.sva_model.specs.Wire.{insert_by, sorted_by, is_before, cached_wire, cache_wire}
 use Rattle.sva_laws.specs.LimitLaws.{cached_translations}
-use Rattle.sva_lemmas.proofs.Lists.{select_length}
+use Rattle.sva_labels.proofs.Lists.{select_length}
 
 -- a sorted list is as long
 insert_length : {A : Type 0} (below : A → A → Bool) (a : A) (xs : List A) → length (insert_by below a xs) ≡ suc (length xs)

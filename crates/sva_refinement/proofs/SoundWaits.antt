@@ -24,7 +24,7 @@ use Rattle.sva_laws.proofs.Fronts.{Fronts, AllFronts}
 use Rattle.sva_laws.proofs.Debts.{AllDebts}
 use Rattle.sva_laws.proofs.Targets.{awaits, has_front}
 use Rattle.sva_laws.proofs.Invariant.{Invariant}
-use Rattle.sva_lemmas.proofs.Lists.{tabulate_at}
+use Rattle.sva_labels.proofs.Lists.{tabulate_at}
 use Rattle.sva_refinement.proofs.PlacesByNumber.{seen_at, seen_by, gone_seen, place_seen}
 use Rattle.sva_labels.specs.Finding.{unit_of, is_wait_done}
 use Rattle.sva_labels.specs.Sound.{target_there, HasWait}

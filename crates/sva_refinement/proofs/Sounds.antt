@@ -12,7 +12,7 @@ use Rattle.sva_laws.proofs.Withheld.{config_kept, rule_kept}
 use Rattle.sva_laws.proofs.Runs.{always}
 use Rattle.sva_laws.proofs.Invariant.{Invariant}
 use Rattle.sva_laws.proofs.Fronts.{AllFronts, always_fronts}
-use Rattle.sva_lemmas.proofs.Lists.{tabulate_length}
+use Rattle.sva_labels.proofs.Lists.{tabulate_length}
 use Rattle.sva_labels.specs.Sound.{AreTables, IsSound}
 use Rattle.sva_refinement.proofs.Bound.{binding_seen}
 use Rattle.sva_refinement.proofs.EndpointViews.{endpoints_seen, device_seen, unit_seen}

@@ -13,9 +13,9 @@ use Rattle.sva_model.specs.Acts.Act.{NewSpace, DropSpace, Map}
 use Rattle.sva_model.specs.Wire.{PageWire, number, insert_by, is_lower_page, is_page_of, pages_wire, withheld_wire, places_wire, device_wire, part_wire, wire}
 use Rattle.sva_model.specs.Wire.PlaceWire.{FreeWire}
 use Rattle.sva_laws.proofs.Invariant.{Invariant, Mapped}
-use Rattle.sva_lemmas.proofs.Tests.{first_holds, second_holds}
-use Rattle.sva_lemmas.proofs.Lists.{tabulate_same}
-use Rattle.sva_lemmas.proofs.Words.{all_below-intro as each_below}
+use Rattle.sva_labels.proofs.Tests.{first_holds, second_holds}
+use Rattle.sva_labels.proofs.Lists.{tabulate_same}
+use Rattle.sva_labels.proofs.Words.{all_below-intro as each_below}
 use Rattle.sva_refinement.proofs.PagesOfSpaces.{pages_none, pages_mapped, present_is}
 use Rattle.sva_refinement.proofs.PlacesByNumber.{gone_seen, places_mapped}
 use Rattle.sva_refinement.proofs.SpacesByNumber.{spaces_more}

@@ -7,8 +7,8 @@ use Rattle.std.proofs.lemmas.Bool.{eq-eqb, eqb-true, ne_eqb}
 use Rattle.std.proofs.lemmas.List.Folds.{list_any-append}
 use Rattle.sva_model.specs.Words.{put, select}
 use Rattle.sva_model.specs.Wire.{PageWire}
-use Rattle.sva_lemmas.proofs.Words.{put-same, put-other, ℕ_cases}
-use Rattle.sva_lemmas.proofs.Tests.{or_no}
+use Rattle.sva_labels.proofs.Words.{put-same, put-other, ℕ_cases}
+use Rattle.sva_labels.proofs.Tests.{or_no}
 use Rattle.sva_refinement.proofs.SpacesByNumber.{space_by}
 use Rattle.sva_labels.specs.Finding.{pages_of}
 use Rattle.sva_labels.specs.Moves.{with_pages, without_space}

@@ -10,11 +10,11 @@ use Rattle.sva_model.specs.Acts.{act}
 use Rattle.sva_model.specs.Acts.Act.{NewSpace}
 use Rattle.sva_model.specs.Labels
 use Rattle.sva_model.specs.Wire.{PageWire, SpaceWire, is_page_of, pages_wire, spaces_wire}
-use Rattle.sva_lemmas.proofs.Words.{put-same, put-other, ℕ_cases}
+use Rattle.sva_labels.proofs.Words.{put-same, put-other, ℕ_cases}
 use Rattle.sva_laws.proofs.Invariant.{Mapped}
-use Rattle.sva_lemmas.proofs.Tests.{added_back, first_holds, second_holds, taken_off}
+use Rattle.sva_labels.proofs.Tests.{added_back, first_holds, second_holds, taken_off}
 use Rattle.sva_labels.specs.Places.{pages_of}
-use Rattle.sva_lemmas.proofs.Lists.{select_same, select_length}
+use Rattle.sva_labels.proofs.Lists.{select_same, select_length}
 use Rattle.sva_refinement.proofs.PagesOfSpaces.{pages_same, pages_none, present_is}
 
 -- Spaces of any names.

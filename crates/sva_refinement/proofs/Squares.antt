@@ -7,11 +7,11 @@ use Rattle.sva_model.specs.State.{Mappings, Endpoint, World}
 use Rattle.sva_model.specs.Acts.{LocalAct, act, sends, cookies_of}
 use Rattle.sva_model.specs.Acts.Act.{AtEndpoint}
 use Rattle.sva_model.specs.Wire.{Wire, number, part_wire, wire}
-use Rattle.sva_lemmas.proofs.Words.{put-same, put-other}
+use Rattle.sva_labels.proofs.Words.{put-same, put-other}
 use Rattle.sva_laws.proofs.Legal.{LegalLocalAct}
 use Rattle.sva_laws.proofs.Invariant.{Invariant}
 use Rattle.sva_laws.proofs.Keeps.{Legal, SuitsWorld}
-use Rattle.sva_lemmas.proofs.Lists.{tabulate_set}
+use Rattle.sva_labels.proofs.Lists.{tabulate_set}
 use Rattle.sva_labels.specs.Moves.{moved}
 use Rattle.sva_refinement.proofs.Named.{own_move}
 use Rattle.sva_refinement.proofs.Kept.{part_moved}

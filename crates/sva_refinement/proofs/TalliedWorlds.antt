@@ -14,8 +14,8 @@ use Rattle.sva_model.specs.Acts.{Act, LocalAct, act, act_alone}
 use Rattle.sva_model.specs.Acts.Act.{NewSpace, DropSpace, Map, Unmap, NewBinding, NewJob, Hold, LetGo, AtEndpoint}
 use Rattle.sva_model.specs.Steps.{decide, next, after_acts, world_after, reply}
 use Rattle.sva_model.specs.Wire.{EndpointWire, UseWire, use_wire, part_wire, wire}
-use Rattle.sva_lemmas.proofs.Words.{put-same, put-other, ℕ_cases}
-use Rattle.sva_lemmas.proofs.Counting.{bit, count_next, count_same, count_off}
+use Rattle.sva_labels.proofs.Words.{put-same, put-other, ℕ_cases}
+use Rattle.sva_labels.proofs.Counting.{bit, count_next, count_same, count_off}
 use Rattle.sva_laws.proofs.Legal.{LegalLocalAct}
 use Rattle.sva_laws.proofs.Labels.{Labels}
 use Rattle.sva_laws.proofs.Invariant.{Invariant}

@@ -12,12 +12,12 @@ use Rattle.sva_model.specs.Acts.{LocalAct, act_alone}
 use Rattle.sva_model.specs.Labels.{is_set}
 use Rattle.sva_model.specs.Wire.{end_number, busy_wire, unit_wire, BusyWire}
 use Rattle.sva_model.specs.Wire.BusyWire.{Fresh, Counting}
-use Rattle.sva_lemmas.proofs.Lists.{tabulate_same, tabulate_at}
+use Rattle.sva_labels.proofs.Lists.{tabulate_same, tabulate_at}
 use Rattle.sva_laws.specs.LabelLaws.{count_read}
 use Rattle.sva_laws.proofs.Legal.{LegalLocalAct}
 use Rattle.sva_laws.proofs.Labels.{Labels}
 use Rattle.sva_laws.proofs.Vectors.{IsOwedFor, AreOwed}
-use Rattle.sva_lemmas.proofs.Words.{ℕ_cases}
+use Rattle.sva_labels.proofs.Words.{ℕ_cases}
 use Rattle.sva_labels.specs.Moves.{one_more, counting, completed}
 use Rattle.sva_refinement.proofs.Kept.{unit_moved}
 use Rattle.sva_refinement.proofs.Named.{own_move, count_move}

@@ -11,12 +11,12 @@ use Rattle.sva_model.specs.StateChanges.{void_queued, void_undone, lapse, comple
 use Rattle.sva_model.specs.Acts.{LocalAct, act_alone}
 use Rattle.sva_model.specs.Wire.{end_number, descriptor, busy_wire, unit_wire, BusyWire}
 use Rattle.sva_model.specs.Wire.BusyWire.{Fresh}
-use Rattle.sva_lemmas.proofs.Words.{put-same, put-other, ℕ_cases}
+use Rattle.sva_labels.proofs.Words.{put-same, put-other, ℕ_cases}
 use Rattle.sva_laws.proofs.Legal.{LegalLocalAct}
 use Rattle.sva_laws.proofs.Resets.{Resets}
 use Rattle.sva_laws.proofs.Labels.{Labels}
 use Rattle.sva_laws.proofs.Orders.{not_queued}
-use Rattle.sva_lemmas.proofs.Tests.{is_itself}
+use Rattle.sva_labels.proofs.Tests.{is_itself}
 use Rattle.sva_refinement.proofs.Kept.{unit_moved}
 use Rattle.sva_refinement.proofs.Named.{own_move}
 use Rattle.sva_refinement.proofs.Picked.{picked_same, picked_none}

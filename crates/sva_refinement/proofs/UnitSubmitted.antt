@@ -13,9 +13,9 @@ use Rattle.sva_model.specs.StateChanges.{binding_of, extent_of}
 use Rattle.sva_model.specs.Wire.{number, end_number, descriptor, busy_wire, taken_by, chain, unit_wire, device_wire, page_queue_wire, host_groups_wire}
 use Rattle.sva_model.specs.Wire.{UnitWire, BusyWire, TakenWire, Descriptor}
 use Rattle.sva_model.specs.Wire.Descriptor.{RangeDescriptor}
-use Rattle.sva_lemmas.proofs.Lists.{tabulate_same}
+use Rattle.sva_labels.proofs.Lists.{tabulate_same}
 use Rattle.sva_laws.proofs.Submitted.{old_order, old_state}
-use Rattle.sva_lemmas.proofs.Words.{put-same}
+use Rattle.sva_labels.proofs.Words.{put-same}
 use Rattle.sva_laws.proofs.Bounds.{Bounds}
 use Rattle.sva_laws.proofs.Labels.{Labels}
 use Rattle.sva_labels.specs.Moves.{descriptors_for, with_descriptors}

@@ -13,14 +13,14 @@ use Rattle.sva_model.specs.Acts.{act}
 use Rattle.sva_model.specs.Acts.Act.{Unmap}
 use Rattle.sva_model.specs.Wire.{BindingWire, EndpointWire, StageWire, number, cookie_number, target_wire, stage_wire, binding_wire, bindings_wire}
 use Rattle.sva_model.specs.Wire.{part_wire, pages_wire, places_wire, group_job, wire}
-use Rattle.sva_lemmas.proofs.Counting.{count_same}
+use Rattle.sva_labels.proofs.Counting.{count_same}
 use Rattle.sva_laws.proofs.Bounds.{Bounds}
 use Rattle.sva_laws.proofs.Labels as labels
 use Rattle.sva_laws.proofs.Orders.{Orders}
 use Rattle.sva_laws.proofs.Fronts.{AllFronts}
 use Rattle.sva_laws.proofs.Debts.{AllDebts}
 use Rattle.sva_laws.proofs.Invariant.{Invariant}
-use Rattle.sva_lemmas.proofs.Lists.{tabulate_same, tabulate_length}
+use Rattle.sva_labels.proofs.Lists.{tabulate_same, tabulate_length}
 use Rattle.sva_labels.specs.Finding as finding
 use Rattle.sva_labels.specs.Finding.{idle, part_of, unit_of, bound_at, submits_by, pages_in}
 use Rattle.sva_labels.specs.Moves as moves

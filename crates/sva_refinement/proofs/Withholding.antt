@@ -17,18 +17,18 @@ use Rattle.sva_model.specs.Wire.{TargetWire, number, end_number, cookie_number, 
 use Rattle.sva_model.specs.Wire.PlaceWire.{FreeWire, WithheldWire}
 use Rattle.sva_model.specs.Wire.TargetWire.{Cookie, ResetEnd}
 use Rattle.sva_laws.specs.Waits.{FitsDebt}
-use Rattle.sva_lemmas.proofs.Words.{put-same, all_below-true}
+use Rattle.sva_labels.proofs.Words.{put-same, all_below-true}
 use Rattle.sva_laws.proofs.Bounds.{Bounds}
 use Rattle.sva_laws.proofs.Orders.{Orders}
 use Rattle.sva_laws.proofs.Fronts.{Fronts}
 use Rattle.sva_laws.proofs.Targets.{has_front}
 use Rattle.sva_laws.proofs.Answered.{answered_submitted}
-use Rattle.sva_lemmas.proofs.Words.{all_below-intro}
+use Rattle.sva_labels.proofs.Words.{all_below-intro}
 use Rattle.sva_refinement.proofs.PlacesByNumber.{gone_seen, seen_by}
 use Rattle.sva_labels.specs.Moves.{place_for, target_by, target_by_stage}
 use Rattle.sva_refinement.proofs.PlacesKept.{IsSeenSame, ranges_open, ranges_wait, pasid_open, pasid_waits}
-use Rattle.sva_lemmas.proofs.Tests.{same_bool as same_both}
-use Rattle.sva_lemmas.proofs.Tests.{not_below_itself}
+use Rattle.sva_labels.proofs.Tests.{same_bool as same_both}
+use Rattle.sva_labels.proofs.Tests.{not_below_itself}
 use Rattle.sva_laws.proofs.Submitted.{old_order, old_state}
 use Rattle.sva_refinement.proofs.LookedUnits.{below_end as below_front}
 

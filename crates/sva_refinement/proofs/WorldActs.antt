@@ -9,9 +9,9 @@ use Rattle.sva_model.specs.Acts.{act}
 use Rattle.sva_model.specs.Acts.Act.{NewBinding, NewJob, Hold, LetGo}
 use Rattle.sva_model.specs.Labels
 use Rattle.sva_model.specs.Wire.{binding_wire, group_job, job_wire, wire}
-use Rattle.sva_lemmas.proofs.Words.{put-same, put-other}
+use Rattle.sva_labels.proofs.Words.{put-same, put-other}
 use Rattle.sva_laws.proofs.Invariant.{Invariant}
-use Rattle.sva_lemmas.proofs.Lists.{tabulate_same, tabulate_set}
+use Rattle.sva_labels.proofs.Lists.{tabulate_same, tabulate_set}
 use Rattle.sva_labels.specs.Moves.{moved}
 use Rattle.sva_refinement.proofs.Named.{act_move}
 use Rattle.sva_refinement.proofs.Selected.{select_seen, select_less, select_one}

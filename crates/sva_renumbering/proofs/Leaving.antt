@@ -4,7 +4,7 @@ use Rattle.std.proofs.Common.{◌≡◌, refl, ap, ap₂, sym, subst, ◌∙◌,
 use Rattle.std.specs.Prelude.{◌==◌, if◌then◌else◌, Option, Some, None, List, [], ◌∷◌, ◌++◌, length}
 use Rattle.std.specs.List.{list_any}
 use Rattle.std.proofs.lemmas.Bool.{eqb-true}
-use Rattle.sva_lemmas.proofs.Tests.{is_itself}
+use Rattle.sva_labels.proofs.Tests.{is_itself}
 use Rattle.sva_model.specs.Wire.{FlightWire}
 use Rattle.sva_labels.specs.Finding.{holds_back}
 use Rattle.sva_renumbering.specs.InFlight.{FlightPlace, messages_of, place_among}

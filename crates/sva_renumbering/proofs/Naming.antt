@@ -3,7 +3,7 @@ use Rattle.std.proofs.Common.{◌≡◌, ◌⊎◌, inl, inr, refl, ap, ap₂, s
 use Rattle.std.specs.Prelude.{◌==◌, nat_lt, if◌then◌else◌, Option, Some, None, List, [], ◌∷◌, ◌++◌, length}
 use Rattle.std.proofs.lemmas.Bool.{eqb-true, ltb-true, cases_lt}
 use Rattle.std.proofs.lemmas.Bool.Decides.{nat_tests}
-use Rattle.sva_lemmas.proofs.Tests.{is_itself, turned, lower_differs}
+use Rattle.sva_labels.proofs.Tests.{is_itself, turned, lower_differs}
 use Rattle.sva_model.specs.Wire.{FlightWire}
 use Rattle.sva_renumbering.specs.InFlight.{FlightPlace, messages_of, behind, place_among}
 use Rattle.sva_renumbering.specs.Alike.{Rise}

@@ -1,1 +1,4 @@
+pub mod Rows
+pub mod Running
 pub mod StormLemmas
+pub mod StormReportLemmas

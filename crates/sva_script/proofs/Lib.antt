@@ -1,3 +1,4 @@
+pub mod NearWordLemmas
 pub mod NameLemmas
 pub mod HexLemmas
 pub mod ItemLemmas

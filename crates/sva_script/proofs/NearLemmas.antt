@@ -1,7 +1,7 @@
 -- The first name that is near, of names as they are kept.
 use Rattle.std.proofs.Common.{◌≡◌, ◌∙◌, ◌+◌, ap, sym, refl, arith, ℕ, zero, suc, List, [], ◌∷◌, cond, length, map, drop, slice_get, Some}
 use Rattle.std.proofs.lemmas.Option.{same_Some}
-use Rattle.sva_words.specs.Near.{is_near, near_among}
+use Rattle.sva_script.specs.Near.{is_near, near_among}
 use Rattle.sva_script.specs.declared.given.Given.{Given}
 use Rattle.sva_script.specs.Names.{Known, names_of}
 

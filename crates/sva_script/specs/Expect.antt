@@ -10,7 +10,7 @@ use Rattle.sva_script.specs.declared.places.Field.TheVariants.{Space, Binding, P
 use Rattle.sva_script.specs.Names.{Known, begins_name}
 use Rattle.sva_script.specs.Pieces.{joined, spaced}
 use Rattle.sva_script.specs.Resolve.{named_in, wrong}
-use Rattle.sva_words.specs.Reserved.{is_answer_word, is_refusal}
+use Rattle.sva_script.specs.Reserved.{is_answer_word, is_refusal}
 
 -- what a number behind a word of an answer is
 unfoldable pub place_behind : List ℕ → Option Field

@@ -1,3 +1,5 @@
+pub mod Reserved
+pub mod Near
 pub mod Lines
 pub mod Places
 pub mod Names

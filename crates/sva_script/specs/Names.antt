@@ -14,8 +14,8 @@ use Rattle.sva_script.specs.declared.given.Given.{Given}
 use Rattle.sva_script.specs.declared.given.Told.{Told}
 use Rattle.sva_script.specs.declared.places.Field.{Field}
 use Rattle.sva_script.specs.declared.places.Field.TheVariants.{Space, Binding, Pasid, Frame, Slot, Group, Itags, Itag, Tag, Message}
-use Rattle.sva_words.specs.Near.{near_among}
-use Rattle.sva_words.specs.Reserved.{is_reserved}
+use Rattle.sva_script.specs.Near.{near_among}
+use Rattle.sva_script.specs.Reserved.{is_reserved}
 
 -- the lines that have names so far, each by its name
 abbrev pub Known : Type 0

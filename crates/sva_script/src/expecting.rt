@@ -5,14 +5,15 @@ ghost use Rattle.sva_grammar.specs.Grammar.{words_of};
 ghost use Rattle.sva_script.specs.Expect.{are_as_expected, expected_of, is_said, is_wanted, named_behind, place_after, place_behind, said_word};
 ghost use Rattle.sva_script.specs.Pieces.{PutsRead, spaced};
 
+use crate::equal::is;
 use crate::faults::{Stop, Wanted, Wrong, at_word};
 use crate::names::{Names, begins_name};
 use crate::placed_words::named_in;
 use crate::places::Field;
+use crate::reserved::{is_answer_word, is_refusal};
 use crate::splitting::first_part;
 use crate::texts::{put, put_number};
 use sva_grammar::number_in;
-use sva_words::{is, is_answer_word, is_refusal};
 
 /// Appends the words of an expected answer, a space before each, and each name as the number that it stands for there. `_`
 /// stays: it is any word. What `out` has behind an `Err` isn't said.

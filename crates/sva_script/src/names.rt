@@ -6,13 +6,14 @@ ghost use Rattle.sva_script.specs.Names.{begins_name, frames_in, given_of, is_na
 ghost use Rattle.sva_script.specs.Names.{near_name, number_told, numbers_in};
 
 use crate::given::{Given, Told};
+use crate::nearest::is_near;
 use crate::places::Field;
+use crate::reserved::is_reserved;
 use indexmap::IndexMap;
 use std::alloc::{AllocError, Global};
 use std::marker::Model;
 use sva_grammar::{Cause, number_in, vector_in};
 use sva_step::Answer;
-use sva_words::{is_near, is_reserved};
 
 /// The names of the lines so far.
 #[derive(Drop)]

@@ -4,9 +4,9 @@ ghost use Rattle.std.specs.Prelude.{◌≡◌, ◌+◌, ◌<◌, ◌≤◌, ◌+
 ghost use Rattle.sva_script.specs.Lines.{begins_comment, expected_begins, is_arrow, name_before, parts_of, said_alone, script_words, step_begins};
 ghost use Rattle.sva_script.specs.Lines.{unnamed_parts};
 
+use crate::equal::is;
 use crate::splitting::first_part;
 use std::alloc::AllocError;
-use sva_words::is;
 
 /// What stands between a step and its expected answer.
 const ARROW: &[u8] = b"=>";

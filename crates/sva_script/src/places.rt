@@ -3,7 +3,7 @@
 ghost use Rattle.std.specs.Prelude.{◌≡◌, option_map};
 ghost use Rattle.sva_script.specs.Places.{places_of, places_of_endpoint, places_of_host};
 
-use sva_words::is;
+use crate::equal::is;
 
 /// What a word behind a step's name says.
 #[derive(Clone, Copy, PartialEq, Eq)]

@@ -13,8 +13,8 @@ use Rattle.sva_step.specs.Texts.{answer_text, frames_text}
 use Rattle.sva_model.specs.Wire.{Wire}
 use Rattle.sva_grammar.specs.Replies.{reply_text}
 use Rattle.sva_reports.specs.Counts.{counts_at}
-use Rattle.sva_script_traces.specs.Traces.{NoEnd}
-use Rattle.sva_script_traces.proofs.TraceLemmas.{no_end-both}
+use Rattle.sva_script_reports.specs.Traces.{NoEnd}
+use Rattle.sva_script_reports.proofs.TraceLemmas.{no_end-both}
 
 -- ---- Numbers
 

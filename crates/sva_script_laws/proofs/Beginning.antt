@@ -18,8 +18,8 @@ use Rattle.sva_script_reading.specs.Said.{Said, bad, well}
 use Rattle.sva_script_reading.specs.Begins.{Line, begin_of, begun, config_at, config_by, config_in, config_with, faults_from, if_right, joined_words}
 use Rattle.sva_script_reading.specs.Begins.{lines_from, said_by, too_large}
 use Rattle.sva_script_reports.specs.Scripts.{comment_of, past_config, plain_from, plain_line, plain_of, start, test_from, test_line}
-use Rattle.sva_script_traces.specs.declared.rows.Style.{Style}
-use Rattle.sva_script_traces.specs.Traces.{Tracing, fresh, trace_config, trace_from, trace_line, trace_more}
+use Rattle.sva_script_reports.specs.declared.rows.Style.{Style}
+use Rattle.sva_script_reports.specs.Traces.{Tracing, fresh, trace_config, trace_from, trace_line, trace_more}
 use Rattle.sva_script_laws.specs.Replays.{answer_line, answers_from}
 use Rattle.sva_script_laws.specs.Traces.{LineRow, is_written, rows_report, rows_text, said_texts, written_numbers}
 use Rattle.sva_script_laws.specs.Tests.{Expectation, expect_line, expectations_from, expecting, expects, judged_by}

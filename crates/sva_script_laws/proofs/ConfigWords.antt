@@ -9,7 +9,7 @@ use Rattle.sva_grammar.specs.declared.faults.Cause.TheVariants.{NoConfig}
 use Rattle.sva_grammar.specs.Grammar.{config_counts, config_of, has_words, number, word, words_of}
 use Rattle.sva_script.specs.Lines.{Parts, begins_comment, name_before, parts_by, said, said_alone, script_words, split_at}
 use Rattle.sva_script_reading.specs.Begins.{joined_words}
-use Rattle.sva_script_traces.proofs.TraceLemmas.{none_of}
+use Rattle.sva_script_reports.proofs.TraceLemmas.{none_of}
 use Rattle.sva_script_laws.specs.Tests.{expects}
 use Rattle.sva_script_laws.proofs.StepWords.{Sound, by_four, part}
 use Rattle.sva_script_laws.proofs.PlainWords.{AllSound, digit_sound, no_arrows, number_begins}

@@ -22,8 +22,8 @@ use Rattle.sva_script_reports.specs.Scripts as scripts
 use Rattle.sva_script_reading.specs.Begins.{Line, faults_at, faults_from, noted}
 use Rattle.sva_reports.specs.Counts.{counts_at}
 use Rattle.sva_script_reports.specs.Scripts.{At, comment_of, if_small, plain_from, plain_line, step_line, test_from, test_line, test_read}
-use Rattle.sva_script_traces.specs.declared.rows.Style.{Style}
-use Rattle.sva_script_traces.specs.Traces.{NoEnd, Tracing, row_of, trace_from, trace_line, trace_more, trace_read, trace_step}
+use Rattle.sva_script_reports.specs.declared.rows.Style.{Style}
+use Rattle.sva_script_reports.specs.Traces.{NoEnd, Tracing, row_of, trace_from, trace_line, trace_more, trace_read, trace_step}
 use Rattle.sva_script_laws.specs.Replays.{answer_line, answer_read, answers_from, step_answer}
 use Rattle.sva_script_laws.specs.Traces.{LineRow, is_written, last_text, line_text, rows_report, rows_text, said_texts, written_numbers}
 use Rattle.sva_script_laws.specs.Tests.{Expectation, expect_line, expect_read, expectations_from, expectation, expecting, expects, judged_by, place_behind}
@@ -32,7 +32,7 @@ use Rattle.sva_script_laws.proofs.Judging.{at_place, expecting_so, judged_so, li
 use Rattle.sva_script_laws.proofs.RowTexts.{row_made, step_told}
 use Rattle.sva_script_laws.proofs.StepLines.{ends_is, expects_is, right_behind, step_is}
 use Rattle.sva_script_laws.proofs.Written.{Clean, comment_clean, not_skipped, silent, skipped, step_line_read, step_not_skipped, written}
-use Rattle.sva_script_traces.proofs.TraceLemmas.{line_at}
+use Rattle.sva_script_reports.proofs.TraceLemmas.{line_at}
 
 abbrev pub CleanLines : List Line → Type 0
 CleanLines [] = Unit {0}

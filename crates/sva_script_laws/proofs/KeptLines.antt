@@ -17,11 +17,11 @@ use Rattle.sva_script.specs.Names.{Known}
 use Rattle.sva_script.specs.Pieces.{joined, spaced}
 use Rattle.sva_script.specs.Places.{places_of, places_of_endpoint, places_of_host}
 use Rattle.sva_script.specs.Resolve.{plain_rest}
-use Rattle.sva_words.specs.Reserved.{is_kind}
+use Rattle.sva_script.specs.Reserved.{is_kind}
 use Rattle.sva_script_reading.specs.Lines.{LineRead, Plain, are_end, is_by_link, line_read, message_by_link, number_text, plain_by, plain_of, plain_read, resolved}
 use Rattle.sva_script_reading.specs.Messages.{Link}
 use Rattle.sva_script_reading.specs.Begins.{joined_words}
-use Rattle.sva_script_traces.specs.Traces.{NoEnd}
+use Rattle.sva_script_reports.specs.Traces.{NoEnd}
 use Rattle.sva_script_laws.proofs.ConfigWords.{config_sound}
 use Rattle.sva_script_laws.proofs.PlainWords.{all_plain, all_said, joined_line, no_age, no_arrows, no_kind, number_begins, suits_sound}
 use Rattle.sva_script_laws.proofs.StepWords.{Placed, Suits, step_places}

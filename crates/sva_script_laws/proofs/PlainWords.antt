@@ -11,7 +11,7 @@ use Rattle.std.proofs.lemmas.Slice.Eq.{bytes_eq-Decides}
 use Rattle.sva_grammar.specs.declared.faults.Cause.{Cause}
 use Rattle.sva_grammar.specs.declared.faults.Cause.TheVariants.{BadWord}
 use Rattle.sva_grammar.specs.Grammar.{◌>>=◌, access, begins_number, flags, group, is_last, is_vector, is_vector_digit, number, vector, verdict}
-use Rattle.sva_words.specs.Reserved.{is_kind, kind_words}
+use Rattle.sva_script.specs.Reserved.{is_kind, kind_words}
 use Rattle.sva_script.specs.declared.places.Field.{Field}
 use Rattle.sva_script.specs.declared.places.Field.TheVariants.{Itags, MaybeCount, Group, Access, Flags, Last, Verdict}
 use Rattle.sva_script.specs.Lines.{is_arrow, said}

@@ -8,10 +8,10 @@ use Rattle.sva_model.specs.Message.{Message}
 use Rattle.sva_model.specs.Wire.{Wire}
 use Rattle.sva_grammar.specs.Replies.{reply_text}
 use Rattle.sva_reports.specs.Explaining.{Explaining}
-use Rattle.sva_script_traces.specs.declared.rows.Columns.{Columns}
-use Rattle.sva_script_traces.specs.declared.rows.Style.{Style}
-use Rattle.sva_script_traces.specs.Rows.{Row, column, delivered_text, messages_text, row_text, sends, sent_text, step_text, whys_if}
-use Rattle.sva_script_traces.proofs.TraceLemmas.{none_of}
+use Rattle.sva_script_reports.specs.declared.rows.Columns.{Columns}
+use Rattle.sva_script_reports.specs.declared.rows.Style.{Style}
+use Rattle.sva_script_reports.specs.Rows.{Row, column, delivered_text, messages_text, row_text, sends, sent_text, step_text, whys_if}
+use Rattle.sva_script_reports.proofs.TraceLemmas.{none_of}
 use Rattle.sva_script_laws.specs.Traces.{LineRow, behind_step, line_text}
 
 -- what is told of its messages, where something is

@@ -12,8 +12,8 @@ use Rattle.sva_grammar.specs.Grammar.{config_of, config_read, endpoint_step, hos
 use Rattle.sva_grammar.specs.Replies.{ended}
 use Rattle.sva_script.specs.Lines.{said, script_words}
 use Rattle.sva_script_reports.specs.Scripts.{comment_of}
-use Rattle.sva_script_traces.specs.Traces.{NoEnd}
-use Rattle.sva_script_traces.proofs.TraceLemmas.{line_at}
+use Rattle.sva_script_reports.specs.Traces.{NoEnd}
+use Rattle.sva_script_reports.proofs.TraceLemmas.{line_at}
 
 -- ---- Lines
 

@@ -10,10 +10,10 @@ use Rattle.sva_script_reading.specs.Lines.{is_end}
 use Rattle.sva_script_reading.specs.Begins.{Line, lines_from}
 use Rattle.sva_script_reading.specs.Said.{well}
 use Rattle.sva_script_reports.specs.Scripts.{plain_of}
-use Rattle.sva_script_traces.specs.declared.rows.Columns.{Columns}
-use Rattle.sva_script_traces.specs.declared.rows.Style.{Style}
-use Rattle.sva_script_traces.specs.Rows.{column}
-use Rattle.sva_script_traces.specs.Traces.{trace_of}
+use Rattle.sva_script_reports.specs.declared.rows.Columns.{Columns}
+use Rattle.sva_script_reports.specs.declared.rows.Style.{Style}
+use Rattle.sva_script_reports.specs.Rows.{column}
+use Rattle.sva_script_reports.specs.Traces.{trace_of}
 
 -- a row of a trace: the number of its line, the step as a line of the scenario, its answer, what is told of messages,
 -- where something is, and the lines of what holds the step back

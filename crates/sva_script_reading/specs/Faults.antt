@@ -10,8 +10,8 @@ use Rattle.sva_script.specs.declared.given.Told.{Told}
 use Rattle.sva_script.specs.declared.places.Field.{Field}
 use Rattle.sva_script.specs.declared.places.Field.TheVariants as place
 use Rattle.sva_script.specs.Names.{Known, given_of, name_and_nth, near_name}
-use Rattle.sva_words.specs.Near.{near_among}
-use Rattle.sva_words.specs.Reserved.{answer_words, kind_words, refusal_names, step_names}
+use Rattle.sva_script.specs.Near.{near_among}
+use Rattle.sva_script.specs.Reserved.{answer_words, kind_words, refusal_names, step_names}
 
 -- a line that is wrong: its number, its words, which of them is wrong, with what was wanted there, and the names before it
 pub record Fault : Type 0 where

@@ -17,7 +17,7 @@ use Rattle.sva_script.specs.Names.{Known, given_of, is_name}
 use Rattle.sva_script.specs.Pieces.{joined, spaced}
 use Rattle.sva_script.specs.Places.{places_of}
 use Rattle.sva_script.specs.Resolve.{plain_rest, wrong}
-use Rattle.sva_words.specs.Reserved.{is_kind}
+use Rattle.sva_script.specs.Reserved.{is_kind}
 use Rattle.sva_script_reading.specs.Messages.{Link, newest, oldest, oldest_of}
 
 -- ---- Deliveries by what is in flight

@@ -9,8 +9,10 @@ ghost use Rattle.sva_script.specs.Names.{name_and_nth};
 
 use crate::writing::{put_number, put_reply};
 use std::alloc::AllocError;
-use sva_script::{Field, Given, Names, Told, Wanted, Wrong, name_and_nth};
-use sva_words::{near_answer_word, near_kind, near_refusal, near_step};
+use sva_script::{
+    Field, Given, Names, Told, Wanted, Wrong, name_and_nth, near_answer_word, near_kind,
+    near_refusal, near_step,
+};
 
 /// What a place asks for, in words.
 fn place_words(place: Field) -> &'static str

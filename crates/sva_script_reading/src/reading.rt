@@ -16,9 +16,8 @@ use crate::lines::{Lines, is_too_large};
 use crate::single::{judge_name, read_line};
 use std::alloc::{AllocError, Global};
 use sva_grammar::{config, number_in};
-use sva_script::{Field, Given, Names, Stop, Wanted, Wrong, at_word, parts_of, split};
+use sva_script::{Field, Given, Names, Stop, Wanted, Wrong, at_word, is, parts_of, split};
 use sva_step::Config;
-use sva_words::is;
 
 /// Said of a script that is too large.
 const TOO_LARGE: &[u8] = b"line 0: the script has more than 1048576 bytes or 65536 lines\n";

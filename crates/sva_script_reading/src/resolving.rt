@@ -9,10 +9,9 @@ ghost use Rattle.sva_script_reading.specs.Lines.{resolved};
 use crate::in_flight::InFlight;
 use sva_grammar::{number_in, step};
 use sva_script::{
-    Field, Names, Stop, Wanted, Wrong, at_word, places_of, put, put_number, put_places,
+    Field, Names, Stop, Wanted, Wrong, at_word, is, is_kind, places_of, put, put_number, put_places,
 };
 use sva_step::Step;
-use sva_words::{is, is_kind};
 
 /// The step that a line's words write, with its line of a scenario in `plain`. Names stand for what their lines came to,
 /// and messages are looked up among those in flight. `at` is where the words stand in the line. What `plain` has behind an

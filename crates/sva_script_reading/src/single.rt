@@ -7,9 +7,8 @@ ghost use Rattle.sva_script_reading.specs.Lines.{Reads, are_end, expected_in, li
 
 use crate::in_flight::InFlight;
 use crate::resolving::resolve;
-use sva_script::{Names, Stop, Wanted, Wrong, at_word, expect, is_name, parts_of};
+use sva_script::{Names, Stop, Wanted, Wrong, at_word, expect, is, is_name, parts_of};
 use sva_step::Step;
-use sva_words::is;
 
 /// Reads a line: its step, or `None` for `end => ..`. `plain` is then the line of a scenario that it stands for,
 /// `expected` the answer that it expects, a space before each word, or nothing; behind an `Err` they aren't said. Where

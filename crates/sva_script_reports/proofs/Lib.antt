@@ -5,3 +5,6 @@ pub mod EndLemmas
 pub mod FrontLemmas
 pub mod ShowLemmas
 pub mod WhyLemmas
+pub mod TraceLemmas
+pub mod RowLemmas
+pub mod InputLemmas

@@ -1,7 +1,7 @@
 -- What is kept behind the lines of a script.
 use Rattle.std.proofs.Common.{◌≡◌, ◌∙◌, ap, refl, subst, sym, ℕ, Bool, true, false, List, [], ◌∷◌, ◌++◌, Option}
 use Rattle.std.specs.Prelude.{Result, Ok, Err}
-use Rattle.sva_listing.specs.Listing.{listing_of}
+use Rattle.sva_lines.specs.Listing.{listing_of}
 use Rattle.sva_streams.specs.declared.streams.Outcome.TheVariants.{Faulted}
 use Rattle.sva_script.specs.declared.faults.Stop.TheVariants as stop
 use Rattle.sva_script.specs.declared.faults.Wrong.{Wrong}

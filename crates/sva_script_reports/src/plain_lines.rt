@@ -9,13 +9,13 @@ ghost use Rattle.sva_script_reading.specs.Begins.{lines_from, said_by};
 ghost use Rattle.sva_script_reports.specs.Scripts.{comment_of, if_small, plain_from, plain_of, start};
 
 use std::alloc::{AllocError, Global};
-use sva_streams::Outcome;
 use sva_script::{Stop, split};
 use sva_script_reading::{
     Desk, Lines, is_too_large, put_bad_config, put_words, put_wrong, read_script,
 };
 use sva_script_runs::{Came, Run, Taken};
 use sva_step::{Config, Refusal};
+use sva_streams::Outcome;
 
 /// Said where the scenario of a script is too large for a replay.
 const TOO_LARGE: &[u8] = b"line 0: the scenario has more than 1048576 bytes or 65536 lines\n";

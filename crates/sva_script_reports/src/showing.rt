@@ -1,20 +1,20 @@
 //! What a host keeps behind the last line of a script.
 
 ghost use Rattle.std.specs.Prelude.{◌≡◌, ◌≤◌, [], length, map, true, Ok};
-ghost use Rattle.sva_listing.specs.Listing.{listing_of};
+ghost use Rattle.sva_lines.specs.Listing.{listing_of};
 ghost use Rattle.sva_script_reading.specs.Said.{IsSaid, well};
 ghost use Rattle.sva_script_reading.specs.Begins.{lines_from, said_by};
 ghost use Rattle.sva_script_reports.specs.Scripts.{start};
 ghost use Rattle.sva_script_reports.specs.Shows.{StepsShow, WordsShow, show_from, show_of};
 
 use std::alloc::{AllocError, Global};
-use sva_listing::put_listing;
-use sva_streams::Outcome;
+use sva_lines::put_listing;
 use sva_script::{Stop, split};
 use sva_script_reading::{Desk, Lines, put_bad_config, put_wrong, read_script};
 use sva_script_runs::{Run, Taken};
 use sva_snapshot::snapshot;
 use sva_step::{Config, Refusal};
+use sva_streams::Outcome;
 
 /// Runs a script, and lists what the host keeps behind its last line. Where a line is wrong, that is written instead, and
 /// the result is `Faulted`.

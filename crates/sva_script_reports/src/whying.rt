@@ -9,7 +9,6 @@ ghost use Rattle.sva_script_reports.specs.Whys.{StepsWhy, WordsWhy, case_line, c
 ghost use Rattle.sva_script_reports.specs.Whys.{why_from, whys_of};
 
 use std::alloc::{AllocError, Global};
-use sva_streams::Outcome;
 use sva_reports::{Explains, is_held};
 use sva_script::{Stop, split};
 use sva_script_reading::{
@@ -17,6 +16,7 @@ use sva_script_reading::{
 };
 use sva_script_runs::{Came, Run, Taken};
 use sva_step::{Answer, Config, Refusal};
+use sva_streams::Outcome;
 
 /// Said where no step was held back.
 const NOTHING: &[u8] = b"nothing was refused, blocked or withheld\n";

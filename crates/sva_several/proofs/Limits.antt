@@ -8,22 +8,22 @@ use Rattle.std.specs.Prelude.{Vec}
 use Rattle.std.specs.declared.alloc.AllocError.{AllocError}
 use Rattle.sva_search.specs.Found.{IsBudget}
 use Rattle.sva_search.specs.declared.found.Found.{Found}
-use Rattle.sva_race_lines.specs.Texts.{race_of}
-use Rattle.sva_race_lines.specs.declared.kept.Text as race
+use Rattle.sva_race_texts.specs.Texts.{race_of}
+use Rattle.sva_race_texts.specs.declared.kept.Text as race
 use Rattle.sva_race_reports.specs.Explored.{IsExploredTo}
 use Rattle.sva_race_reports.specs.Explored.{IsExplored as IsRaceExplored}
 use Rattle.sva_race_reports.specs.declared.searching.Explored.{Explored}
 use Rattle.sva_race_reports.proofs.Fronts.{says_other}
 use Rattle.sva_why.specs.Why.{why_of}
 use Rattle.sva_judge.specs.Verdicts.{IsJudged as IsDriverJudged}
-use Rattle.sva_driver_terms.specs.declared.drivers.Driver.{Driver}
+use Rattle.sva_open.specs.declared.drivers.Driver.{Driver}
 use Rattle.sva_judge.specs.declared.verdicts.Verdict as judge
 use Rattle.sva_judge.specs.declared.verdicts.Verdict.TheVariants as verdict
 use Rattle.sva_driver_texts.specs.declared.kept.Begun.{Begun}
 use Rattle.sva_driver_texts.specs.declared.kept.Begun.TheVariants as begun
 use Rattle.sva_driver_reports.specs.Reports.{ruling_of}
 use Rattle.sva_driver_reports.specs.declared.reports.Ruling.{Ruling}
-use Rattle.sva_driver_runs.specs.Judged.{IsTold}
+use Rattle.sva_driver_reports.specs.Judged.{IsTold}
 use Rattle.sva_several.specs.declared.searching.Said.{Said}
 use Rattle.sva_several.specs.declared.searching.Search.{Search}
 use Rattle.sva_several.specs.declared.searching.Search.TheVariants.{Drivers, Lines, Races}

@@ -1,3 +1,6 @@
+pub mod Places
+pub mod Progress
+pub mod Seconds
 pub mod Verdicts
 pub mod Searches
 pub mod Sharing

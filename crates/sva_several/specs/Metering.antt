@@ -1,6 +1,6 @@
 -- What stands on a terminal while several texts are searched.
 use Rattle.std.specs.Prelude.{ℕ, List, ◌∷◌, ◌++◌, Option, codes, decimal}
-use Rattle.sva_terminal.specs.Seconds.{seconds_text}
+use Rattle.sva_several.specs.Seconds.{seconds_text}
 
 -- how many were searched, of how many
 abbrev pub share_text : (done all : ℕ) → List ℕ

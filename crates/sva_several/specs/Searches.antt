@@ -9,7 +9,7 @@ use Rattle.sva_race_reports.specs.Explored.{ExploresText, ExploresTo}
 use Rattle.sva_why.specs.Why.{why_of}
 use Rattle.sva_driver_reports.specs.declared.reports.Ruling.{Ruling}
 use Rattle.sva_driver_reports.specs.declared.reports.Ruling.TheVariants.{CutOff}
-use Rattle.sva_driver_runs.specs.Judged.{IsTextJudged, IsTextRun}
+use Rattle.sva_driver_reports.specs.Judged.{IsTextJudged, IsTextRun}
 use Rattle.sva_several.specs.declared.searching.Said.{Said}
 use Rattle.sva_several.specs.declared.searching.Search.{Search}
 use Rattle.sva_several.specs.declared.searching.Search.TheVariants.{Drivers, Lines, Races}

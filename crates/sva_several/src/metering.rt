@@ -3,12 +3,12 @@
 ghost use Rattle.std.specs.Prelude.{◌≡◌, ◌++◌, OnOk};
 ghost use Rattle.sva_several.specs.Metering.{meter_line, share_text};
 
+use crate::in_place::{InPlace, put_seconds};
 use std::alloc::{AllocError, Global};
 use std::io::Write;
 use std::sync::{Mutex, Wait};
 use std::time::Clock;
 use sva_script_reading::put_number;
-use sva_terminal::{InPlace, put_seconds};
 
 /// Counts the texts that were searched. Nothing that is said of them rests on it.
 pub trait Meter: Sync {

@@ -5,8 +5,7 @@ ghost use Rattle.sva_several.specs.Searches as searches;
 
 use crate::verdicts::Verdict;
 use std::alloc::{AllocError, Global};
-use sva_driver_reports::Ruling;
-use sva_driver_runs::{judge_text, run_text};
+use sva_driver_reports::{Ruling, judge_text, run_text};
 use sva_race_reports::{Explored, Wanted, explore_to};
 use sva_search::Unwatched;
 use sva_why::Explainer;

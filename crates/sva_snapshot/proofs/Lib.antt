@@ -1,1 +1,4 @@
 pub mod More
+pub mod Tests
+pub mod Parts
+pub mod Snapshots

@@ -5,8 +5,7 @@ ghost use Rattle.sva_parts_by_labels.specs.Device.{cache_seen, device_seen};
 ghost use Rattle.sva_snapshot.specs.Shown.{cached_shown, device_shown};
 
 use std::alloc::{AllocError, Global};
-use sva_cache::Cache;
-use sva_endpoint::{GroupPlace, PasidState, RequestTag, Taken, UseSlot};
+use sva_endpoint::{Cache, GroupPlace, PasidState, RequestTag, Taken, UseSlot};
 
 /// A cached translation.
 #[derive(Clone, Copy, PartialEq, Eq)]

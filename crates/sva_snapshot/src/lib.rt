@@ -1,12 +1,15 @@
-//! A snapshot of a world: everything that it keeps, by numbers and labels, as a plain value of lists.
+//! A snapshot of a world: everything that it keeps, by numbers and labels, as a plain value of lists; whether two
+//! snapshots are the same, and a number by which one is found again.
 #![tactic(auto)]
 
 mod bindings;
 mod devices;
+mod digests;
 mod endpoints;
 mod flights;
 mod holding;
 mod jobs;
+mod sameness;
 mod snapshots;
 mod spaces;
 mod taking;
@@ -14,10 +17,12 @@ mod units;
 
 pub use bindings::{Binding, Stage};
 pub use devices::{Cached, Device};
+pub use digests::digest;
 pub use endpoints::Endpoint;
 pub use flights::Flight;
 pub use holding::{held_back_by, holds_back};
 pub use jobs::{HostGroup, Job};
+pub use sameness::same;
 pub use snapshots::Snapshot;
 pub use spaces::Space;
 pub use sva_endpoint::{GroupPlace, PasidState, RequestTag, Taken, Use, UseSlot};

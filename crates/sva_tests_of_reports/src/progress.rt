@@ -5,7 +5,7 @@ use std::cell::Cell;
 use std::io::{self, Write};
 use std::time::{Clock, Duration};
 use sva_search::Watch;
-use sva_terminal::Progress;
+use sva_several::Progress;
 
 /// Two lines, and what hides the second.
 const SHOWN: &str =

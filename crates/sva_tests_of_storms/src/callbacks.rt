@@ -7,8 +7,8 @@ use std::alloc::Global;
 use std::process::Abort;
 use std::sync::Wait;
 use sva_fabric::Fabric;
+use sva_scenario::{Ended, Ledgers, Pager, Port, Ports, Tokens, fault_loop};
 use sva_step::{Answer, Refusal, Verdict};
-use sva_storm::{Ended, Ledgers, Pager, Port, Ports, Tokens, fault_loop};
 
 /// Says the same of each job, and keeps what it was told of the last one, and how often it was asked.
 #[derive(Drop)]

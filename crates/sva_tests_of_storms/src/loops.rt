@@ -8,8 +8,8 @@ use std::sync::{Barrier, Wait};
 use std::thread;
 use std::thread::Threads;
 use sva_fabric::Fabric;
+use sva_scenario::{Ended, Ledgers, Port, Ports, Tokens, endpoint_loop, fault_loop};
 use sva_step::Answer;
-use sva_storm::{Ended, Ledgers, Port, Ports, Tokens, endpoint_loop, fault_loop};
 
 const ASKED: Setting = Setting {
     mapped: "config 2 4 1\nspace\nmap 0 16 w\n",

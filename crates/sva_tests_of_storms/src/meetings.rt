@@ -3,8 +3,8 @@
 use std::process::Abort;
 use std::sync::atomic::{AtomicU64, Ordering};
 use std::thread;
+use sva_scenario::{Device, Pager};
 use sva_step::Verdict;
-use sva_storm::{Device, Pager};
 
 /// What two threads note of their first calls.
 #[derive(Drop)]

@@ -9,8 +9,8 @@ use std::process::Abort;
 use std::sync::Wait;
 use std::sync::atomic::{AtomicU64, Ordering};
 use std::thread::Threads;
+use sva_scenario::{Audit, Device, Pager, StormFault, storm};
 use sva_step::Verdict;
-use sva_storm::{Audit, Device, Pager, StormFault, storm};
 
 /// A device and a pager that do nothing else.
 #[derive(Clone, Copy)]

@@ -6,10 +6,10 @@ use std::alloc::Global;
 use std::process::Abort;
 use std::sync::Wait;
 use sva_fabric::{Fabric, Leaving, Moved};
-use sva_step::{Answer, Refusal, Step, Verdict};
-use sva_storm::{
+use sva_scenario::{
     Device, Lease, Ledgers, Pager, Port, Ports, Tokens, UseTicket, endpoint_loop, fault_loop,
 };
+use sva_step::{Answer, Refusal, Step, Verdict};
 
 /// A device whose endpoint is reset while it is touched, by the ports of host and link.
 #[derive(Drop)]

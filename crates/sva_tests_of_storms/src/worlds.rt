@@ -12,10 +12,10 @@ use std::sync::Wait;
 use std::thread::Threads;
 use sva_fabric::Fabric;
 use sva_grammar::{Scenario, parse};
-use sva_step::{Answer, Config, Refusal, Step};
-use sva_storm::{
+use sva_scenario::{
     Audit, Blanks, Device, Ended, Lease, Ledgers, Port, Ports, Tokens, UseTicket, endpoint_loop,
 };
+use sva_step::{Answer, Config, Refusal, Step};
 
 /// What is played on a world.
 #[derive(Clone, Copy)]

@@ -1,5 +1,5 @@
 //! The tests of a world that several threads share, and of its journal: what the public functions of `sva_core` and `sva_fabric` do, a module
-//! for each concern. Some are whole runs in which a part falls silent: its thread does no more behind each of its lines. `sva_tests_of_words` says why
+//! for each concern. Some are whole runs in which a part falls silent: its thread does no more behind each of its lines. `sva_tests_of_parts` says why
 //! they stand in a crate of their own.
 #![tactic(auto)]
 

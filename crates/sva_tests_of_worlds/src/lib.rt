@@ -1,5 +1,5 @@
 //! The tests of the world, of the text of scenarios, and of what `why` says in plain lines, by public calls alone.
-//! `sva_tests_of_words` says why tests stand in a crate of their own.
+//! `sva_tests_of_parts` says why tests stand in a crate of their own.
 #![tactic(auto)]
 
 #[cfg(test)]

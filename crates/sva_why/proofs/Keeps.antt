@@ -3,8 +3,8 @@ use Rattle.std.proofs.Common.{◌≡◌, ◌≢◌, ◌⊎◌, ◌∙◌, inl, i
 use Rattle.std.proofs.Common.{List, [], ◌∷◌, Option, Some, None, length, map}
 use Rattle.std.proofs.lemmas.Option.{same_Some, slice_get-map, slice_get_within}
 use Rattle.std.specs.Prelude.{◌==◌, ◌||◌, option_map, slice_get, slice_index_or, slice_set, if◌then◌else◌}
-use Rattle.sva_lemmas.proofs.Words.{ℕ_cases}
-use Rattle.sva_lemmas.proofs.Lists.{tabulate_at, tabulate_length}
+use Rattle.sva_labels.proofs.Words.{ℕ_cases}
+use Rattle.sva_labels.proofs.Lists.{tabulate_at, tabulate_length}
 use Rattle.sva_model.specs.Message.{Code}
 use Rattle.sva_model.specs.State.{GroupState, PasidState}
 use Rattle.sva_model.specs.State.PasidState.{Off, On, Ending}

@@ -14,16 +14,16 @@ use Rattle.sva_labels.specs.Finding.{binding_of, flight_of, has_room, has_unfini
 use Rattle.sva_labels.specs.Finding.{is_wait_done, page_at, pages_in, pasid_state, submits}
 use Rattle.sva_labels.specs.Replying.{is_read_only_at, pages_of_job}
 use Rattle.sva_lines.specs.Pieces.{field, line_end, rows}
-use Rattle.sva_standing.specs.declared.link.Topic.TheVariants.{Itag, Start, Tag}
-use Rattle.sva_standing.specs.declared.levels.Level.TheVariants.{First, Second}
-use Rattle.sva_standing.specs.Lines.{indent}
-use Rattle.sva_standing.specs.Link.{about_lines, message_line, older_if}
-use Rattle.sva_standing.specs.Requests.{out_line, out_lines}
-use Rattle.sva_under_way.specs.Tables.{bearer_if, ending_line, not_started_by, not_started_lines}
-use Rattle.sva_under_way.specs.Tables.{busy_pasid_lines, credit_if, disabled_if, tag_if, tag_lines, unfinished_group_lines, unfinished_if}
-use Rattle.sva_under_way.specs.Tables.{unfinished_line, unfinished_lines, use_if, use_lines}
-use Rattle.sva_standing.specs.Units.{end_text, full_line, no_room_lines, of_part, pump_lines, reset_if, room_lines, use_text, wait_if, wait_line, wait_lines}
-use Rattle.sva_standing.specs.Units.{waits_for_lines, waits_if, waits_line}
+use Rattle.sva_explain.specs.declared.blockers.link.Topic.TheVariants.{Itag, Start, Tag}
+use Rattle.sva_explain.specs.declared.blockers.levels.Level.TheVariants.{First, Second}
+use Rattle.sva_explain.specs.Lines.{indent}
+use Rattle.sva_explain.specs.Link.{about_lines, message_line, older_if}
+use Rattle.sva_explain.specs.Requests.{out_line, out_lines}
+use Rattle.sva_explain.specs.Tables.{bearer_if, ending_line, not_started_by, not_started_lines}
+use Rattle.sva_explain.specs.Tables.{busy_pasid_lines, credit_if, disabled_if, tag_if, tag_lines, unfinished_group_lines, unfinished_if}
+use Rattle.sva_explain.specs.Tables.{unfinished_line, unfinished_lines, use_if, use_lines}
+use Rattle.sva_explain.specs.Units.{end_text, full_line, no_room_lines, of_part, pump_lines, reset_if, room_lines, use_text, wait_if, wait_line, wait_lines}
+use Rattle.sva_explain.specs.Units.{waits_for_lines, waits_if, waits_line}
 use Rattle.sva_why.specs.Bindings.{binding_line, bound_if, descriptors_of, full_lines, marker_line, not_yet_by, of_binding}
 use Rattle.sva_why.specs.Bindings.{on_link_lines, stays_lines}
 use Rattle.sva_why.specs.Causes.{bad_verdict, busy, full_if, in_use, not_mapped, not_pending, not_started, not_yet, not_yet_of}

@@ -5,15 +5,15 @@ use Rattle.sva_model.specs.Wire.{BindingWire, EndpointWire, StageWire, Wire}
 use Rattle.sva_model.specs.Wire.StageWire.{LiveWire, StoppingWire, DrainingWire, InvalidatingWire, QuietWire, LostWire}
 use Rattle.sva_lines.specs.Pieces.{field, line_end}
 use Rattle.sva_lines.specs.Words.{stage_text}
-use Rattle.sva_standing.specs.declared.levels.Level.{Level}
-use Rattle.sva_standing.specs.declared.levels.Level.TheVariants.{First, Second}
-use Rattle.sva_standing.specs.declared.link.Topic.TheVariants.{Marker, Stop}
-use Rattle.sva_accepted.specs.Accepted.{is_accepted}
-use Rattle.sva_standing.specs.Lines.{below, bracket_of_two, start}
-use Rattle.sva_standing.specs.Link.{about_lines}
-use Rattle.sva_standing.specs.Units.{of_part, reset_if, room_lines, wait_if}
-use Rattle.sva_under_way.specs.Tables.{busy_pasid_lines}
-use Rattle.sva_lacking.specs.Pasids.{advance_text, bearer_line, unbind_text}
+use Rattle.sva_explain.specs.declared.blockers.levels.Level.{Level}
+use Rattle.sva_explain.specs.declared.blockers.levels.Level.TheVariants.{First, Second}
+use Rattle.sva_explain.specs.declared.blockers.link.Topic.TheVariants.{Marker, Stop}
+use Rattle.sva_explain.specs.Accepted.{is_accepted}
+use Rattle.sva_explain.specs.Lines.{below, bracket_of_two, start}
+use Rattle.sva_explain.specs.Link.{about_lines}
+use Rattle.sva_explain.specs.Units.{of_part, reset_if, room_lines, wait_if}
+use Rattle.sva_explain.specs.Tables.{busy_pasid_lines}
+use Rattle.sva_explain.specs.Pasids.{advance_text, bearer_line, unbind_text}
 use Rattle.sva_why.specs.Groups.{open_lines}
 
 -- `binding 0 at endpoint 0 is stopping`

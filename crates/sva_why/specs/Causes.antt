@@ -8,18 +8,18 @@ use Rattle.sva_step.specs.declared.steps.Step.TheVariants as step
 use Rattle.sva_model.specs.Wire.{BindingWire, EndpointWire, FlightWire, PageWire, Wire}
 use Rattle.sva_labels.specs.Finding.{binding_of, bound_at, flight_of, held_by, is_mapped, pages_in, submits}
 use Rattle.sva_lines.specs.Pieces.{field, line_end, rows}
-use Rattle.sva_standing.specs.declared.levels.Level.TheVariants.{First, Second}
-use Rattle.sva_standing.specs.declared.link.Topic.TheVariants.{Stop}
-use Rattle.sva_standing.specs.Lines.{indent}
-use Rattle.sva_standing.specs.Link.{about_lines, older_lines}
-use Rattle.sva_standing.specs.Units.{in_reset_lines, of_part, room_lines}
-use Rattle.sva_under_way.specs.Tables.{busy_pasid_lines, credit_if, disabled_if, not_started_lines}
-use Rattle.sva_lacking.specs.Tags.{no_tag, not_held}
-use Rattle.sva_lacking.specs.Slots.{no_slot}
-use Rattle.sva_lacking.specs.Hands.{hands_full, no_job}
-use Rattle.sva_lacking.specs.Spaces.{too_many}
-use Rattle.sva_lacking.specs.Frames.{mapped, no_frame, space_full}
-use Rattle.sva_lacking.specs.Pasids.{no_pasid}
+use Rattle.sva_explain.specs.declared.blockers.levels.Level.TheVariants.{First, Second}
+use Rattle.sva_explain.specs.declared.blockers.link.Topic.TheVariants.{Stop}
+use Rattle.sva_explain.specs.Lines.{indent}
+use Rattle.sva_explain.specs.Link.{about_lines, older_lines}
+use Rattle.sva_explain.specs.Units.{in_reset_lines, of_part, room_lines}
+use Rattle.sva_explain.specs.Tables.{busy_pasid_lines, credit_if, disabled_if, not_started_lines}
+use Rattle.sva_explain.specs.Tags.{no_tag, not_held}
+use Rattle.sva_explain.specs.Slots.{no_slot}
+use Rattle.sva_explain.specs.Hands.{hands_full, no_job}
+use Rattle.sva_explain.specs.Spaces.{too_many}
+use Rattle.sva_explain.specs.Frames.{mapped, no_frame, space_full}
+use Rattle.sva_explain.specs.Pasids.{no_pasid}
 use Rattle.sva_why.specs.Groups.{read_only_lines}
 use Rattle.sva_why.specs.Bindings.{borne_lines, bound_lines, full_lines, kept_lines, not_yet_by, of_binding}
 use Rattle.sva_why.specs.Vectors.{in_use_lines, not_pending_lines}

@@ -4,12 +4,12 @@ use Rattle.sva_model.specs.Wire.{AskWire, EndpointWire, GroupWire, HostGroupWire
 use Rattle.sva_labels.specs.Finding.{group_at, page_at}
 use Rattle.sva_labels.specs.Replying.{is_read_only_at, pages_of_job}
 use Rattle.sva_lines.specs.Pieces.{field, line_end}
-use Rattle.sva_standing.specs.declared.levels.Level.{Level}
-use Rattle.sva_standing.specs.declared.levels.Level.TheVariants.{First}
-use Rattle.sva_standing.specs.Lines.{below, indent}
-use Rattle.sva_standing.specs.Requests.{invalid_text}
-use Rattle.sva_under_way.specs.Jobs.{job_lines, unfiled_lines}
-use Rattle.sva_under_way.specs.Tables.{unfinished_if}
+use Rattle.sva_explain.specs.declared.blockers.levels.Level.{Level}
+use Rattle.sva_explain.specs.declared.blockers.levels.Level.TheVariants.{First}
+use Rattle.sva_explain.specs.Lines.{below, indent}
+use Rattle.sva_explain.specs.Requests.{invalid_text}
+use Rattle.sva_explain.specs.Jobs.{job_lines, unfiled_lines}
+use Rattle.sva_explain.specs.Tables.{unfinished_if}
 
 -- the group that bears the index at the endpoint, if it isn't finished
 abbrev pub unfinished_at : Level → Wire → (endpoint : ℕ) → EndpointWire → (index : ℕ) → Option GroupWire → List ℕ

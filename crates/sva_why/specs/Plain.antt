@@ -3,8 +3,8 @@ use Rattle.std.specs.Prelude.{ℕ, List, ◌++◌, codes}
 use Rattle.sva_step.specs.declared.refusals.Refusal.{Refusal}
 use Rattle.sva_step.specs.declared.refusals.Refusal.TheVariants as refusal
 use Rattle.sva_lines.specs.Pieces.{line_end}
-use Rattle.sva_standing.specs.declared.levels.Level.TheVariants.{First}
-use Rattle.sva_standing.specs.Lines.{indent}
+use Rattle.sva_explain.specs.declared.blockers.levels.Level.TheVariants.{First}
+use Rattle.sva_explain.specs.Lines.{indent}
 
 abbrev pub plain_text : Refusal → List ℕ
 plain_text refusal.BadConfig = codes "endpoints are 1 to 8, frames 1 to 4096, workers 1 to 4"

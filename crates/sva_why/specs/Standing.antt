@@ -11,12 +11,12 @@ use Rattle.sva_labels.specs.Finding.{binding_of, flight_of, has_room, has_unfini
 use Rattle.sva_labels.specs.Finding.{is_wait_done, page_at, pages_in, pasid_state, submits}
 use Rattle.sva_labels.specs.Replying.{is_read_only_at, pages_of_job}
 use Rattle.sva_lines.specs.Pieces.{field, line_end}
-use Rattle.sva_standing.specs.Requests.{invalid_text, out_line}
-use Rattle.sva_standing.specs.declared.levels.Level.TheVariants.{First}
-use Rattle.sva_standing.specs.Lines.{indent}
-use Rattle.sva_standing.specs.Link.{message_line}
-use Rattle.sva_under_way.specs.Tables.{ending_line, unfinished_line}
-use Rattle.sva_standing.specs.Units.{full_line, wait_line, waits_line}
+use Rattle.sva_explain.specs.Requests.{invalid_text, out_line}
+use Rattle.sva_explain.specs.declared.blockers.levels.Level.TheVariants.{First}
+use Rattle.sva_explain.specs.Lines.{indent}
+use Rattle.sva_explain.specs.Link.{message_line}
+use Rattle.sva_explain.specs.Tables.{ending_line, unfinished_line}
+use Rattle.sva_explain.specs.Units.{full_line, wait_line, waits_line}
 use Rattle.sva_why.specs.Bindings.{binding_line, descriptors_of, marker_line}
 use Rattle.sva_why.specs.Causes.{bad_verdict, busy, in_use, not_mapped, not_pending, not_started, not_yet}
 use Rattle.sva_why.specs.Causes.{overtakes, queue_full, still_bound}

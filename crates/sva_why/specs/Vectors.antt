@@ -3,12 +3,12 @@ use Rattle.std.specs.Prelude.{ℕ, if◌then◌else◌, Option, Some, None, List
 use Rattle.sva_model.specs.Labels.{is_set, names_none}
 use Rattle.sva_model.specs.Wire.{EndpointWire, TakenWire, Wire}
 use Rattle.sva_lines.specs.Pieces.{line_end, rows}
-use Rattle.sva_standing.specs.declared.levels.Level.{Level}
-use Rattle.sva_standing.specs.declared.levels.Level.TheVariants.{First}
-use Rattle.sva_standing.specs.declared.link.Topic.TheVariants.{Itag}
-use Rattle.sva_standing.specs.Lines.{below, indent, start}
-use Rattle.sva_standing.specs.Link.{about_lines}
-use Rattle.sva_standing.specs.Units.{reset_if, waits_for_lines}
+use Rattle.sva_explain.specs.declared.blockers.levels.Level.{Level}
+use Rattle.sva_explain.specs.declared.blockers.levels.Level.TheVariants.{First}
+use Rattle.sva_explain.specs.declared.blockers.link.Topic.TheVariants.{Itag}
+use Rattle.sva_explain.specs.Lines.{below, indent, start}
+use Rattle.sva_explain.specs.Link.{about_lines}
+use Rattle.sva_explain.specs.Units.{reset_if, waits_for_lines}
 
 abbrev pub not_pending_line : Level → (itag : ℕ) → List ℕ
 not_pending_line level itag = start level (codes "itag ") itag ++ codes " isn't pending" ++ line_end

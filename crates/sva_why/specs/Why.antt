@@ -5,9 +5,9 @@ use Rattle.sva_step.specs.declared.steps.Step.{Step}
 use Rattle.sva_step.specs.declared.steps.Step.TheVariants as step
 use Rattle.sva_model.specs.Steps.{Reply}
 use Rattle.sva_model.specs.Wire.{Wire}
-use Rattle.sva_lacking.specs.Ranges.{withheld_range}
-use Rattle.sva_standing.specs.declared.levels.Level.TheVariants.{First}
-use Rattle.sva_standing.specs.Units.{blocked_lines, of_part, place_lines}
+use Rattle.sva_explain.specs.Ranges.{withheld_range}
+use Rattle.sva_explain.specs.declared.blockers.levels.Level.TheVariants.{First}
+use Rattle.sva_explain.specs.Units.{blocked_lines, of_part, place_lines}
 use Rattle.sva_why.specs.Causes.{refused_lines}
 
 -- the head of a queue is blocked

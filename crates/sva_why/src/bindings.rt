@@ -10,15 +10,12 @@ ghost use Rattle.sva_why.specs.Bindings.{borne_lines, kept_lines, on_link_lines,
 
 use crate::groups::put_open;
 use std::alloc::AllocError;
-use sva_accepted::{can_quit, part_at};
-use sva_lacking::{put_advance, put_bearer, put_unbind};
+use sva_explain::{
+    Level, Topic, below, can_quit, part_at, put_about, put_advance, put_bearer, put_bracket_of_two,
+    put_busy_pasid, put_reset_if, put_room, put_start, put_unbind, put_wait_if,
+};
 use sva_lines::{end_line, put_field, put_stage, put_word};
 use sva_snapshot::{Binding, Endpoint, Snapshot, Stage};
-use sva_standing::{
-    Level, Topic, below, put_about, put_bracket_of_two, put_reset_if, put_room, put_start,
-    put_wait_if,
-};
-use sva_under_way::put_busy_pasid;
 
 /// Appends the stage of a binding.
 fn put_binding_text(out: &mut Vec<u8>, level: Level, binding: &Binding) -> Result<(), AllocError>

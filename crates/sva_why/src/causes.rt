@@ -16,18 +16,15 @@ use crate::groups::put_read_only;
 use crate::plain::put_plain;
 use crate::vectors::{put_in_use, put_not_pending};
 use std::alloc::AllocError;
-use sva_accepted::{
-    binding_of, bound_at, flight_of, held_by, is_mapped, pages_in, part_at, submits,
-};
-use sva_lacking::{
-    put_hands_full, put_mapped, put_no_frame, put_no_job, put_no_pasid, put_no_slot, put_no_tag,
-    put_not_held, put_space_full, put_too_many,
+use sva_explain::{
+    Level, Topic, binding_of, bound_at, flight_of, held_by, is_mapped, pages_in, part_at,
+    put_about, put_busy_pasid, put_credit, put_disabled, put_hands_full, put_in_reset, put_indent,
+    put_mapped, put_no_frame, put_no_job, put_no_pasid, put_no_slot, put_no_tag, put_not_held,
+    put_not_started, put_older, put_room, put_space_full, put_too_many, submits,
 };
 use sva_lines::{end_line, put_field, put_word};
 use sva_snapshot::{Endpoint, Mapping, Snapshot};
-use sva_standing::{Level, Topic, put_about, put_in_reset, put_indent, put_older, put_room};
 use sva_step::{MOST_PAGES, PAGES, Refusal, Step};
-use sva_under_way::{put_busy_pasid, put_credit, put_disabled, put_not_started};
 
 /// Appends the line of a page, if it isn't mapped.
 fn put_unmapped_if(out: &mut Vec<u8>, pages: &[Mapping], page: u64) -> Result<(), AllocError>

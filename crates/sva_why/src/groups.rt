@@ -8,11 +8,12 @@ ghost use Rattle.sva_snapshot.specs.Shown.{endpoint_shown, host_group_shown, job
 ghost use Rattle.sva_why.specs.Groups.{open_if, open_lines, read_only_if, read_only_lines, unfinished_at, where_lines};
 
 use std::alloc::AllocError;
-use sva_accepted::{is_read_only_at, pages_of_job};
+use sva_explain::{
+    Level, below, is_read_only_at, pages_of_job, put_indent, put_invalid, put_job_of, put_unfiled,
+    put_unfinished_if,
+};
 use sva_lines::{end_line, put_field, put_word};
 use sva_snapshot::{Ask, Endpoint, GroupPlace, HostGroup, Job, Mapping, Snapshot};
-use sva_standing::{Level, below, put_indent, put_invalid};
-use sva_under_way::{put_job_of, put_unfiled, put_unfinished_if};
 
 /// Appends the lines of the endpoint's group that is at the index, if it is unfinished.
 fn put_unfinished_place(

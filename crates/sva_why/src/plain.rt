@@ -4,8 +4,8 @@ ghost use Rattle.std.specs.Prelude.{◌≡◌, ◌++◌, OnOk};
 ghost use Rattle.sva_why.specs.Plain.{plain_line, plain_text};
 
 use std::alloc::AllocError;
+use sva_explain::{Level, put_indent};
 use sva_lines::{end_line, put_word};
-use sva_standing::{Level, put_indent};
 use sva_step::Refusal;
 
 /// What a refusal says.

@@ -8,12 +8,12 @@ ghost use Rattle.sva_why.specs.Vectors.{free_or_out_lines, none_named_line, not_
 ghost use Rattle.sva_why.specs.Vectors.{in_use_if, in_use_lines, not_pending_if, not_pending_lines};
 
 use std::alloc::AllocError;
-use sva_accepted::{is_set, names_none};
+use sva_explain::{
+    Level, Topic, below, is_set, names_none, put_about, put_indent, put_reset_if, put_start,
+    put_waits_for,
+};
 use sva_lines::{end_line, put_word};
 use sva_snapshot::{Endpoint, Snapshot, Taken};
-use sva_standing::{
-    Level, Topic, below, put_about, put_indent, put_reset_if, put_start, put_waits_for,
-};
 
 /// Appends the line of an ITag that the endpoint hasn't taken.
 fn put_not_pending_line(out: &mut Vec<u8>, level: Level, itag: u64) -> Result<(), AllocError>

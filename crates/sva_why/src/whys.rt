@@ -5,12 +5,10 @@ ghost use Rattle.sva_why.specs.Why.{blocked, first_lines, looked, why_of};
 
 use crate::causes::put_refused;
 use std::alloc::{AllocError, Global};
-use sva_accepted::part_at;
 use sva_core::World;
-use sva_lacking::put_withheld_range;
+use sva_explain::{Level, part_at, put_blocked, put_place, put_withheld_range};
 use sva_reports::{Explains, is_held};
 use sva_snapshot::{Snapshot, snapshot};
-use sva_standing::{Level, put_blocked, put_place};
 use sva_step::{Answer, Refusal, Step};
 
 /// Appends what blocks the head of a queue.

@@ -4,13 +4,13 @@ use Rattle.std.specs.Prelude.{◌==◌, is_none, Some, length, slice_get}
 use Rattle.sva_model.specs.Wire.{BusyWire, Descriptor, EndpointWire, Wire}
 use Rattle.sva_model.specs.Wire.Descriptor.{RangeDescriptor, PasidDescriptor, WaitDescriptor}
 use Rattle.sva_labels.specs.Finding.{lowest_label, taken_at}
-use Rattle.sva_standing.specs.declared.levels.Level.{Level}
-use Rattle.sva_standing.specs.declared.levels.Level.TheVariants.{First, Second}
-use Rattle.sva_standing.specs.declared.link.Topic.TheVariants.{Itag}
-use Rattle.sva_standing.specs.Lines.{below}
-use Rattle.sva_standing.specs.Link.{about_lines}
-use Rattle.sva_standing.specs.Units as units
-use Rattle.sva_standing.specs.Units.{blocked_lines, busy_if, busy_lines, of_part, taken_lines}
+use Rattle.sva_explain.specs.declared.blockers.levels.Level.{Level}
+use Rattle.sva_explain.specs.declared.blockers.levels.Level.TheVariants.{First, Second}
+use Rattle.sva_explain.specs.declared.blockers.link.Topic.TheVariants.{Itag}
+use Rattle.sva_explain.specs.Lines.{below}
+use Rattle.sva_explain.specs.Link.{about_lines}
+use Rattle.sva_explain.specs.Units as units
+use Rattle.sva_explain.specs.Units.{blocked_lines, busy_if, busy_lines, of_part, taken_lines}
 use Rattle.sva_why.specs.Standing.{Has}
 use Rattle.sva_why.proofs.Parts.{has_all, has_found, has_left, has_right, has_row, has_unless, has_where, has_within}
 use Rattle.sva_why_laws.specs.Blocked.{busy_line, is_invalidation, no_itag_line, of_pump, requests_line}

@@ -17,25 +17,25 @@ use Rattle.sva_labels.specs.Moves.{is_of_job}
 use Rattle.sva_labels.specs.Replying.{space_of_job}
 use Rattle.sva_lines.specs.Pieces.{field, line_end, rows}
 use Rattle.sva_lines.specs.Words.{is_withheld}
-use Rattle.sva_accepted.specs.Accepted.{is_accepted}
-use Rattle.sva_lacking.specs.Frames.{each_space, frames_lines, free_line, full_of_job, mapped_if, mapped_line, most_pages_line, of_job, pages_if}
-use Rattle.sva_lacking.specs.Frames.{pages_line, space_if, to_map_line, withheld_by, withheld_if, withheld_line, withheld_lines}
-use Rattle.sva_lacking.specs.Hands.{full_lines, hand_line}
-use Rattle.sva_lacking.specs.Pasids.{all_borne_line, bearer_line}
-use Rattle.sva_lacking.specs.Slots.{each_slot, no_slot_lines, slot_if, slot_line, slots_line}
-use Rattle.sva_lacking.specs.Spaces.{spaces_line, unbound_if, unbound_line}
-use Rattle.sva_lacking.specs.Tags.{asked_if, asked_lines, each_out, no_tag_lines, not_held_line, not_held_lines, out_if, tags_line}
-use Rattle.sva_standing.specs.declared.levels.Level.{Level}
-use Rattle.sva_standing.specs.declared.levels.Level.TheVariants.{First, Second, Third}
-use Rattle.sva_standing.specs.declared.link.Topic.{Topic}
-use Rattle.sva_standing.specs.declared.link.Topic.TheVariants.{Asks, Responds, Stop, Tag}
-use Rattle.sva_standing.specs.Lines.{indent}
-use Rattle.sva_standing.specs.Link.{about_if, about_lines, is_about, message_line}
-use Rattle.sva_standing.specs.Requests.{out_line, out_lines}
-use Rattle.sva_under_way.specs.Jobs.{hand_if, in_hand_line, job_at_if, job_if, job_lines, on_its_way_lines, request_if, request_line}
-use Rattle.sva_under_way.specs.Jobs.{unfiled_lines, untaken_line}
-use Rattle.sva_under_way.specs.Tables.{credit_if, credit_line, disabled_if, due_if, due_line, due_lines, is_due}
-use Rattle.sva_standing.specs.Units.{of_part, place_lines, reset_if}
+use Rattle.sva_explain.specs.Accepted.{is_accepted}
+use Rattle.sva_explain.specs.Frames.{each_space, frames_lines, free_line, full_of_job, mapped_if, mapped_line, most_pages_line, of_job, pages_if}
+use Rattle.sva_explain.specs.Frames.{pages_line, space_if, to_map_line, withheld_by, withheld_if, withheld_line, withheld_lines}
+use Rattle.sva_explain.specs.Hands.{full_lines, hand_line}
+use Rattle.sva_explain.specs.Pasids.{all_borne_line, bearer_line}
+use Rattle.sva_explain.specs.Slots.{each_slot, no_slot_lines, slot_if, slot_line, slots_line}
+use Rattle.sva_explain.specs.Spaces.{spaces_line, unbound_if, unbound_line}
+use Rattle.sva_explain.specs.Tags.{asked_if, asked_lines, each_out, no_tag_lines, not_held_line, not_held_lines, out_if, tags_line}
+use Rattle.sva_explain.specs.declared.blockers.levels.Level.{Level}
+use Rattle.sva_explain.specs.declared.blockers.levels.Level.TheVariants.{First, Second, Third}
+use Rattle.sva_explain.specs.declared.blockers.link.Topic.{Topic}
+use Rattle.sva_explain.specs.declared.blockers.link.Topic.TheVariants.{Asks, Responds, Stop, Tag}
+use Rattle.sva_explain.specs.Lines.{indent}
+use Rattle.sva_explain.specs.Link.{about_if, about_lines, is_about, message_line}
+use Rattle.sva_explain.specs.Requests.{out_line, out_lines}
+use Rattle.sva_explain.specs.Jobs.{hand_if, in_hand_line, job_at_if, job_if, job_lines, on_its_way_lines, request_if, request_line}
+use Rattle.sva_explain.specs.Jobs.{unfiled_lines, untaken_line}
+use Rattle.sva_explain.specs.Tables.{credit_if, credit_line, disabled_if, due_if, due_line, due_lines, is_due}
+use Rattle.sva_explain.specs.Units.{of_part, place_lines, reset_if}
 use Rattle.sva_why.specs.Bindings.{binding_line, borne_lines, kept_lines, stays_of}
 use Rattle.sva_why.specs.Causes.{disabled, endpoint_of, no_credit, of_found}
 use Rattle.sva_why.specs.Plain.{plain_line}

@@ -10,12 +10,12 @@ use Rattle.sva_model.specs.Wire.PlaceWire.{WithheldWire}
 use Rattle.sva_model.specs.Wire.TargetWire.{Cookie, ResetEnd}
 use Rattle.sva_labels.specs.Finding.{pages_in}
 use Rattle.sva_labels.specs.Moves.{is_between, place_for, placed, targets_of, unmapped}
-use Rattle.sva_lacking.specs.Ranges.{awaited_at, frames_line, target_behind}
+use Rattle.sva_explain.specs.Ranges.{awaited_at, frames_line, target_behind}
 use Rattle.sva_lines.specs.Pieces.{rows}
-use Rattle.sva_standing.specs.declared.levels.Level.TheVariants.{First, Second}
-use Rattle.sva_standing.specs.declared.link.Topic.TheVariants.{Reset}
-use Rattle.sva_standing.specs.Link.{about_lines}
-use Rattle.sva_standing.specs.Units.{of_part, place_lines, pump_lines, target_lines, wait_line, wait_lines}
+use Rattle.sva_explain.specs.declared.blockers.levels.Level.TheVariants.{First, Second}
+use Rattle.sva_explain.specs.declared.blockers.link.Topic.TheVariants.{Reset}
+use Rattle.sva_explain.specs.Link.{about_lines}
+use Rattle.sva_explain.specs.Units.{of_part, place_lines, pump_lines, target_lines, wait_line, wait_lines}
 use Rattle.sva_why.specs.Standing.{Has}
 use Rattle.sva_why.specs.Why.{why_of}
 use Rattle.sva_why.proofs.Parts.{has_all, has_found, has_left, has_right, has_row, has_within}

@@ -7,10 +7,10 @@ use Rattle.sva_model.specs.Wire.Descriptor.{RangeDescriptor, PasidDescriptor, Wa
 use Rattle.sva_labels.specs.Finding.{lowest_label}
 use Rattle.sva_lines.specs.Pieces.{field, line_end}
 use Rattle.sva_lines.specs.Words.{busy_text}
-use Rattle.sva_accepted.specs.Accepted.{is_accepted}
-use Rattle.sva_standing.specs.declared.levels.Level.{Level}
-use Rattle.sva_standing.specs.declared.levels.Level.TheVariants.{First, Second}
-use Rattle.sva_standing.specs.Lines.{bracket, indent}
+use Rattle.sva_explain.specs.Accepted.{is_accepted}
+use Rattle.sva_explain.specs.declared.blockers.levels.Level.{Level}
+use Rattle.sva_explain.specs.declared.blockers.levels.Level.TheVariants.{First, Second}
+use Rattle.sva_explain.specs.Lines.{bracket, indent}
 use Rattle.sva_why.specs.Standing.{Has}
 use Rattle.sva_why.specs.Why.{why_of}
 

@@ -13,20 +13,20 @@ use Rattle.sva_labels.specs.Finding.{binding_of, bound_at, held_by, outstanding,
 use Rattle.sva_labels.specs.Moves.{is_of_job}
 use Rattle.sva_labels.specs.Replying.{space_of_job}
 use Rattle.sva_lines.specs.Pieces.{field, line_end}
-use Rattle.sva_accepted.specs.Accepted.{is_accepted}
-use Rattle.sva_lacking.specs.Frames.{frames_lines, mapped_line, pages_line, to_map_line, withheld_line}
-use Rattle.sva_lacking.specs.Hands.{hand_line}
-use Rattle.sva_lacking.specs.Pasids.{bearer_line}
-use Rattle.sva_lacking.specs.Slots.{slot_line}
-use Rattle.sva_lacking.specs.Spaces.{unbound_line}
-use Rattle.sva_lacking.specs.Tags.{not_held_line}
-use Rattle.sva_standing.specs.declared.levels.Level.TheVariants.{First, Second, Third}
-use Rattle.sva_standing.specs.declared.link.Topic.TheVariants.{Asks, Responds, Stop}
-use Rattle.sva_standing.specs.Lines.{indent}
-use Rattle.sva_standing.specs.Link.{is_about, message_line}
-use Rattle.sva_standing.specs.Requests.{out_line}
-use Rattle.sva_under_way.specs.Jobs.{in_hand_line, request_line, untaken_line}
-use Rattle.sva_under_way.specs.Tables.{due_line, is_due, reset_text}
+use Rattle.sva_explain.specs.Accepted.{is_accepted}
+use Rattle.sva_explain.specs.Frames.{frames_lines, mapped_line, pages_line, to_map_line, withheld_line}
+use Rattle.sva_explain.specs.Hands.{hand_line}
+use Rattle.sva_explain.specs.Pasids.{bearer_line}
+use Rattle.sva_explain.specs.Slots.{slot_line}
+use Rattle.sva_explain.specs.Spaces.{unbound_line}
+use Rattle.sva_explain.specs.Tags.{not_held_line}
+use Rattle.sva_explain.specs.declared.blockers.levels.Level.TheVariants.{First, Second, Third}
+use Rattle.sva_explain.specs.declared.blockers.link.Topic.TheVariants.{Asks, Responds, Stop}
+use Rattle.sva_explain.specs.Lines.{indent}
+use Rattle.sva_explain.specs.Link.{is_about, message_line}
+use Rattle.sva_explain.specs.Requests.{out_line}
+use Rattle.sva_explain.specs.Jobs.{in_hand_line, request_line, untaken_line}
+use Rattle.sva_explain.specs.Tables.{due_line, is_due, reset_text}
 use Rattle.sva_why.specs.Bindings.{binding_line}
 use Rattle.sva_why.specs.Causes.{endpoint_of}
 use Rattle.sva_why.specs.Standing.{Has}

@@ -10,10 +10,10 @@ use Rattle.sva_model.specs.Wire.TargetWire.{Cookie, ResetEnd}
 use Rattle.sva_labels.specs.Finding.{pages_in}
 use Rattle.sva_labels.specs.Moves.{is_between, unmapped}
 use Rattle.sva_lines.specs.Pieces.{field, line_end}
-use Rattle.sva_lacking.specs.Ranges.{frames_line, target_behind}
-use Rattle.sva_standing.specs.declared.levels.Level.TheVariants.{First}
-use Rattle.sva_standing.specs.Lines.{indent}
-use Rattle.sva_standing.specs.Units.{wait_line}
+use Rattle.sva_explain.specs.Ranges.{frames_line, target_behind}
+use Rattle.sva_explain.specs.declared.blockers.levels.Level.TheVariants.{First}
+use Rattle.sva_explain.specs.Lines.{indent}
+use Rattle.sva_explain.specs.Units.{wait_line}
 use Rattle.sva_why.specs.Standing.{Has}
 use Rattle.sva_why.specs.Why.{why_of}
 

@@ -1,7 +1,7 @@
 use Rattle.sva_open.specs.World.{Part}
 use Rattle.std.proofs.Common.{◌∙◌, ◌++◌, ap, codes, take}
 use Rattle.std.specs.Prelude.{count_by}
-use Rattle.sva_open_names.specs.Finding.{is_of_kind, kind_of}
+use Rattle.sva_open.specs.Finding.{is_of_kind, kind_of}
 use Rattle.sva_driver_words.specs.Pieces.{and_older, kind_text, with_endpoint}
 use Rattle.sva_driver_reports.specs.Events.{older_messages}
 use Rattle.sva_driver_reports.proofs.Rests.{joined}

@@ -1,5 +1,5 @@
 use Rattle.std.proofs.Common.{◌∙◌, ◌++◌, ap, codes, length}
-use Rattle.sva_open_wrongs.specs.Wrongs.{first_wrong}
+use Rattle.sva_open_safe.specs.Wrongs.{first_wrong}
 use Rattle.sva_judge.specs.Spots.{Spot}
 use Rattle.sva_driver_reports.specs.Reports.{behind, events_by, events_count, finding_text, witness_by}
 use Rattle.sva_driver_reports.proofs.Rests.{joined}

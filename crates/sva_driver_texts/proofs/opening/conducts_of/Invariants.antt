@@ -1,5 +1,5 @@
 use Rattle.std.proofs.Common.{◌≡◌, map, take}
-use Rattle.sva_driver_lines.specs.Devices.{device_seen}
+use Rattle.sva_driver_texts.specs.Devices.{device_seen}
 use Rattle.sva_driver_texts.specs.Texts.{conduct_of}
 use Rattle.sva_driver_texts.proofs.opening.conducts_of.Given as goal
 

@@ -1,6 +1,6 @@
 use Rattle.std.proofs.Common.{◌≡◌, ◌++◌, map}
 use Rattle.std.specs.Vec.Iter.{into_iter_items}
-use Rattle.sva_driver_acts.specs.Awaits.{line_seen}
+use Rattle.sva_driver_words.specs.Awaits.{line_seen}
 use Rattle.sva_driver_texts.specs.Texts.{done_of, done_seen, told_of, told_seen}
 use Rattle.sva_driver_texts.proofs.opening.lines_of.Given as goal
 

@@ -1,7 +1,7 @@
 use Rattle.std.proofs.Common.{◌≡◌, ◌∙◌, ap, arith, length, map, vec_len}
-use Rattle.sva_driver_acts.specs.Awaits.{line_seen}
-use Rattle.sva_driver_lines.specs.Devices.{device_seen}
-use Rattle.sva_driver_lines.specs.Readings.{Reading}
+use Rattle.sva_driver_words.specs.Awaits.{line_seen}
+use Rattle.sva_driver_texts.specs.Devices.{device_seen}
+use Rattle.sva_driver_texts.specs.Readings.{Reading}
 use Rattle.sva_driver_texts.specs.Pasids.{pasids_of}
 use Rattle.sva_driver_texts.specs.Plans.{planned_from}
 use Rattle.sva_driver_texts.specs.Texts.{done_of, told_of}

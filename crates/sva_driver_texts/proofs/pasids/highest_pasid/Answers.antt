@@ -1,6 +1,6 @@
 use Rattle.std.proofs.Common.{◌<◌, ◌≤◌, ◌∙◌, ap, length, rules, sym}
-use Rattle.sva_driver_acts.specs.Awaits.{line_seen}
-use Rattle.sva_driver_acts.specs.declared.kept.LineRead.{LineRead}
+use Rattle.sva_driver_words.specs.Awaits.{line_seen}
+use Rattle.sva_driver_words.specs.declared.kept.LineRead.{LineRead}
 use Rattle.sva_driver_texts.specs.Pasids.{higher, pasid_at}
 use Rattle.sva_driver_texts.proofs.Lists.{highest_end, highest_next}
 use Rattle.sva_driver_texts.proofs.pasids.highest_pasid.Goals as goal

@@ -1,6 +1,6 @@
 use Rattle.std.proofs.Common.{◌<◌, ◌≤◌, ◌∙◌, ap, length, map, rules}
-use Rattle.sva_driver_acts.specs.Awaits.{line_seen}
-use Rattle.sva_driver_lines.specs.Devices as devices
+use Rattle.sva_driver_words.specs.Awaits.{line_seen}
+use Rattle.sva_driver_texts.specs.Devices as devices
 use Rattle.sva_driver_texts.specs.Plans.{planned}
 use Rattle.sva_driver_texts.proofs.Lists.{planned_end, planned_next}
 use Rattle.sva_driver_texts.proofs.plans.all_planned.Goals as goal

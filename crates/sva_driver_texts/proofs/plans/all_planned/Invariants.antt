@@ -1,6 +1,6 @@
 use Rattle.std.proofs.Common.{◌≡◌, ◌++◌, drop, map}
-use Rattle.sva_driver_acts.specs.Awaits.{line_seen}
-use Rattle.sva_driver_lines.specs.Devices as devices
+use Rattle.sva_driver_words.specs.Awaits.{line_seen}
+use Rattle.sva_driver_texts.specs.Devices as devices
 use Rattle.sva_driver_texts.specs.Plans.{device_seen, planned_from}
 use Rattle.sva_driver_texts.proofs.plans.all_planned.Given as goal
 

@@ -1,6 +1,6 @@
 use Rattle.std.proofs.Common.{◌<◌, ◌≤◌, ◌∙◌, ap, length, rules, sym}
-use Rattle.sva_driver_acts.specs.Awaits.{line_seen}
-use Rattle.sva_driver_acts.specs.declared.kept.LineRead.{LineRead}
+use Rattle.sva_driver_words.specs.Awaits.{line_seen}
+use Rattle.sva_driver_words.specs.declared.kept.LineRead.{LineRead}
 use Rattle.sva_driver_texts.specs.Plans.{page_set, with_number}
 use Rattle.sva_driver_texts.proofs.Lists.{page_next, pages_end}
 use Rattle.sva_driver_texts.proofs.plans.pages_set.Goals as goal

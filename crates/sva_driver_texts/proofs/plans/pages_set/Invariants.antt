@@ -1,5 +1,5 @@
 use Rattle.std.proofs.Common.{◌≡◌, drop, map}
-use Rattle.sva_driver_acts.specs.Awaits.{line_seen}
+use Rattle.sva_driver_words.specs.Awaits.{line_seen}
 use Rattle.sva_driver_texts.specs.Plans.{pages_by, pages_set}
 use Rattle.sva_driver_texts.proofs.plans.pages_set.Given as goal
 

@@ -1,5 +1,5 @@
 use Rattle.std.proofs.Common.{◌≡◌, drop, map}
-use Rattle.sva_driver_acts.specs.Awaits.{line_seen}
+use Rattle.sva_driver_words.specs.Awaits.{line_seen}
 use Rattle.sva_driver_texts.specs.Plans.{pasids_by, pasids_started}
 use Rattle.sva_driver_texts.proofs.plans.pasids_started.Given as goal
 

@@ -1,5 +1,5 @@
 use Rattle.std.proofs.Common.{◌∙◌, ◌++◌, ap, refl, rules, sym}
-use Rattle.sva_driver_lines.specs.Readings.{Reading}
+use Rattle.sva_driver_texts.specs.Readings.{Reading}
 use Rattle.sva_driver_texts.proofs.Wholes.{none_said, said_right, said_wrong, some_said}
 use Rattle.sva_driver_texts.proofs.texts.read_of.Goals as goal
 

@@ -1,7 +1,7 @@
 use Rattle.std.proofs.Common.{◌∙◌, ◌++◌, ap, sym}
 use Rattle.sva_script.proofs.WordLemmas.{on_ok_by}
 use Rattle.sva_driver_words.proofs.FaultLemmas.{own_text}
-use Rattle.sva_race_words.proofs.Lists.{said}
+use Rattle.sva_race_texts.proofs.Lists.{said}
 use Rattle.sva_driver_words.proofs.faults.put_fault.Goals as goal
 
 pub returns-in_default : goal.returns-in_default

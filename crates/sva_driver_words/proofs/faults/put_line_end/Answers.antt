@@ -1,5 +1,5 @@
 use Rattle.std.proofs.Common.{◌∙◌, ◌++◌, ap, append_assoc, codes}
-use Rattle.sva_race_words.proofs.ScriptFaultLemmas.{on_ok_if}
+use Rattle.sva_race_texts.proofs.ScriptFaultLemmas.{on_ok_if}
 use Rattle.sva_driver_words.proofs.faults.put_line_end.Goals as goal
 
 pub returns : goal.returns

@@ -1,4 +1,4 @@
-use Rattle.sva_race_words.proofs.ScriptFaultLemmas.{on_ok_if}
+use Rattle.sva_race_texts.proofs.ScriptFaultLemmas.{on_ok_if}
 use Rattle.sva_driver_words.proofs.FaultLemmas.{own_is}
 use Rattle.sva_driver_words.proofs.faults.put_own.Goals as goal
 

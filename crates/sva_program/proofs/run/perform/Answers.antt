@@ -1,13 +1,13 @@
 use Rattle.std.proofs.Common.{IfSome, ap, subst, sym}
 use Rattle.std.proofs.lemmas.Result.{IfOk-weaker}
 use Rattle.sva_reports.specs.Report.{check_of, check_outcome_of, outcome_of, report_of}
-use Rattle.sva_scenario.specs.Storms.{StormsOf}
+use Rattle.sva_scenario.specs.StormReports.{StormsOf}
 use Rattle.sva_charts.specs.Charts.{Charts}
 use Rattle.sva_script_reading.specs.Said.{Prints}
 use Rattle.sva_script_reports.specs.Scripts.{plain_of, test_of}
 use Rattle.sva_script_reports.specs.Shows.{show_of}
 use Rattle.sva_script_reports.specs.Whys.{whys_of}
-use Rattle.sva_script_traces.specs.Traces.{trace_of}
+use Rattle.sva_script_reports.specs.Traces.{trace_of}
 use Rattle.sva_why.specs.Why.{why_of}
 use Rattle.sva_race_reports.specs.Explored.{Explores}
 use Rattle.sva_program.specs.Run.{Reports, wanted_of}

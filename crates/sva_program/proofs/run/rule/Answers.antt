@@ -1,6 +1,6 @@
 use Rattle.std.proofs.Common.{◌≡◌, ap, rules, subst, sym, true, false}
 use Rattle.std.proofs.lemmas.Result.{IfOk-weaker}
-use Rattle.sva_driver_runs.specs.Judged.{Judges, Runs}
+use Rattle.sva_driver_reports.specs.Judged.{Judges, Runs}
 use Rattle.sva_program.specs.Run.{Rules, WhereKnown}
 use Rattle.sva_program.proofs.RunLemmas.{caused, reported}
 use Rattle.sva_program.proofs.run.rule.Goals as goal

@@ -1,7 +1,7 @@
 use Rattle.std.proofs.Common.{◌≡◌, ap, subst, IfSome}
 use Rattle.sva_step.specs.Limits.{Fits}
 use Rattle.sva_streams.proofs.EndLemmas.{ends_not_by_reading}
-use Rattle.sva_scenario.proofs.StormLemmas.{faulted_known, played_known}
+use Rattle.sva_scenario.proofs.StormReportLemmas.{faulted_known, played_known}
 use Rattle.sva_program.proofs.storming.drive_storm.Goals as goal
 
 pub returns-in_err-scenario-clause-report : goal.returns-in_err-scenario-clause-report

@@ -1,7 +1,7 @@
 use Rattle.std.proofs.Common.{◌++◌, ◌∙◌, ap, arith, length, sym}
 use Rattle.sva_race_parts.proofs.Naming.{below_both, past_either}
-use Rattle.sva_race_terms.specs.declared.claims.Claim.{Claim}
-use Rattle.sva_race_lines.specs.Readings.{asked_seen}
+use Rattle.sva_race_texts.specs.declared.terms.claims.Claim.{Claim}
+use Rattle.sva_race_texts.specs.Readings.{asked_seen}
 use Rattle.sva_race_reports.specs.Reports.{claim_text, with_witness}
 use Rattle.sva_race_reports.proofs.Rulings.{claim_next, claims_end, few_witnesses}
 use Rattle.sva_race_reports.proofs.claims.put_claims.Goals as goal

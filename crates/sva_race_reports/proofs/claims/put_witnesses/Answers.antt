@@ -1,5 +1,5 @@
 use Rattle.std.proofs.Common.{◌++◌, ◌∙◌, ap, sym}
-use Rattle.sva_race_lines.specs.declared.kept.Asked.{Asked}
+use Rattle.sva_race_texts.specs.declared.kept.Asked.{Asked}
 use Rattle.sva_race_reports.specs.Judging.{witness_of}
 use Rattle.sva_race_reports.specs.Reports.{with_witness, witness_if}
 use Rattle.sva_race_reports.proofs.Rulings.{few_witnesses, witness_next, witnesses_end}

@@ -1,7 +1,7 @@
 use Rattle.std.proofs.Common.{rules, ◌≡◌, Some, subst, true}
 use Rattle.sva_search.specs.Rules.{run_from}
 use Rattle.sva_race.specs.Rules.{rules_of}
-use Rattle.sva_race_reports.specs.Ends.{Leads}
+use Rattle.sva_race_reports.specs.WitnessEnds.{Leads}
 use Rattle.sva_race_reports.proofs.Ended.{waits_there}
 use Rattle.sva_race_reports.proofs.ends.put_all_waits.Goals as goal
 

@@ -1,6 +1,6 @@
 use Rattle.std.proofs.Common.{◌≡◌, ◌++◌, drop}
 use Rattle.sva_lines.specs.Pieces.{rows}
-use Rattle.sva_race_reports.specs.Ends.{wait_text}
+use Rattle.sva_race_reports.specs.WitnessEnds.{wait_text}
 use Rattle.sva_race_reports.proofs.ends.put_waits.Given as goal
 
 -- what was said and what is left make the whole

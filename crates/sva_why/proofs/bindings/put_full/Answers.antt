@@ -1,7 +1,7 @@
 use Rattle.std.proofs.Common.{◌≡◌, ◌++◌, subst}
 use Rattle.std.specs.Prelude.{OnOk}
 use Rattle.sva_snapshot.specs.Shown.{binding_shown, endpoint_shown}
-use Rattle.sva_standing.specs.Units.{room_lines}
+use Rattle.sva_explain.specs.Units.{room_lines}
 use Rattle.sva_why.proofs.bindings.put_full.Goals as goal
 
 pub returns : goal.returns

@@ -2,9 +2,9 @@ use Rattle.sva_lines.proofs.Lines.{both}
 use Rattle.std.proofs.Common.{◌≡◌, ◌++◌, subst}
 use Rattle.std.specs.Prelude.{OnOk}
 use Rattle.sva_snapshot.specs.Shown.{endpoint_shown}
-use Rattle.sva_under_way.specs.Tables.{busy_pasid_lines}
+use Rattle.sva_explain.specs.Tables.{busy_pasid_lines}
 use Rattle.sva_why.specs.Bindings.{on_link_lines}
-use Rattle.sva_standing.proofs.Chains.{joined}
+use Rattle.sva_explain.proofs.Chains.{joined}
 use Rattle.sva_why.proofs.bindings.put_marker_of.Goals as goal
 
 pub returns : goal.returns

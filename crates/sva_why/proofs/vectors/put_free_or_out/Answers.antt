@@ -2,10 +2,10 @@ use Rattle.sva_lines.proofs.Lines.{both}
 use Rattle.std.proofs.Common.{◌≡◌, ◌++◌, subst}
 use Rattle.std.specs.Prelude.{OnOk}
 use Rattle.sva_snapshot.specs.Shown.{endpoint_shown}
-use Rattle.sva_standing.specs.declared.link.Topic.TheVariants.{Itag}
-use Rattle.sva_standing.specs.Link.{about_lines}
-use Rattle.sva_standing.specs.Units.{reset_if}
-use Rattle.sva_standing.proofs.Chains.{joined}
+use Rattle.sva_explain.specs.declared.blockers.link.Topic.TheVariants.{Itag}
+use Rattle.sva_explain.specs.Link.{about_lines}
+use Rattle.sva_explain.specs.Units.{reset_if}
+use Rattle.sva_explain.proofs.Chains.{joined}
 use Rattle.sva_why.proofs.vectors.put_free_or_out.Goals as goal
 
 pub returns : goal.returns

@@ -1,5 +1,5 @@
 use Rattle.sva_lines.proofs.Lines.{both}
-use Rattle.sva_standing.proofs.Chains.{joined}
+use Rattle.sva_explain.proofs.Chains.{joined}
 use Rattle.sva_why.proofs.vectors.put_not_pending_line.Goals as goal
 
 pub returns : goal.returns

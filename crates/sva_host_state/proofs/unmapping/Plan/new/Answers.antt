@@ -3,7 +3,7 @@ use Rattle.std.specs.Prelude.{◌&&◌, None, Some, length}
 use Rattle.sva_model.specs.Wire.{Wire}
 use Rattle.sva_labels.specs.Finding.{has_room, is_before_invalidating}
 use Rattle.sva_labels.specs.Moves.{pasid_or_0}
-use Rattle.sva_lemmas.proofs.Tests.{and_no}
+use Rattle.sva_labels.proofs.Tests.{and_no}
 use Rattle.sva_parts_by_labels.specs.Bindings.{stage_or_quiet}
 use Rattle.sva_host_state.specs.declared.unmapping.Plan.{Plan}
 use Rattle.sva_host_state.specs.Unmapping.{target_at}

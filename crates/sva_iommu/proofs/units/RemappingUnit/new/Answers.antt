@@ -1,7 +1,7 @@
 use Rattle.std.proofs.Common.{sym, ap, true, []}
 use Rattle.std.specs.Prelude.{Option, None, List}
 use Rattle.sva_model.specs.Wire.{BusyWire}
-use Rattle.sva_lemmas.proofs.Lists.{tabulate_one}
+use Rattle.sva_labels.proofs.Lists.{tabulate_one}
 use Rattle.sva_iommu.specs.Seen.{UnitSeen}
 use Rattle.sva_iommu.proofs.units.RemappingUnit.new.Goals as goal
 

@@ -1,6 +1,6 @@
 use Rattle.std.proofs.Common.{◌≡◌, ◌-◌, ◌∙◌, ◌+◌, ap, sym, ℕ, List, cond, drop, length, arith, rules, true, false, Some}
 use Rattle.sva_script.specs.Names.{Known, names_of}
-use Rattle.sva_words.specs.Near.{is_near, near_among}
+use Rattle.sva_script.specs.Near.{is_near, near_among}
 use Rattle.sva_script.proofs.NearLemmas.{kept_next, seen_length}
 use Rattle.sva_script.proofs.names.Names.near.Goals as goal
 use Rattle.sva_script.proofs.names.Names.near.Goals.{in-Some+else-is_near, in_default}

@@ -1,6 +1,6 @@
 use Rattle.std.proofs.Common.{◌≡◌, drop}
 use Rattle.sva_script.specs.Names.{names_of}
-use Rattle.sva_words.specs.Near.{near_among}
+use Rattle.sva_script.specs.Near.{near_among}
 use Rattle.sva_script.proofs.names.Names.near.Given as goal
 
 -- of those that are left the first is near that is of the last 1000

@@ -1,5 +1,0 @@
-use Rattle.std.proofs.Common.{rules}
-use Rattle.sva_cache.proofs.keys.CacheKey.compare.Goals as goal
-
-pub returns-clause-counted : goal.returns-clause-counted
-returns-clause-counted c = search rules

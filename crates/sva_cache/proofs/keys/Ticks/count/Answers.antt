@@ -1,5 +1,0 @@
-use Rattle.std.proofs.Common.{rules}
-use Rattle.sva_cache.proofs.keys.Ticks.count.Goals as goal
-
-pub returns : goal.returns
-returns c = search rules

@@ -1,2 +1,0 @@
-pub mod Cache
-pub mod Coverage

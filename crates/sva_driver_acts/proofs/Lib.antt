@@ -1,3 +1,0 @@
-pub mod Lasts
-pub mod Locks
-pub mod Pieces

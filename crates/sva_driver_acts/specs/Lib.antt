@@ -1,5 +1,0 @@
-pub mod Taking
-pub mod Sayings
-pub mod Descriptors
-pub mod Awaits
-pub mod Says

@@ -1,8 +1,0 @@
-use Rattle.std.proofs.Common.{◌≡◌, drop}
-use Rattle.sva_race_words.proofs.Lists.{said}
-use Rattle.sva_driver_lines.specs.Devices.{pages_by, pages_from}
-use Rattle.sva_driver_lines.proofs.devices.pages_from.Given as goal
-
--- the words that are left, behind the pages so far, give what all give
-abbrev pub invariant-loop-place : goal.invariant-loop-place
-invariant-loop-place l = pages_by l.place l.pages.items (drop l.place (said l.words)) (said l.words) ≡ pages_from l.at (said l.words)

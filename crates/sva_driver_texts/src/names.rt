@@ -1,0 +1,80 @@
+//! The names of lines, and of the threads that they are of.
+
+ghost use Rattle.std.specs.Prelude.{◌≡◌, IfOk, None, Some, if◌then◌else◌, map, option_map};
+ghost use Rattle.std.specs.List.{list_any};
+ghost use Rattle.sva_driver_words.specs.Awaits.{is_named, last_from, line_seen};
+ghost use Rattle.sva_driver_texts.specs.Readings as readings;
+
+use std::alloc::{AllocError, Global};
+use sva_driver_words::{DriverWanted, DriverWrong, LineRead, wrong_at};
+use sva_race_texts::RaceWanted;
+use sva_script::{Wanted, is, is_name};
+
+/// Whether a name is awaited otherwise.
+fn is_awaited_word(name: &[u8]) -> bool
+    ensures { result ≡ readings.is_awaited_word name.now }
+{
+    is(name, b"stopped") || is(name, b"queue") || is(name, b"groups")
+}
+
+/// Whether a line has the name.
+fn has_name(line: &LineRead, name: &[u8]) -> bool
+    ensures { result ≡ is_named name.now (line_seen line.now) }
+{
+    is(line.name.as_slice(), name)
+}
+
+/// Whether one of the lines has the name.
+fn is_one_named(lines: &[LineRead], name: &[u8]) -> bool
+    ensures { result ≡ list_any (λ line. is_named name.now (line_seen line)) lines.now }
+{
+    lines.iter().any(|line| has_name(line, name))
+}
+
+/// Whether a line above has the name.
+fn is_given(lines: &[LineRead], name: &[u8]) -> bool
+    ensures { result ≡ list_any (is_named name.now) (map line_seen lines.now) }
+{
+    let given = is_one_named(lines, name);
+    given
+}
+
+/// Whether a line's name is one, and no line above has it; it is no word behind `await`.
+pub(crate) fn judge_name(lines: &[LineRead], name: Option<&[u8]>) -> Result<(), DriverWrong>
+    ensures { result ≡ readings.name_judged (map line_seen lines.now) (option_map (λ name. name.now) name.entry) }
+{
+    match name {
+        None => Ok(()),
+        Some(name) => {
+            if !is_name(name) || is_awaited_word(name) {
+                return Err(wrong_at(0, DriverWanted::Race(RaceWanted::Script(Wanted::Name))));
+            }
+            if is_given(lines, name) {
+                return Err(wrong_at(0, DriverWanted::Race(RaceWanted::Script(Wanted::NewName))));
+            }
+            Ok(())
+        }
+    }
+}
+
+/// A name of its own; an empty one where there is none.
+pub(crate) fn own(alloc: Global, name: Option<&[u8]>) -> Result<Vec<u8>, AllocError>
+    ensures { IfOk result (λ own. own.items ≡ readings.name_of (option_map (λ name. name.now) name.entry)) }
+{
+    match name {
+        Some(name) => Vec::from_slice(alloc, name),
+        None => Ok(Vec::new(alloc)),
+    }
+}
+
+/// The place of a thread's last line. It looks from the end, where that mostly stands.
+pub(crate) fn last_of(thread: &[u8], lines: &[LineRead]) -> Option<usize>
+    ensures { result ≡ last_from (readings.is_of_thread thread.now) 0 None (map line_seen lines.now) }
+{
+    for place in (0..lines.len()).rev() {
+        if is(lines[place].thread.as_slice(), thread) {
+            return Some(place);
+        }
+    }
+    None
+}

@@ -1,0 +1,144 @@
+-- What a line awaits.
+use Rattle.std.specs.Prelude.{ℕ, ◌+◌, ◌==◌, ◌&&◌, if◌then◌else◌, Bool, true, false, List, [], ◌∷◌, codes, position, slice_get, Option, Some, None}
+use Rattle.std.specs.Prelude.{Result, Ok}
+use Rattle.std.specs.List.{list_any}
+use Rattle.std.specs.Str.{bytes_eq}
+use Rattle.sva_step.specs.declared.limits.Config.{Config}
+use Rattle.sva_grammar.specs.Grammar.{◌>>=◌}
+use Rattle.sva_open.specs.declared.acts.LocalAct.TheVariants as local
+use Rattle.sva_open.specs.declared.descriptors.Descriptor.{Descriptor}
+use Rattle.sva_open.specs.declared.descriptors.Descriptor.TheVariants as descriptor
+use Rattle.sva_race_texts.specs.Words.{word_at}
+use Rattle.sva_driver_words.specs.Faults.{wrong_at, no_more}
+use Rattle.sva_driver_words.specs.Fields.{endpoint_at, has_word, pasid_at, says}
+use Rattle.sva_driver_words.specs.Sayings.{SayingSaid, did, saying_seen}
+use Rattle.sva_driver_words.specs.Sayings.SayingSaid.{SubmitsSaid, AwaitsLineSaid, AwaitsWaitsSaid}
+use Rattle.sva_driver_words.specs.declared.kept.LineRead.{LineRead}
+use Rattle.sva_driver_words.specs.declared.faults.DriverWanted.TheVariants as wanted
+use Rattle.sva_driver_words.specs.declared.faults.DriverWrong.{DriverWrong}
+
+-- a line that was read: its number, the place of the line of its thread before it, its name and its thread, which may be empty, its
+-- words behind its name, and what it says
+pub record LineSaid : Type 0 where
+  pub number : ℕ
+  pub after : Option ℕ
+  pub name : List ℕ
+  pub thread : List ℕ
+  pub text : List ℕ
+  pub saying : SayingSaid
+
+-- as code keeps it
+abbrev pub line_seen : LineRead → LineSaid
+line_seen line = record {
+  number = line.number;
+  after = line.after;
+  name = line.name.items;
+  thread = line.thread.items;
+  text = line.text.items;
+  saying = saying_seen line.saying;
+}
+
+-- ---- waits that lines above submitted
+
+abbrev pub is_a_wait : Descriptor → Bool
+is_a_wait (descriptor.Wait name drain fence) = true
+is_a_wait _ = false
+
+-- the endpoint at which it submits a wait
+abbrev pub wait_at : SayingSaid → Option ℕ
+wait_at (SubmitsSaid endpoint list) = if list_any is_a_wait list then Some endpoint else None
+wait_at _ = None
+
+abbrev pub is_endpoint : (endpoint : ℕ) → Option ℕ → Bool
+is_endpoint endpoint None = false
+is_endpoint endpoint (Some own) = own == endpoint
+
+abbrev pub submits_there : (thread : List ℕ) → (endpoint : ℕ) → LineSaid → Bool
+submits_there thread endpoint line = bytes_eq line.thread thread && is_endpoint endpoint (wait_at line.saying)
+
+-- the place of the last line that is such, or the one found before
+unfoldable pub last_from : (LineSaid → Bool) → (place : ℕ) → (found : Option ℕ) → List LineSaid → Option ℕ
+last_from is_such place found [] = found
+last_from is_such place found (line ∷ lines) = last_from is_such (place + 1) (if is_such line then Some place else found) lines
+
+abbrev pub last_wait : (thread : List ℕ) → (endpoint : ℕ) → List LineSaid → Option ℕ
+last_wait thread endpoint lines = last_from (submits_there thread endpoint) 0 None lines
+
+-- `await wait E`: the last wait that a line above in this thread submitted there
+abbrev pub awaits_last : (endpoint : ℕ) → Option ℕ → Result SayingSaid DriverWrong
+awaits_last endpoint None = wrong_at 2 wanted.WaitAbove
+awaits_last endpoint (Some place) = Ok (AwaitsWaitsSaid endpoint place)
+
+abbrev pub await_wait : Config → (thread : List ℕ) → List LineSaid → List (List ℕ) → Result SayingSaid DriverWrong
+await_wait config thread lines words = do
+  endpoint ← endpoint_at config 2 words
+  _ ← no_more 3 words
+  awaits_last endpoint (last_wait thread endpoint lines)
+
+-- ---- `await NAME`, of a line above: its waits, if it submits some; else that it was taken
+
+abbrev pub is_named : (name : List ℕ) → LineSaid → Bool
+is_named name line = bytes_eq line.name name
+
+abbrev pub awaits_by : (place : ℕ) → Option ℕ → SayingSaid
+awaits_by place None = AwaitsLineSaid place
+awaits_by place (Some endpoint) = AwaitsWaitsSaid endpoint place
+
+abbrev pub awaits_line : (place : ℕ) → Option LineSaid → Result SayingSaid DriverWrong
+awaits_line place None = wrong_at 1 wanted.Awaited
+awaits_line place (Some line) = Ok (awaits_by place (wait_at line.saying))
+
+abbrev pub awaits_at : List LineSaid → Option ℕ → Result SayingSaid DriverWrong
+awaits_at lines None = wrong_at 1 wanted.Awaited
+awaits_at lines (Some place) = awaits_line place (slice_get lines place)
+
+abbrev pub awaits_name : List LineSaid → List (List ℕ) → Result SayingSaid DriverWrong
+awaits_name lines words = do
+  said ← awaits_at lines (position (is_named (word_at 1 words)) lines)
+  _ ← no_more 2 words
+  Ok said
+
+abbrev pub await_named : List LineSaid → List (List ℕ) → Result SayingSaid DriverWrong
+await_named lines words = if has_word 1 words then awaits_name lines words else wrong_at 1 wanted.Awaited
+
+-- ---- `await stopped E P`, `await queue E [P]`, `await groups E P`, `await reset E`
+
+abbrev pub await_stopped : Config → List (List ℕ) → Result SayingSaid DriverWrong
+await_stopped config words = do
+  endpoint ← endpoint_at config 2 words
+  pasid ← pasid_at 3 words
+  _ ← no_more 4 words
+  Ok (did endpoint (local.AwaitStopped pasid))
+
+abbrev pub await_queue_of : (endpoint : ℕ) → List (List ℕ) → Result SayingSaid DriverWrong
+await_queue_of endpoint words = do
+  pasid ← pasid_at 3 words
+  _ ← no_more 4 words
+  Ok (did endpoint (local.AwaitQueueOf pasid))
+
+abbrev pub await_queue : Config → List (List ℕ) → Result SayingSaid DriverWrong
+await_queue config words = do
+  endpoint ← endpoint_at config 2 words
+  if has_word 3 words then await_queue_of endpoint words else Ok (did endpoint local.AwaitQueue)
+
+abbrev pub await_groups : Config → List (List ℕ) → Result SayingSaid DriverWrong
+await_groups config words = do
+  endpoint ← endpoint_at config 2 words
+  pasid ← pasid_at 3 words
+  _ ← no_more 4 words
+  Ok (did endpoint (local.AwaitGroups pasid))
+
+abbrev pub await_reset : Config → List (List ℕ) → Result SayingSaid DriverWrong
+await_reset config words = do
+  endpoint ← endpoint_at config 2 words
+  _ ← no_more 3 words
+  Ok (did endpoint local.AwaitResets)
+
+abbrev pub await_line : Config → (thread : List ℕ) → List LineSaid → List (List ℕ) → Result SayingSaid DriverWrong
+await_line config thread lines words =
+    if says 1 (codes "wait") words then await_wait config thread lines words else
+    if says 1 (codes "stopped") words then await_stopped config words else
+    if says 1 (codes "queue") words then await_queue config words else
+    if says 1 (codes "groups") words then await_groups config words else
+    if says 1 (codes "reset") words then await_reset config words else
+    await_named lines words

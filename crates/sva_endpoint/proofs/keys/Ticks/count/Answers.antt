@@ -1,0 +1,5 @@
+use Rattle.std.proofs.Common.{rules}
+use Rattle.sva_endpoint.proofs.keys.Ticks.count.Goals as goal
+
+pub returns : goal.returns
+returns c = search rules

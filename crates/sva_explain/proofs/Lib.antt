@@ -1,0 +1,10 @@
+pub mod AcceptedSteps
+pub mod CountBelow
+pub mod NoneBelow
+pub mod Places
+pub mod UnmapCauses
+pub mod VectorBits
+pub mod Chains
+pub mod Frames
+pub mod Got
+pub mod NewPages

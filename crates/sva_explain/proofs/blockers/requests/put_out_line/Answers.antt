@@ -1,0 +1,10 @@
+use Rattle.sva_lines.proofs.Lines.{both}
+use Rattle.sva_explain.proofs.Chains.{joined}
+use Rattle.sva_explain.proofs.blockers.requests.put_out_line.Goals as goal
+
+pub returns : goal.returns
+returns c =
+    let old = c.args.out.now.items in
+    let to_1 = joined old c.put_start.new.out.items c.put_asked.new.out.items _ _ c.in_ok-put_start.ensures c.in_ok-put_asked.ensures in
+    let to_2 = joined old c.put_asked.new.out.items c.put_if.new.out.items _ _ to_1 c.in_ok-put_if.ensures in
+    both c.end_line.result old c.put_if.new.out.items c.end_line.new.out.items _ _ to_2 c.end_line.ensures

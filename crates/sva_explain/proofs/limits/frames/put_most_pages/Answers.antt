@@ -1,0 +1,9 @@
+use Rattle.sva_lines.proofs.Lines.{both}
+use Rattle.sva_explain.proofs.Chains.{joined}
+use Rattle.sva_explain.proofs.limits.frames.put_most_pages.Goals as goal
+
+pub returns : goal.returns
+returns c =
+    let old = c.args.out.now.items in
+    let to_1 = joined old c.put_indent.new.out.items c.put_word.new.out.items _ _ c.in_ok-put_indent.ensures c.in_ok-put_word.ensures in
+    both c.end_line.result old c.put_word.new.out.items c.end_line.new.out.items _ _ to_1 c.end_line.ensures

@@ -1,0 +1,14 @@
+pub mod Accepted
+pub mod Lines
+pub mod Link
+pub mod Requests
+pub mod Units
+pub mod Jobs
+pub mod Tables
+pub mod Tags
+pub mod Slots
+pub mod Hands
+pub mod Spaces
+pub mod Ranges
+pub mod Frames
+pub mod Pasids

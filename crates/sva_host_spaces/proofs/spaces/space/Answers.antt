@@ -1,6 +1,0 @@
-use Rattle.sva_step.specs.declared.steps.Step.TheVariants as step
-use Rattle.sva_host_state.proofs.SpaceSteps.{stepped}
-use Rattle.sva_host_spaces.proofs.spaces.space.Goals as goal
-
-pub returns : goal.returns
-returns c = stepped c.host.inside _ step.Space _ _ c.host.view_is c.space.ensures

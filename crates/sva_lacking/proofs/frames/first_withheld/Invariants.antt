@@ -1,9 +1,0 @@
-use Rattle.std.proofs.Common.{◌≡◌, drop, map}
-use Rattle.std.specs.List.{find}
-use Rattle.sva_lines.specs.Words.{is_withheld}
-use Rattle.sva_standing.specs.Units.{held_seen}
-use Rattle.sva_lacking.proofs.frames.first_withheld.Given as goal
-
--- none so far is withheld
-abbrev pub invariant-loop-held : goal.invariant-loop-held
-invariant-loop-held l = find is_withheld (map held_seen (drop l.held-index l.frames)) ≡ find is_withheld (map held_seen l.frames)

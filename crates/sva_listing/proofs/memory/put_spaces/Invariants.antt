@@ -1,7 +1,0 @@
-use Rattle.std.proofs.Common.{◌≡◌, ◌++◌, flat_map, map, take}
-use Rattle.sva_listing.specs.Memory.{space_lines}
-use Rattle.sva_snapshot.specs.Shown.{space_shown}
-use Rattle.sva_listing.proofs.memory.put_spaces.Given as goal
-
-abbrev pub invariant-loop-space : goal.invariant-loop-space
-invariant-loop-space l = l.out.items ≡ l.initial.out.items ++ flat_map space_lines (map space_shown (take l.space-index l.spaces))

@@ -1,6 +1,0 @@
-pub mod Memory
-pub mod Devices
-pub mod Units
-pub mod Messages
-pub mod Listing
-pub mod Worked

@@ -1,5 +1,0 @@
-pub mod Tries
-pub mod Ending
-pub mod Turns
-pub mod Working
-pub mod Asking

@@ -1,6 +1,0 @@
-use Rattle.sva_loops.proofs.Asking.{IsDelivering}
-use Rattle.sva_loops.proofs.linking.link.Given as goal
-
--- the turns so far delivered the messages below this one
-abbrev pub invariant-loop-turn : goal.invariant-loop-turn
-invariant-loop-turn g l = IsDelivering l.message l.turn l.fn.port l.port

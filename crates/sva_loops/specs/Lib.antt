@@ -1,5 +1,0 @@
-pub mod Ends
-pub mod LoopTokens
-pub mod Plays
-pub mod Jobs
-pub mod Asks

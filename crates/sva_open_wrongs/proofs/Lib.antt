@@ -1,3 +1,0 @@
-mod Firsts
-mod Quiet
-mod Safety

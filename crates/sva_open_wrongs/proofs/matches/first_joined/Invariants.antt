@@ -1,8 +1,0 @@
-use Rattle.std.proofs.Common.{◌≡◌, drop}
-use Rattle.sva_open_wrongs.specs.Wrongs as wrongs
-use Rattle.sva_open_wrongs.proofs.matches.first_joined.Given as goal
-
--- the first of those that are left is the first of all
-abbrev pub invariant-loop-place : goal.invariant-loop-place
-invariant-loop-place l =
-    wrongs.first_in (wrongs.joined_by l.endpoint l.one) (drop l.place l.list) ≡ wrongs.first_in (wrongs.joined_by l.endpoint l.one) l.list

@@ -1,8 +1,0 @@
-use Rattle.std.proofs.Common.{◌≡◌, drop}
-use Rattle.sva_open_wrongs.specs.Wrongs as wrongs
-use Rattle.sva_open_wrongs.proofs.matches.first_walked.Given as goal
-
--- the first of those that are left is the first of all
-abbrev pub invariant-loop-place : goal.invariant-loop-place
-invariant-loop-place l =
-    wrongs.first_in (wrongs.kept_walked l.freed l.endpoint) (drop l.place l.list) ≡ wrongs.first_in (wrongs.kept_walked l.freed l.endpoint) l.list

@@ -1,8 +1,0 @@
-use Rattle.std.proofs.Common.{◌≡◌, drop}
-use Rattle.sva_open_wrongs.specs.Wrongs as wrongs
-use Rattle.sva_open_wrongs.proofs.owners.first_sent.Given as goal
-
--- the first of those that are left is the first of all
-abbrev pub invariant-loop-place : goal.invariant-loop-place
-invariant-loop-place l =
-    wrongs.first_in (wrongs.one_left l.part l.endpoint l.thing) (drop l.place l.list) ≡ wrongs.first_in (wrongs.one_left l.part l.endpoint l.thing) l.list

@@ -1,3 +1,0 @@
-pub mod ReadLemmas
-pub mod StepLemmas
-pub mod PossibleLemmas

@@ -1,8 +1,0 @@
-use Rattle.std.proofs.Common.{◌∙◌}
-use Rattle.sva_race_claims.specs.Possible.{is_frameless}
-use Rattle.sva_race_claims.specs.Seen.{line_seen}
-use Rattle.sva_race_claims.proofs.ReadLemmas.{any_seen}
-use Rattle.sva_race_claims.proofs.possible.is_frameless_in.Goals as goal
-
-pub returns : goal.returns
-returns c = c.is_one_frameless-found.ensures ∙ any_seen line_seen (is_frameless c.args.name.now) c.args.lines.now

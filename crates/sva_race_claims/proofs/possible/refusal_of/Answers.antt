@@ -1,6 +1,0 @@
-use Rattle.sva_race_claims.specs.Possible.{refusals}
-use Rattle.sva_race_claims.proofs.possible.refusal_of.Goals as goal
-
-pub returns : goal.returns
-unfolding refusals
-returns c = c.refusal_among.ensures

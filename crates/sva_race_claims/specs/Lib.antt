@@ -1,5 +1,0 @@
-pub mod Seen
-pub mod Taking
-pub mod Steps
-pub mod Possible
-pub mod Conditions

@@ -1,6 +1,0 @@
-use Rattle.std.proofs.Common.{◌≡◌, map, take}
-use Rattle.sva_race_lines.specs.Devices.{has_of, has_seen, line_if}
-use Rattle.sva_race_lines.proofs.pages.devices_of.Given as goal
-
-abbrev pub invariant-loop-place : goal.invariant-loop-place
-invariant-loop-place l = map has_seen l.devices.items ≡ map (λ line. has_of l.named (line_if line)) (take l.place l.lines)

@@ -1,6 +1,0 @@
-use Rattle.std.proofs.Common.{◌≡◌, map, replicate, None}
-use Rattle.sva_race_lines.specs.Devices.{line_if}
-use Rattle.sva_race_lines.proofs.readings.no_devices.Given as goal
-
-abbrev pub invariant-loop-place : goal.invariant-loop-place
-invariant-loop-place l = map line_if l.list.items ≡ replicate l._place None

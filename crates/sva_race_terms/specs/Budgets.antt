@@ -1,6 +1,0 @@
--- What is left to an endpoint at first.
-use Rattle.sva_race_terms.specs.declared.devices.Budget.{Budget}
-use Rattle.sva_race_terms.specs.declared.devices.Device.{Device}
-
-abbrev pub budget_of : Device → Budget
-budget_of device = record { asks = device.asks; uses = device.uses; faults = device.faults }

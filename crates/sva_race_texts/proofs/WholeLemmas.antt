@@ -1,0 +1,119 @@
+-- A whole text, by what its parts are read as.
+use Rattle.std.proofs.Common.{◌≡◌, ◌∙◌, ap, refl, sym, subst, ℕ, List, [], ◌∷◌, ◌++◌, true, false, cond, eqb, length, suc, arith}
+use Rattle.std.proofs.lemmas.Bool.Decides.{nat_tests}
+use Rattle.std.specs.Prelude.{IfOk, Option, Some, None, Result, Ok, Err}
+use Rattle.std.specs.declared.alloc.AllocError.{AllocError}
+use Rattle.sva_step.specs.declared.limits.Config.{Config}
+use Rattle.sva_grammar.specs.Grammar.{is_too_large}
+use Rattle.sva_grammar.specs.Configs.{is_fit}
+use Rattle.sva_script_reading.specs.Begins.{Line, config_in, lines_from}
+use Rattle.sva_script_reading.specs.Faults.{Fault}
+use Rattle.sva_script_reading.specs.Faults as scripts
+use Rattle.sva_script_reading.specs.Reading.{HasConfig}
+use Rattle.sva_race_texts.specs.Limits.{limits_text}
+use Rattle.sva_race_texts.specs.declared.kept.Text.{Text}
+use Rattle.sva_race_texts.specs.Texts.{IsText, RaceRead, ReadsRace, if_right, race_behind, race_of, race_read, race_with, right_or_said}
+use Rattle.sva_race_texts.specs.Texts.{before_race, from_race, names_from, script_of, too_large, with_script}
+use Rattle.sva_race_texts.specs.Readings.{Reading, nothing}
+use Rattle.sva_script.specs.Names.{Known}
+
+-- ---- A race is one where nothing is said of its lines
+
+by_said : (read : RaceRead) (said new : List ℕ) → (said ≡ [] → ⊥) → new ≡ said → ReadsRace (if_right read said) None new
+by_said read [] new some is = absurd (some refl)
+by_said read (byte ∷ said) new some is = is
+
+pub said_wrong : (read : RaceRead) (out new : List ℕ) → (read.reading.said ≡ [] → ⊥) → out ≡ [] → new ≡ out ++ read.reading.said
+    → ReadsRace (right_or_said read) None new
+said_wrong read out new some none is = by_said read read.reading.said new some (is ∙ ap (λ l. l ++ read.reading.said) none)
+
+-- something is said, or nothing
+pub some_said : {said own : List ℕ} → own ≡ said → eqb (length own) 0 ≡ false → said ≡ [] → ⊥
+some_said {said} {own} same some none = absurd (no_more own (same ∙ none) some)
+  where
+    no_more : (xs : List ℕ) → xs ≡ [] → eqb (length xs) 0 ≡ false → ⊥
+    no_more [] empty some = cc some
+    no_more (x ∷ xs) empty some = cc empty
+
+pub none_said : (said : List ℕ) → eqb (length said) 0 ≡ true → said ≡ []
+none_said [] none = refl
+none_said (byte ∷ said) none = let zero : suc (length said) ≡ 0 = grind (arith, nat_tests) in absurd (omega (arith, zero))
+
+pub said_right : (read : RaceRead) (text : Text) (out : List ℕ) → read.reading.said ≡ [] → IsText read text → out ≡ []
+    → ReadsRace (right_or_said read) (Some text) out
+said_right read text out right is none = subst (λ said. ReadsRace (if_right read said) (Some text) out) (sym right) (is, none)
+
+-- ---- A config with the lines behind it
+
+pub with_unfit : (config : Config) (all lines : List Line) (out new : List ℕ) → out ≡ [] → is_fit config ≡ false
+    → new ≡ out ++ limits_text config all → ReadsRace (race_with config all lines) None new
+with_unfit config all lines out new none unfit is =
+    subst (λ b. ReadsRace (cond b (right_or_said (race_read config all lines)) (Err (limits_text config all))) None new) (sym unfit)
+    (is ∙ ap (λ l. l ++ limits_text config all) none)
+
+pub with_fit : (config : Config) (all lines : List Line) (read : RaceRead) (found : Option Text) (new : List ℕ) → is_fit config ≡ true
+    → read ≡ race_read config all lines → ReadsRace (right_or_said read) found new → ReadsRace (race_with config all lines) found new
+with_fit config all lines read found new fit is reads =
+    subst (λ b. ReadsRace (cond b (right_or_said (race_read config all lines)) (Err (limits_text config all))) found new) (sym fit)
+    (subst (λ read. ReadsRace (right_or_said read) found new) is reads)
+
+-- what was read, call by call
+pub race_is : (config : Config) (all lines : List Line) (number count : ℕ) (names : Known) (first mid last : Reading) → number ≡ 0
+    → names ≡ names_from [] all → first ≡ nothing config → mid ≡ with_script first (before_race lines) → count ≡ length mid.lines
+    → last ≡ from_race config names mid number all
+    → record { config = config; before = count; reading = last } ≡ race_read config all lines
+race_is config all lines number count names first mid last zero named start before counted is =
+    let script : mid ≡ script_of config lines = before ∙ ap (λ reading. with_script reading (before_race lines)) start in
+    λ i. record {
+      config = config;
+      before = (counted ∙ ap (λ (reading : Reading). length reading.lines) script) i;
+      reading = (is ∙ (λ j. from_race config (named j) (script j) (zero j) all)) i;
+    }
+
+-- ---- The whole
+
+by_size : (text : List ℕ) (found : Option Text) (out : List ℕ) → is_too_large text ≡ false
+    → ReadsRace (race_behind (lines_from 1 text) (config_in 0 (lines_from 1 text))) found out → ReadsRace (race_of text) found out
+by_size text found out small reads =
+    subst (λ b. ReadsRace (cond b (Err too_large) (race_behind (lines_from 1 text) (config_in 0 (lines_from 1 text)))) found out) (sym small) reads
+
+pub whole_large : (text out new : List ℕ) → is_too_large text ≡ true → out ≡ [] → new ≡ out ++ too_large → ReadsRace (race_of text) None new
+whole_large text out new large none is =
+    subst (λ b. ReadsRace (cond b (Err too_large) (race_behind (lines_from 1 text) (config_in 0 (lines_from 1 text)))) None new) (sym large)
+    (is ∙ ap (λ l. l ++ too_large) none)
+
+-- what is wrong with the config
+no_config : (all : List Line) (begin : Result (Config × List Line) Fault) (left : List Line) (out new : List ℕ) → out ≡ []
+    → HasConfig begin None left out new → ReadsRace (race_behind all begin) None new
+no_config all (Ok both) left out new none has = absurd has
+no_config all (Err fault) left out new none has = has ∙ ap (λ l. l ++ scripts.fault_text fault) none
+
+pub whole_unread : (text : List ℕ) (begin : Result (Config × List Line) Fault) (left : List Line) (out new : List ℕ) → is_too_large text ≡ false
+    → begin ≡ config_in 0 (lines_from 1 text) → out ≡ [] → HasConfig begin None left out new → ReadsRace (race_of text) None new
+whole_unread text begin left out new small same none has =
+    by_size text None new small
+    (subst (λ begin. ReadsRace (race_behind (lines_from 1 text) begin) None new) same (no_config (lines_from 1 text) begin left out new none has))
+
+-- with a config nothing is said yet
+pub nothing_said : (begin : Result (Config × List Line) Fault) (config : Config) (left : List Line) (out mid : List ℕ)
+    → HasConfig begin (Some config) left out mid → out ≡ [] → mid ≡ []
+nothing_said (Ok both) config left out mid has none = has.2 ∙ none
+nothing_said (Err fault) config left out mid has none = absurd has
+
+-- the lines behind the config are read
+behind_config : (all : List Line) (begin : Result (Config × List Line) Fault) (config : Config) (left : List Line) (out mid new : List ℕ)
+    (found : Option Text) → HasConfig begin (Some config) left out mid → ReadsRace (race_with config all left) found new
+    → ReadsRace (race_behind all begin) found new
+behind_config all (Err fault) config left out mid new found has reads = absurd has
+behind_config all (Ok both) config left out mid new found has reads =
+    subst (λ read. ReadsRace read found new) (λ i. race_with (has.0 i) all (has.1 i)) reads
+
+pub whole_read : (text : List ℕ) (all : List Line) (begin : Result (Config × List Line) Fault) (config : Config) (left : List Line)
+    (out mid new : List ℕ) (result : Result (Option Text) AllocError) → is_too_large text ≡ false → all ≡ lines_from 1 text
+    → begin ≡ config_in 0 (lines_from 1 text) → HasConfig begin (Some config) left out mid
+    → IfOk result (λ found. ReadsRace (race_with config all left) found new) → IfOk result (λ found. ReadsRace (race_of text) found new)
+whole_read text all begin config left out mid new (Ok found) small is same has reads =
+    by_size text found new small
+    (subst (λ begin. ReadsRace (race_behind (lines_from 1 text) begin) found new) same
+    (subst (λ lines. ReadsRace (race_behind lines begin) found new) is (behind_config all begin config left out mid new found has reads)))
+whole_read text all begin config left out mid new (Err lack) small is same has reads = tt

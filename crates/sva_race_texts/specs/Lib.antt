@@ -1,0 +1,19 @@
+pub mod Budgets
+pub mod Claiming
+pub use Rattle.sva_script_reading.specs.Faults as ScriptFaults
+pub mod Words
+pub mod Roles
+pub mod Faults
+pub mod Limits
+pub mod Seen
+pub mod TakingWords
+pub mod Steps
+pub mod Possible
+pub mod Conditions
+pub mod Devices
+pub mod Readings
+pub mod Taking
+pub mod Threads
+pub mod Literals
+pub mod Claims
+pub mod Texts

@@ -1,8 +1,0 @@
-use Rattle.std.proofs.Common.{◌≡◌, drop}
-use Rattle.sva_words.specs.Near.{near_among}
-use Rattle.sva_race_words.proofs.Lists.{said}
-use Rattle.sva_race_words.proofs.faults.first_near.Given as goal
-
--- of those that are left the first is near that is of all
-abbrev pub invariant-loop-known : goal.invariant-loop-known
-invariant-loop-known l = near_among (said (drop l.known-index l.words)) l.word ≡ near_among (said l.words) l.word

@@ -1,6 +1,0 @@
-use Rattle.sva_race_words.specs.Faults.{atom_words}
-use Rattle.sva_race_words.proofs.faults.near_atom.Goals as goal
-
-pub returns : goal.returns
-unfolding atom_words
-returns c = c.first_near.ensures

@@ -1,6 +1,0 @@
-use Rattle.sva_race_words.specs.Faults.{claim_words}
-use Rattle.sva_race_words.proofs.faults.near_claim.Goals as goal
-
-pub returns : goal.returns
-unfolding claim_words
-returns c = c.first_near.ensures

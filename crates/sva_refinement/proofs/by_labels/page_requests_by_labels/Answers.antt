@@ -1,0 +1,15 @@
+use Rattle.std.specs.Prelude.{refl}
+use Rattle.sva_model.specs.Words.{lowest, any_below, all_below, count_below, select, tabulate}
+use Rattle.sva_labels.specs.Host.{replies_of}
+use Rattle.sva_refinement.specs.ByLabels.{counts_after}
+use Rattle.sva_refinement.proofs.by_labels.page_requests_by_labels.Goals as goal
+
+pub returns : goal.returns
+unfolding lowest any_below all_below count_below select tabulate replies_of counts_after
+returns c =
+    record {
+      page_request_group = (refl, refl);
+      stale_group = (refl, refl);
+      drain_of_two_requests = (refl, refl);
+      verdicts = (refl, refl);
+    }

@@ -1,0 +1,17 @@
+use Rattle.std.proofs.Common.{◌≡◌, ◌+◌, ◌*◌, ◌≤◌, ◌||◌, false, vec_len, vec_capacity}
+use Rattle.sva_scenario.specs.Played.{AreEach, IsOfEndpoint}
+use Rattle.sva_scenario.specs.Lacks.{one_lacks}
+use Rattle.sva_scenario.proofs.threads.leave_endpoints.Given as goal
+
+-- want of memory was told of the threads so far, each of which left its port, and there is room for what the others have
+abbrev pub invariant-loop-thread : goal.invariant-loop-thread
+invariant-loop-thread g l = record {
+  lacking : (l.lacking || one_lacks l.threads.items) ≡ one_lacks l.fn.threads.items;
+  played : l.lacking ≡ false → AreEach (IsOfEndpoint g.C.Ledgers.config g.S.Plan.steps g.S.Plan.turns) l.ports.items;
+  ports : vec_len l.ports + vec_len l.threads ≡ vec_len l.fn.threads;
+  room : vec_len l.fn.threads ≤ vec_capacity l.ports;
+  tickets : vec_len l.tickets + vec_len l.threads * 16 ≤ vec_capacity l.tickets;
+}
+
+abbrev pub decreases-loop-thread : goal.decreases-loop-thread
+decreases-loop-thread g l = vec_len l.threads

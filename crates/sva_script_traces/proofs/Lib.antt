@@ -1,3 +1,0 @@
-pub mod TraceLemmas
-pub mod RowLemmas
-pub mod InputLemmas

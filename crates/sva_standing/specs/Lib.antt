@@ -1,4 +1,0 @@
-pub mod Lines
-pub mod Link
-pub mod Requests
-pub mod Units

@@ -1,5 +1,0 @@
-pub mod Lines
-pub mod Played
-pub mod Roles
-pub mod Lacks
-pub mod Storms

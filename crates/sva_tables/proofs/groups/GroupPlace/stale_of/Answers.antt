@@ -1,5 +1,0 @@
-use Rattle.std.proofs.Common.{rules}
-use Rattle.sva_tables.proofs.groups.GroupPlace.stale_of.Goals as goal
-
-pub returns-in-Out : goal.returns-in-Out
-returns-in-Out c = search rules

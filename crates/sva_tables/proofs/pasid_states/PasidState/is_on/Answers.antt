@@ -1,6 +1,0 @@
-use Rattle.std.proofs.Common.{ap, sym}
-use Rattle.sva_tables.specs.PasidStates.{is_on}
-use Rattle.sva_tables.proofs.pasid_states.PasidState.is_on.Goals as goal
-
-pub returns-in-On : goal.returns-in-On
-returns-in-On c = ap is_on (sym c.in-On.is)

@@ -1,6 +1,0 @@
-use Rattle.std.proofs.Common.{ap, sym}
-use Rattle.sva_tables.specs.PasidStates.{is_stopping}
-use Rattle.sva_tables.proofs.pasid_states.PasidState.is_stopping.Goals as goal
-
-pub returns-in-Stopping : goal.returns-in-Stopping
-returns-in-Stopping c = ap is_stopping (sym c.in-Stopping.is)

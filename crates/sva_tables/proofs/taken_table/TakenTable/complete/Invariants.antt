@@ -1,5 +1,0 @@
-use Rattle.sva_tables.proofs.TakenFacts.{IsCompletedBelow}
-use Rattle.sva_tables.proofs.taken_table.TakenTable.complete.Given as goal
-
-abbrev pub invariant-loop-itag : goal.invariant-loop-itag
-invariant-loop-itag l = IsCompletedBelow l.vector l.itag l.initial.self-inside.places.items l.self-inside.places.items

@@ -1,0 +1,15 @@
+//! The tests of what stands in a queue, by public functions alone: descriptors, page requests, their groups and jobs; and ten thousand
+//! calls that a unit and a plain one answer alike. `sva_tests_of_parts` says why they stand in a crate of their own.
+
+#[cfg(test)]
+mod groups;
+#[cfg(test)]
+mod job_tables;
+#[cfg(test)]
+mod page_queues;
+#[cfg(test)]
+mod plain;
+#[cfg(test)]
+mod queues;
+#[cfg(test)]
+mod twin_queues;

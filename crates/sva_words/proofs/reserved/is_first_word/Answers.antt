@@ -1,6 +1,0 @@
-use Rattle.sva_words.specs.Reserved.{first_words}
-use Rattle.sva_words.proofs.reserved.is_first_word.Goals as goal
-
-pub returns : goal.returns
-unfolding first_words
-returns c = c.is_among.ensures

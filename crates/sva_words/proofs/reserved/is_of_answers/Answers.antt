@@ -1,6 +1,0 @@
-use Rattle.sva_words.specs.Reserved.{answer_words}
-use Rattle.sva_words.proofs.reserved.is_of_answers.Goals as goal
-
-pub returns : goal.returns
-unfolding answer_words
-returns c = c.is_among.ensures

@@ -1,6 +1,0 @@
-use Rattle.sva_words.specs.Reserved.{refusal_names}
-use Rattle.sva_words.proofs.reserved.is_refusal.Goals as goal
-
-pub returns : goal.returns
-unfolding refusal_names
-returns c = c.is_among.ensures

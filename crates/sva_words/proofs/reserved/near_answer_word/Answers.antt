@@ -1,6 +1,0 @@
-use Rattle.sva_words.specs.Reserved.{answer_words}
-use Rattle.sva_words.proofs.reserved.near_answer_word.Goals as goal
-
-pub returns : goal.returns
-unfolding answer_words
-returns c = c.near.ensures

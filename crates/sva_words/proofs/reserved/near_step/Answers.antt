@@ -1,6 +1,0 @@
-use Rattle.sva_words.specs.Reserved.{step_names}
-use Rattle.sva_words.proofs.reserved.near_step.Goals as goal
-
-pub returns : goal.returns
-unfolding step_names
-returns c = c.near.ensures

@@ -1,2 +1,0 @@
-pub mod Reserved
-pub mod Near

@@ -1,5 +1,4 @@
-//! The tests of the memory of a host and of its remapping units, by public functions alone. `sva_tests_of_parts` says why they stand in a
-//! crate of their own.
+//! Tests of the memory of a host and of its remapping units.
 
 #[cfg(test)]
 mod memories;

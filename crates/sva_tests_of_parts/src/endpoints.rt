@@ -1,5 +1,4 @@
-//! The tests of what an endpoint keeps, by public functions alone: its cache, beside a plain one, its tables, and all of it together.
-//! `sva_tests_of_parts` says why they stand in a crate of their own.
+//! Tests of what an endpoint keeps: its cache, beside a plain one, its tables, and all of it together.
 
 #[cfg(test)]
 mod caches;

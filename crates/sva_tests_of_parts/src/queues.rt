@@ -1,5 +1,5 @@
-//! The tests of what stands in a queue, by public functions alone: descriptors, page requests, their groups and jobs; and ten thousand
-//! calls that a unit and a plain one answer alike. `sva_tests_of_parts` says why they stand in a crate of their own.
+//! Tests of what stands in a queue: descriptors, page requests, their groups and jobs; and ten thousand calls that a
+//! unit and a plain one answer alike.
 
 #[cfg(test)]
 mod groups;

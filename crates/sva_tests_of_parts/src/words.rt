@@ -1,6 +1,5 @@
-//! The tests of the words, and of the parts that need no queue or memory: the messages, the ranges, the tags, and the table of
-//! bindings. Of each its public functions, in a module of its own. A test that stands in the crate that it tests has all of that crate
-//! proved once more beside it; here the test alone is proved.
+//! Tests of the words, and of the parts that need no queue or memory: the messages, the ranges, the tags, and the
+//! table of bindings. Of each its public functions, in a module of its own.
 
 #[cfg(test)]
 mod binding_calls;

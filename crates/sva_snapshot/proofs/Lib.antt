@@ -1,4 +1,4 @@
 pub mod More
 pub mod Tests
 pub mod Parts
-pub mod Snapshots
+pub mod SnapshotLemmas

@@ -1,7 +1,7 @@
 use Rattle.std.proofs.Common.{◌≡◌, ◌∙◌, ap, arith, length, sym, vec_len}
 use Rattle.sva_race_texts.proofs.Lists.{said}
 use Rattle.sva_driver_words.specs.Descriptors.{descriptor_at, itself}
-use Rattle.sva_driver_words.proofs.Pieces.{added}
+use Rattle.sva_driver_words.proofs.PieceLemmas.{added}
 use Rattle.sva_driver_words.proofs.descriptors.add_descriptor.Goals as goal
 
 pub returns-in-Ok-push_descriptor : goal.returns-in-Ok-push_descriptor

@@ -6,7 +6,7 @@ use Rattle.sva_race_texts.specs.Words.{pieces}
 use Rattle.sva_race_texts.proofs.Lists.{said, said_length}
 use Rattle.sva_driver_words.specs.Descriptors.{descriptor_at, itself}
 use Rattle.sva_driver_words.specs.Taking.{Fails}
-use Rattle.sva_driver_words.proofs.Pieces.{each_begin, each_end, each_fails, each_next}
+use Rattle.sva_driver_words.proofs.PieceLemmas.{each_begin, each_end, each_fails, each_next}
 use Rattle.sva_driver_words.proofs.descriptors.read_descriptors.Goals as goal
 
 pub loop-count-init : goal.loop-count-init

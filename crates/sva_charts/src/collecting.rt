@@ -149,14 +149,7 @@ fn collect_step(
         &mut taken,
     ) {
         Ok(came) => {
-            keep(
-                alloc,
-                rows,
-                came,
-                number,
-                desk.plain.as_slice(),
-                &taken,
-            )?;
+            keep(alloc, rows, came, number, desk.plain.as_slice(), &taken)?;
             Ok(true)
         }
         Err(Stop::Wrong(wrong)) => {

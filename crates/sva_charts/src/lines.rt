@@ -6,8 +6,8 @@ use crate::pieces::{last_sent, pad, put_delivered, put_sent, put_step};
 use crate::places::{Places, delivered};
 use crate::signs::Signs;
 use std::alloc::{AllocError, Global};
-use sva_script_reading::put_number;
 use sva_reports::put_counts;
+use sva_script_reading::put_number;
 
 /// How wide the column of the line's number is.
 const NUMBER_WIDTH: usize = 5;

@@ -7,8 +7,8 @@ use crate::places::Places;
 use crate::plan::{LONGEST, Plan, STEPS, row_at};
 use crate::style::whole_front;
 use std::alloc::{AllocError, Global};
-use sva_script_reading::put_reply;
 use sva_reports::put_counts;
+use sva_script_reading::put_reply;
 
 /// Appends the picture of a run. Its texts are words and numbers of the format: no sign of them means something in XML.
 pub(crate) fn put_picture(

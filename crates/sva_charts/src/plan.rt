@@ -4,8 +4,8 @@ use crate::blocks::{Blocks, Spacing};
 use crate::collecting::Rows;
 use crate::places::Places;
 use std::alloc::{AllocError, Global};
-use sva_script_reading::put_reply;
 use sva_reports::put_counts;
+use sva_script_reading::put_reply;
 
 /// How high a row is.
 const ROW: usize = 24;

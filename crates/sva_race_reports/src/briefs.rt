@@ -11,8 +11,8 @@ use crate::telling::put_counted;
 use std::alloc::{AllocError, Global};
 use sva_race::{Choice, Claim, End, Race};
 use sva_race_texts::{Asked, AskedLiteral};
-use sva_reports::Explains;
 use sva_search::Found;
+use sva_snapshot::Explains;
 
 /// How many claims of a race hold, fail and are unknown.
 #[derive(Clone, Copy, PartialEq, Eq)]

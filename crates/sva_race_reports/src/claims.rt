@@ -20,9 +20,9 @@ use crate::witnesses::put_witness;
 use std::alloc::{AllocError, Global};
 use sva_race::{Choice, Claim, Claiming, End, Race};
 use sva_race_texts::{Asked, AskedLiteral};
-use sva_reports::Explains;
 use sva_script_reading::put_number;
 use sva_search::Found;
+use sva_snapshot::Explains;
 
 /// Appends how many moments were looked at, and how many ends there are.
 fn put_counts(out: &mut Vec<u8>, found: &Found<Choice, End>) -> Result<(), AllocError>

@@ -16,8 +16,8 @@ use crate::witnesses::choice_at;
 use std::alloc::{AllocError, Global};
 use sva_core::World;
 use sva_race::{Choice, Line, Moment, Race, Waiting};
-use sva_reports::Explains;
 use sva_script_reading::{put_number, put_reply};
+use sva_snapshot::{Explains, explain};
 use sva_step::{Answer, Refusal, Step};
 
 /// Appends a reply, and a line end.
@@ -59,7 +59,7 @@ fn put_held<E: Explains>(
         ≡ out.old.items ++ held_text E.explained number (joined_words (step_words step)) world.now step reply.now) }
 {
     put_case_line(out, number, step, reply)?;
-    E::put_explained(out, alloc, world, &step, reply)
+    explain::<E>(out, alloc, world, &step, reply)
 }
 
 /// Appends that a line has a name without a number.

@@ -10,8 +10,8 @@ use crate::judging::Judged;
 use crate::searching::{Wanted, explore_text};
 use std::alloc::Global;
 use std::io::{Read, Write};
-use sva_reports::Explains;
 use sva_search::Watch;
+use sva_snapshot::Explains;
 use sva_streams::{DriveFault, Told, read_all, write_all};
 
 /// Reads a race to its end, and writes what comes of exploring it, as `explore_text` has it. After `Write` a prefix of the

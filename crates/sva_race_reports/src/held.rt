@@ -7,10 +7,10 @@ ghost use Rattle.sva_race_reports.specs.Held.{held_below, held_in, held_line};
 use crate::witnesses::put_scenario;
 use std::alloc::{AllocError, Global};
 use sva_race::{Choice, Race};
-use sva_reports::Explains;
 use sva_script::is;
 use sva_script_reading::put_number;
 use sva_script_reports::why;
+use sva_snapshot::Explains;
 
 /// What `why` says where no step was held back.
 const NOTHING: &[u8] = b"nothing was refused, blocked or withheld\n";

@@ -12,14 +12,14 @@ ghost use Rattle.sva_race_texts.specs.Seen.{atom_seen, has_name, line_seen, lite
 ghost use Rattle.sva_race_texts.specs.Seen.AtomSaid.{WouldSaid};
 ghost use Rattle.sva_race_texts.specs.TakingWords.{Gives, Judges};
 
+use crate::faults::{RaceStop, RaceWanted, RaceWrong, stop_at, wrong_at};
 use crate::possible::{has_name, judge_frame, judge_refusal};
 use crate::steps::{endpoint_in, is_step, judge_step};
+use crate::terms::{Atom, Line, Literal};
+use crate::words::{count_of, joined, judge_end, word_at, words_from};
 use std::alloc::{AllocError, Global};
 use sva_grammar::number_in;
-use crate::terms::{Atom, Line, Literal};
-use crate::faults::{RaceStop, RaceWanted, RaceWrong, stop_at, wrong_at};
-use crate::words::{count_of, joined, judge_end, word_at, words_from};
-use sva_script::{Names, Stop, expect, parts_of, is};
+use sva_script::{Names, Stop, expect, is, parts_of};
 use sva_script_reading::Desk;
 use sva_step::Config;
 

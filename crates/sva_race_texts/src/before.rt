@@ -7,9 +7,9 @@ ghost use Rattle.sva_script_reading.specs.Begins.{lines_from};
 ghost use Rattle.sva_script_reading.specs.Lines.{are_end, is_end};
 
 use crate::readings::Reading;
-use std::alloc::{AllocError, Global};
 use crate::words::word_at;
-use sva_script::{Names, name_in, parts_of, split, is};
+use std::alloc::{AllocError, Global};
+use sva_script::{Names, is, name_in, parts_of, split};
 use sva_script_reading::{Desk, Lines, note_name};
 
 /// The names of all lines.

@@ -9,14 +9,14 @@ ghost use Rattle.sva_script_reading.specs.Begins.{lines_from};
 
 use crate::before::is_race;
 use crate::claim_lines::take_claim;
-use crate::readings::Reading;
-use crate::threads::{is_try, take_device, take_heading, take_thread_line, take_workers};
-use std::alloc::{AllocError, Global};
 use crate::claims::begins_claim;
-use crate::steps::is_step;
 use crate::faults::{RaceStop, RaceWanted, RaceWrong, stop_at, wrong_at};
+use crate::readings::Reading;
+use crate::steps::is_step;
+use crate::threads::{is_try, take_device, take_heading, take_thread_line, take_workers};
 use crate::words::{count_of, word_at};
-use sva_script::{Names, Wanted, name_in, parts_of, split, is};
+use std::alloc::{AllocError, Global};
+use sva_script::{Names, Wanted, is, name_in, parts_of, split};
 use sva_script_reading::{Desk, Lines};
 use sva_step::Config;
 

@@ -6,12 +6,12 @@ ghost use Rattle.sva_race_texts.specs.Seen.{condition_seen};
 ghost use Rattle.sva_race_texts.specs.Claims.{claim_line, claimed, with_claim, with_literals};
 ghost use Rattle.sva_race_texts.specs.Taking.{Takes};
 
-use crate::readings::Reading;
-use std::alloc::{Global, AllocError};
-use crate::terms::{Claim, Claiming};
 use crate::claims::{claiming_of, is_of_ends};
 use crate::faults::{RaceStop, RaceWanted, stop_at};
+use crate::readings::Reading;
+use crate::terms::{Claim, Claiming};
 use crate::words::{word_at, words_from};
+use std::alloc::{AllocError, Global};
 use sva_script::Names;
 use sva_step::Config;
 

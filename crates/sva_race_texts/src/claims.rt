@@ -7,10 +7,10 @@ ghost use Rattle.sva_race_texts.specs.Seen.{condition_seen, line_seen, literal_s
 ghost use Rattle.sva_race_texts.specs.TakingWords.{Adds, Gives};
 
 use crate::atoms::read_literal;
-use std::alloc::{AllocError, Global};
-use crate::terms::{Claiming, Line, Literal};
 use crate::faults::RaceStop;
+use crate::terms::{Claiming, Line, Literal};
 use crate::words::{piece_len, word_at, words_at, words_from};
+use std::alloc::{AllocError, Global};
 use sva_script::{Names, is};
 use sva_step::Config;
 

@@ -4,8 +4,8 @@ ghost use Rattle.std.specs.Prelude.{◌≡◌, ◌++◌, IfOk, flat_map, map};
 ghost use Rattle.sva_race_texts.specs.Seen.{atom_seen, condition_seen, literals_seen};
 ghost use Rattle.sva_race_texts.specs.Devices.{count_seen, counts_in, counts_of_condition, counts_of_literals};
 
-use std::alloc::{AllocError, Global};
 use crate::terms::{Atom, Claim, Count, Literal};
+use std::alloc::{AllocError, Global};
 
 /// Appends the answer that an atom counts, if it counts one.
 fn add_atom(alloc: Global, counts: &mut Vec<Count>, atom: &Atom) -> Result<(), AllocError>

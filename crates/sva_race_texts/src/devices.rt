@@ -6,11 +6,11 @@ ghost use Rattle.sva_race_texts.specs.TakingWords.{Gives};
 ghost use Rattle.sva_race_texts.specs.Devices.{amount_of, device_of, device_seen, flag_of, page_of, pages_in, pages_of};
 ghost use Rattle.sva_race_texts.specs.Devices.{whole};
 
-use std::alloc::{AllocError, Global};
-use sva_grammar::number_in;
 use crate::faults::{RaceStop, RaceWanted, RaceWrong, stop_at, wrong_at};
 use crate::words::{count_of, word_at, words_from};
-use sva_script::{Field, Wanted, page_in, is};
+use std::alloc::{AllocError, Global};
+use sva_grammar::number_in;
+use sva_script::{Field, Wanted, is, page_in};
 
 /// What is said of a device.
 #[derive(Drop)]

@@ -28,6 +28,9 @@ pub use kept::{Asked, AskedLiteral, Text};
 pub use limits::put_limits;
 pub use possible::refusals_are_found;
 pub use sva_script_reading::{put_near, put_number, put_word};
-pub use terms::{Act, Atom, Budget, Choice, Claim, Claiming, Count, Device, Line, Literal, MANNERS, Race, Verdicts};
+pub use terms::{
+    Act, Atom, Budget, Choice, Claim, Claiming, Count, Device, Line, Literal, MANNERS, Race,
+    Verdicts,
+};
 pub use texts::read_race;
 pub use words::{count_of, joined, piece_len, word_at, words_at, words_from};

@@ -8,12 +8,12 @@ ghost use Rattle.sva_race_texts.specs.Seen.{condition_seen, line_seen};
 ghost use Rattle.sva_race_texts.specs.Literals as literals;
 ghost use Rattle.sva_race_texts.specs.Readings.{asked_literal_seen, claim_seen, literals_seen};
 
-use crate::kept::AskedLiteral;
-use std::alloc::{AllocError, Global};
-use crate::terms::{Claim, Claiming, Line, Literal};
 use crate::claims::read_condition;
 use crate::faults::RaceStop;
+use crate::kept::AskedLiteral;
+use crate::terms::{Claim, Claiming, Line, Literal};
 use crate::words::{joined, piece_len, words_at, words_from};
+use std::alloc::{AllocError, Global};
 use sva_script::{Names, is};
 use sva_step::Config;
 

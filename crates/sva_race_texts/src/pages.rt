@@ -9,9 +9,9 @@ ghost use Rattle.sva_race_texts.specs.Devices.{has_of, has_seen, is_page, line_i
 ghost use Rattle.sva_race_texts.specs.Devices.{page_place, with_page};
 
 use crate::devices::{DeviceLine, page_of};
-use std::alloc::{AllocError, Global};
 use crate::terms::{Device, Line};
 use crate::words::word_at;
+use std::alloc::{AllocError, Global};
 use sva_script::{Field, places_of, split};
 
 fn is_page(field: Field) -> bool

@@ -9,11 +9,11 @@ ghost use Rattle.sva_step.specs.Refusals.{number_of};
 ghost use Rattle.sva_race_texts.specs.Possible as possible;
 ghost use Rattle.sva_race_texts.specs.Seen.{has_name, line_seen};
 
-use sva_grammar::{Cause, number_in};
-use crate::terms::Line;
 use crate::faults::{RaceWanted, RaceWrong, wrong_at};
+use crate::terms::Line;
 use crate::words::word_at;
-use sva_script::{name_and_nth, is};
+use sva_grammar::{Cause, number_in};
+use sva_script::{is, name_and_nth};
 use sva_step::Refusal;
 
 /// Whether a line has the name.

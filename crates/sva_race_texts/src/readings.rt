@@ -12,16 +12,16 @@ ghost use Rattle.sva_race_texts.specs.Readings.{asked_seen, claim_seen, last_of,
 ghost use Rattle.sva_race_texts.specs.Readings.{with_fault};
 ghost use Rattle.sva_race_texts.specs.Threads.{line_said, thread_of, with_line};
 
+use crate::claims::{is_of_ends, read_condition};
 use crate::devices::DeviceLine;
+use crate::faults::{RaceStop, RaceWrong, put_fault};
 use crate::kept::Asked;
 use crate::literals::{Literals, add_condition};
+use crate::roles::{actor_of, role_of};
+use crate::terms::{Claim, Line, Literal, Verdicts};
+use crate::words::joined;
 use std::alloc::{AllocError, Global};
 use std::marker::Model;
-use crate::terms::{Claim, Line, Literal, Verdicts};
-use crate::claims::{is_of_ends, read_condition};
-use crate::faults::{RaceStop, RaceWrong, put_fault};
-use crate::roles::{actor_of, role_of};
-use crate::words::joined;
 use sva_script::{Names, is};
 use sva_script_reading::{Desk, read_line_words};
 use sva_step::Config;

@@ -6,9 +6,9 @@ ghost use Rattle.sva_race_texts.specs.TakingWords.{Judges};
 ghost use Rattle.sva_race_texts.specs.Faults.{as_script};
 ghost use Rattle.sva_race_texts.specs.Steps.{endpoint_in, is_of_line, is_step, named, step_judged};
 
-use sva_grammar::number_in;
 use crate::faults::{RaceStop, RaceWanted, RaceWrong, stop_at, wrong_at};
 use crate::words::word_at;
+use sva_grammar::number_in;
 use sva_script::{Field, Names, Stop, Wanted, Wrong, is_name, places_of};
 use sva_script_reading::{Desk, NothingInFlight, read_line};
 

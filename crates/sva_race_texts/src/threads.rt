@@ -8,14 +8,14 @@ ghost use Rattle.sva_script.specs.Lines.{parts_of};
 ghost use Rattle.sva_grammar.specs.Grammar.{verdict};
 
 use crate::devices::read_device;
+use crate::faults::{RaceStop, RaceWanted, RaceWrong, stop_at, wrong_at};
 use crate::readings::Reading;
+use crate::steps::{endpoint_in, judge_name, judge_step};
+use crate::terms::Verdicts;
+use crate::words::{count_of, judge_end, word_at, words_from};
 use std::alloc::{AllocError, Global};
 use sva_grammar::verdict_in;
-use crate::terms::Verdicts;
-use crate::steps::{endpoint_in, judge_name, judge_step};
-use crate::faults::{RaceStop, RaceWanted, RaceWrong, stop_at, wrong_at};
-use crate::words::{count_of, judge_end, word_at, words_from};
-use sva_script::{Field, Names, Wanted, is_name, parts_of, is};
+use sva_script::{Field, Names, Wanted, is, is_name, parts_of};
 use sva_script_reading::Desk;
 use sva_step::Verdict;
 

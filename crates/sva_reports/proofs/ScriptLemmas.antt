@@ -3,8 +3,7 @@
 use Rattle.std.proofs.Common.{◌≡◌, ◌<◌, ◌≤◌, ◌+◌, ◌∙◌, ap, sym, subst, arith, ℕ, zero, suc, List, [], ◌∷◌, Bool, true, false, ◌||◌, cond, ltb, length}
 use Rattle.std.proofs.Common.{take, drop, drop-cons, get_or, refl, Option, Some, None, IfSome, Result, Ok, Err}
 use Rattle.std.specs.Prelude.{IfOk}
-use Rattle.std.specs.Result.{IsErr}
-use Rattle.std.proofs.lemmas.Bool.{and_from, and_parts, le-leb, leb-true, lt-ltb, ltb-false}
+use Rattle.std.proofs.lemmas.Bool.{lt-ltb, ltb-false}
 use Rattle.std.proofs.lemmas.List.{length-take, take_all}
 use Rattle.sva_step.specs.declared.limits.Config.{Config}
 use Rattle.sva_step.specs.declared.steps.Step.{Step}
@@ -20,7 +19,8 @@ use Rattle.sva_grammar.specs.Grammar.{fault, lines_of, said_lines, Script, scena
 use Rattle.sva_reports.specs.Report.{ConfigsAreTested, script_report, steps_report}
 use Rattle.sva_grammar.specs.Configs.{is_fit}
 use Rattle.sva_grammar.specs.Replies.{ended}
-use Rattle.sva_streams.specs.Streams.{AppendsPrefix, Writes}
+use Rattle.sva_grammar.proofs.ConfigLemmas.{fit_from, fit_to, unfit_from}
+use Rattle.sva_streams.specs.Streams.{Writes}
 use Rattle.sva_streams.specs.declared.streams.DriveFault.{DriveFault}
 use Rattle.sva_streams.specs.declared.streams.Outcome.{Outcome}
 use Rattle.sva_streams.specs.declared.streams.Outcome.TheVariants.{Done, Faulted}

@@ -1,3 +1,2 @@
-pub mod Explaining
 pub mod Report
 pub mod Counts

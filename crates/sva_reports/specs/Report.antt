@@ -1,23 +1,24 @@
 -- The report of a whole text: what a run of its steps answers, a line for each, and how the run ended.
-use Rattle.std.specs.Prelude.{◌≡◌, ◌≢◌, ◌↔◌, ℕ, ◌^◌, ◌&&◌, nat_le, if◌then◌else◌, Bool, true, List, [], ◌∷◌, ◌++◌, codes, decimal, flat_map, length, Option}
+use Rattle.std.specs.Prelude.{◌≡◌, ◌≢◌, ◌↔◌, ℕ, if◌then◌else◌, true, List, [], ◌++◌, codes, decimal, flat_map, length, Option}
 use Rattle.std.specs.Prelude.{Some, None, Result, Ok, Err, IfOk}
 use Rattle.sva_step.specs.declared.limits.Config.{Config}
 use Rattle.sva_step.specs.declared.refusals.Refusal.TheVariants.{BadConfig}
 use Rattle.sva_step.specs.declared.steps.Step.{Step}
 use Rattle.sva_step.specs.Refusals.{refusal_text}
-use Rattle.sva_step.specs.Texts.{answer_text}
 use Rattle.sva_model.specs.State.PasidRule.{PerSpace}
 use Rattle.sva_model.specs.State.{World, opened}
 use Rattle.sva_model.specs.Claims.{Fits}
-use Rattle.sva_model.specs.Steps.{Counts, Reply, counts, replies, run, world_after}
+use Rattle.sva_model.specs.Steps.{Counts, counts, replies, run, world_after}
 use Rattle.sva_model.specs.Wire.{Wire, wire}
 use Rattle.sva_grammar.specs.declared.faults.LineFault.{LineFault}
 use Rattle.sva_streams.specs.declared.streams.DriveFault.{DriveFault}
 use Rattle.sva_streams.specs.declared.streams.DriveFault.TheVariants.{Write}
 use Rattle.sva_streams.specs.declared.streams.Outcome.{Outcome}
 use Rattle.sva_streams.specs.declared.streams.Outcome.TheVariants.{Done, Faulted}
+use Rattle.sva_grammar.specs.Configs.{is_fit}
 use Rattle.sva_grammar.specs.Faults.{line_fault_text}
 use Rattle.sva_grammar.specs.Grammar.{Script, scenario_of}
+use Rattle.sva_grammar.specs.Replies.{ended, reply_text}
 use Rattle.sva_streams.specs.Streams.{Writes}
 
 -- `free X mapped Y withheld Z`

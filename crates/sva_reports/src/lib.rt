@@ -6,7 +6,6 @@ mod checking;
 mod configs;
 mod counts;
 mod driving;
-mod explaining;
 mod report;
 mod scenarios;
 
@@ -14,6 +13,5 @@ pub use checking::{check, check_text};
 pub use configs::laws;
 pub use counts::put_counts;
 pub use driving::{drive, report_text};
-pub use explaining::{Explains, is_held};
 pub use report::{write_audit, write_bad_audit, write_reply};
 pub use scenarios::scenario_or_fault;

@@ -9,7 +9,7 @@ use Rattle.sva_labels.specs.Host.{first_wire}
 use Rattle.sva_grammar.specs.Grammar.{◌>>=◌, at_line, config_read, is_skipped, is_too_large, lines_of, said_lines, script_of, steps_of}
 use Rattle.sva_grammar.specs.Configs.{is_fit}
 use Rattle.sva_grammar.specs.Replies.{ended}
-use Rattle.sva_reports.specs.Explaining.{Explaining}
+use Rattle.sva_snapshot.specs.Explaining.{Explaining}
 use Rattle.sva_script.specs.Lines.{parts_of, script_words}
 use Rattle.sva_script_reading.specs.Lines.{are_end, is_end}
 use Rattle.sva_script_runs.specs.Runs.{Running}

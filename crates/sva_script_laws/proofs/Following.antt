@@ -8,7 +8,7 @@ use Rattle.sva_model.specs.Wire.{Wire}
 use Rattle.sva_labels.specs.Host.{next_of, replies_of, reply_of, run_of}
 use Rattle.sva_grammar.specs.Grammar.{◌>>=◌, at_line, is_skipped, is_too_large, lines_of, said_lines, steps_of}
 use Rattle.sva_grammar.specs.Replies.{ended, reply_text}
-use Rattle.sva_reports.specs.Explaining.{Explaining}
+use Rattle.sva_snapshot.specs.Explaining.{Explaining}
 use Rattle.sva_script.specs.declared.faults.Wrong.{Wrong}
 use Rattle.sva_script.specs.Lines.{parts_of, script_words}
 use Rattle.sva_script.specs.Names.{Known}

@@ -5,7 +5,7 @@ use Rattle.std.specs.List.{list_all}
 use Rattle.std.specs.Option.{option_map_or}
 use Rattle.std.proofs.lemmas.Bool.{and_parts}
 use Rattle.sva_grammar.specs.Grammar.{words_of}
-use Rattle.sva_reports.specs.Explaining.{Explaining}
+use Rattle.sva_snapshot.specs.Explaining.{Explaining}
 use Rattle.sva_script.specs.Expect.{are_as_expected}
 use Rattle.sva_script_reading.specs.Lines.{Plain}
 use Rattle.sva_script_reading.specs.Said.{Said, bad, well}

@@ -19,7 +19,7 @@ use Rattle.sva_grammar.specs.Grammar.{fault, lines_of, said_lines, scenario_of, 
 use Rattle.sva_reports.specs.Report.{counts_text, report_by, report_of, script_report, steps_report}
 use Rattle.sva_grammar.specs.Configs.{is_fit}
 use Rattle.sva_grammar.specs.Replies.{ended, reply_text}
-use Rattle.sva_reports.specs.Explaining.{Explaining}
+use Rattle.sva_snapshot.specs.Explaining.{Explaining}
 use Rattle.sva_reports.proofs.ScriptLemmas.{configs_are_tested, fit_report}
 use Rattle.sva_script_reading.specs.Said.{Said, bad, well}
 use Rattle.sva_script_reading.specs.Begins.{Line, config_alone, config_in, first_config, lines_from, said_by, too_large}

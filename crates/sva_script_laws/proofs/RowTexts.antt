@@ -7,7 +7,7 @@ use Rattle.sva_step.specs.declared.steps.Step.TheVariants.{Deliver}
 use Rattle.sva_model.specs.Message.{Message}
 use Rattle.sva_model.specs.Wire.{Wire}
 use Rattle.sva_grammar.specs.Replies.{reply_text}
-use Rattle.sva_reports.specs.Explaining.{Explaining}
+use Rattle.sva_snapshot.specs.Explaining.{Explaining}
 use Rattle.sva_script_reports.specs.declared.rows.Columns.{Columns}
 use Rattle.sva_script_reports.specs.declared.rows.Style.{Style}
 use Rattle.sva_script_reports.specs.Rows.{Row, column, delivered_text, messages_text, row_text, sends, sent_text, step_text, whys_if}

@@ -4,7 +4,7 @@ use Rattle.std.specs.Prelude.{Bool, false, Option, Some, None}
 use Rattle.sva_grammar.specs.Grammar.{lines_of, said_lines}
 use Rattle.sva_reports.specs.Report.{report_of}
 use Rattle.sva_grammar.specs.Replies.{ended}
-use Rattle.sva_reports.specs.Explaining.{Explaining}
+use Rattle.sva_snapshot.specs.Explaining.{Explaining}
 use Rattle.sva_script.specs.Lines.{parts_of, script_words}
 use Rattle.sva_script_reading.specs.Lines.{is_end}
 use Rattle.sva_script_reading.specs.Begins.{Line, lines_from}

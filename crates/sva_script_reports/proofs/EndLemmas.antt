@@ -1,7 +1,7 @@
 -- What `test` says of a line behind the last one.
 use Rattle.std.proofs.Common.{◌≡◌, ◌∙◌, refl, sym, ℕ, Bool, cond, false, true, List, [], ◌∷◌, ◌++◌, append-nil, ap}
 use Rattle.std.specs.Prelude.{Ok}
-use Rattle.sva_reports.specs.Explaining.{Explaining}
+use Rattle.sva_snapshot.specs.Explaining.{Explaining}
 use Rattle.sva_script.specs.declared.faults.Wanted.TheVariants as wanted
 use Rattle.sva_script.specs.declared.faults.Wrong.{Wrong}
 use Rattle.sva_script.specs.Names.{Known}

@@ -8,7 +8,7 @@ use Rattle.sva_grammar.specs.Grammar.{lines_of}
 use Rattle.sva_streams.specs.declared.streams.DriveFault.{DriveFault}
 use Rattle.sva_streams.specs.declared.streams.Outcome.{Outcome}
 use Rattle.sva_grammar.specs.Replies.{ended}
-use Rattle.sva_reports.specs.Explaining.{Explaining}
+use Rattle.sva_snapshot.specs.Explaining.{Explaining}
 use Rattle.sva_script_reports.specs.declared.printing.Saying.{Saying}
 use Rattle.sva_script_reports.specs.declared.printing.Saying.TheVariants.{Plain, Show, Test, Why}
 use Rattle.sva_script_reading.specs.Said.{Prints}

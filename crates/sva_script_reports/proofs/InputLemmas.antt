@@ -7,7 +7,7 @@ use Rattle.sva_streams.specs.declared.streams.DriveFault.{DriveFault}
 use Rattle.sva_streams.specs.declared.streams.Outcome.{Outcome}
 use Rattle.sva_streams.specs.Streams.{AppendsPrefix}
 use Rattle.sva_streams.proofs.StreamLemmas.{AppendsPrefix-after, AppendsPrefix-longer}
-use Rattle.sva_reports.specs.Explaining.{Explaining}
+use Rattle.sva_snapshot.specs.Explaining.{Explaining}
 use Rattle.sva_script_reports.specs.declared.rows.Style.{Style}
 use Rattle.sva_script_reading.specs.Said.{Prints}
 use Rattle.sva_script_reading.specs.Said.{Said}

@@ -11,7 +11,7 @@ use Rattle.sva_grammar.specs.Configs.{is_fit}
 use Rattle.sva_grammar.specs.Replies.{ended}
 use Rattle.sva_reports.proofs.ScriptLemmas.{configs_are_tested}
 use Rattle.sva_grammar.proofs.ConfigLemmas.{unfit_from}
-use Rattle.sva_reports.specs.Explaining.{Explaining}
+use Rattle.sva_snapshot.specs.Explaining.{Explaining}
 use Rattle.sva_script.specs.declared.faults.Wrong.{Wrong}
 use Rattle.sva_script.specs.Lines.{parts_of}
 use Rattle.sva_script_runs.specs.declared.running.Taken.{Taken}

@@ -6,7 +6,7 @@ use Rattle.sva_model.specs.Wire.{Wire}
 use Rattle.sva_grammar.specs.Grammar.{◌>>=◌}
 use Rattle.sva_reports.specs.Report.{counts_text}
 use Rattle.sva_grammar.specs.Replies.{ended, reply_text}
-use Rattle.sva_reports.specs.Explaining.{Explaining}
+use Rattle.sva_snapshot.specs.Explaining.{Explaining}
 use Rattle.sva_script.specs.declared.faults.Stop.{Stop}
 use Rattle.sva_script.specs.declared.faults.Stop.TheVariants as stop
 use Rattle.sva_script.specs.declared.faults.Wrong.{Wrong}
@@ -229,7 +229,7 @@ plain_failed before after line words given text expected old cleared new known w
 pub line_failed : (explained : Explaining) (before after : Running) (line : ℕ) (words given : List (List ℕ)) (told answer expected old new : List ℕ)
     (is_last : Bool) (known : Known)
     (taken : Taken) (wrong : Wrong)
-    → given ≡ words → AnswersLine before line given after told answer expected taken (Err (stop.Wrong wrong)) → known ≡ after.known
+    → given ≡ words → AnswersLine explained before line given after told answer expected taken (Err (stop.Wrong wrong)) → known ≡ after.known
     → new ≡ old ++ fault_text (fault_of known line given wrong)
     → Compares explained before line words old new is_last after (Ok Differs)
 line_failed explained before after line words given told answer expected old new is_last known taken wrong same answers is appended =
@@ -237,14 +237,14 @@ line_failed explained before after line words given told answer expected old new
       faulty (fault_of before.known line given wrong ∷ []),
       refl,
       told_wrong before after line given known wrong old new answers.0 is appended,
-      answers.1 explained,
+      answers.1,
     )
 
 -- an answer that differs, and what holds the step back
 pub line_differs : (explained : Explaining) (before after : Running) (line : ℕ) (words given : List (List ℕ))
     (told answer expected shown old missed new : List ℕ) (is_last : Bool)
     (taken : Taken)
-    → given ≡ words → AnswersLine before line given after told answer expected taken (Ok is_last) → is_none (parts_of given).expected ≡ false
+    → given ≡ words → AnswersLine explained before line given after told answer expected taken (Ok is_last) → is_none (parts_of given).expected ≡ false
     → shown ≡ drop 1 expected → is_expected shown answer ≡ false → missed ≡ old ++ miss_text line told shown answer
     → new ≡ missed ++ held_by explained is_last after.seen taken
     → Compares explained before line words old new is_last after (Ok Differs)
@@ -255,17 +255,17 @@ line_differs explained before after line words given told answer expected shown 
       refl,
       behind_it ∙ ap (λ l. l ++ whys) told_so ∙ append_assoc old (miss_text line told shown answer) whys,
       λ count rest.
-          answers explained count rest
+          answers count rest
           ∙ ap (λ b. test_made (not b) line told answer whys expected count (λ more. rest more is_last (behind_line after))) some
           ∙ ap (λ text. judged count line told answer whys text (λ more. rest more is_last (behind_line after))) (sym is)
           ∙ ap (λ t. cond t (rest (count + 1) is_last (behind_line after)) (bad (miss_text line told shown answer ++ whys))) differs,
     )
 
 -- a step's line that was taken
-pub step_answered : (before after : Running) (line : ℕ) (words : List (List ℕ)) (text expected cleared answer : List ℕ) (taken : Taken)
+pub step_answered : (explained : Explaining) (before after : Running) (line : ℕ) (words : List (List ℕ)) (text expected cleared answer : List ℕ) (taken : Taken)
     → Takes before line (parts_of words) after text expected (Ok (Some taken)) → cleared ≡ [] → answer ≡ cleared ++ reply_text taken.told.reply
-    → AnswersLine before line words after text answer expected taken (Ok false)
-step_answered before after line words text expected cleared answer taken takes none is explained count rest =
+    → AnswersLine explained before line words after text answer expected taken (Ok false)
+step_answered explained before after line words text expected cleared answer taken takes none is count rest =
     test_done explained before after line words text expected count rest (Some taken) takes
     ∙ ap (λ a. test_made (not (is_none (parts_of words).expected)) line text a (explained after.seen taken.step taken.told.reply) expected count
     (λ more. rest more false (behind_line after)))
@@ -282,12 +282,13 @@ ended_by before after line parts text expected (Ok read) takes = by_step read.st
 ended_by before after line parts text expected (Err wrong) takes = absurd takes.0
 
 -- the last line
-pub end_answered : (before after : Running) (line : ℕ) (words : List (List ℕ)) (text expected cleared told answer : List ℕ) (found : FrameCounts)
+pub end_answered : (explained : Explaining) (before after : Running) (line : ℕ) (words : List (List ℕ)) (text expected cleared told answer : List ℕ)
+    (found : FrameCounts)
     (stale : Taken)
     → Takes before line (parts_of words) after text expected (Ok None) → cleared ≡ [] → Counted after.seen.places found → told ≡ text ++ codes "end"
     → answer ≡ cleared ++ counts_text (record { free = found.free; mapped = found.mapped; withheld = found.withheld })
-    → AnswersLine before line words after told answer expected stale (Ok true)
-end_answered before after line words text expected cleared told answer found stale takes none counted ends is explained count rest =
+    → AnswersLine explained before line words after told answer expected stale (Ok true)
+end_answered explained before after line words text expected cleared told answer found stale takes none counted ends is count rest =
     let same = ended_by before after line (parts_of words) text expected (read_at before (parts_of words)) takes in
     let all : answer ≡ counts_at before.seen =
     is ∙ ap (λ l. l ++ counts_text (record { free = found.free; mapped = found.mapped; withheld = found.withheld })) none
@@ -298,11 +299,12 @@ end_answered before after line words text expected cleared told answer found sta
     (λ more. rest more true (behind_line after)))
 
 -- unless memory lacked
-pub answers_if : (before after : Running) (line : ℕ) (words : List (List ℕ)) (told answer expected : List ℕ) (taken : Taken) (is_last : Bool) {P : Type 0}
+pub answers_if : (explained : Explaining) (before after : Running) (line : ℕ) (words : List (List ℕ)) (told answer expected : List ℕ) (taken : Taken)
+    (is_last : Bool) {P : Type 0}
     (put : Result (Unit {0}) AllocError) (result : Result Bool Stop) → result ≡ stopped is_last put → OnOk put P
-    → (P → AnswersLine before line words after told answer expected taken (Ok is_last))
-    → AnswersLine before line words after told answer expected taken result
-answers_if before after line words told answer expected taken is_last (Ok done) result is holds by =
-    subst (AnswersLine before line words after told answer expected taken) (sym is) (by holds)
-answers_if before after line words told answer expected taken is_last (Err lack) result is holds by =
-    subst (AnswersLine before line words after told answer expected taken) (sym is) tt
+    → (P → AnswersLine explained before line words after told answer expected taken (Ok is_last))
+    → AnswersLine explained before line words after told answer expected taken result
+answers_if explained before after line words told answer expected taken is_last (Ok done) result is holds by =
+    subst (AnswersLine explained before line words after told answer expected taken) (sym is) (by holds)
+answers_if explained before after line words told answer expected taken is_last (Err lack) result is holds by =
+    subst (AnswersLine explained before line words after told answer expected taken) (sym is) tt

@@ -9,7 +9,7 @@ use Rattle.sva_grammar.specs.Grammar.{lines_of}
 use Rattle.sva_grammar.specs.Places.{line_len}
 use Rattle.sva_grammar.proofs.LineLemmas.{lines_of-first, lines_of-last}
 use Rattle.sva_grammar.proofs.PlaceLemmas.{not_found}
-use Rattle.sva_reports.specs.Explaining.{Explaining}
+use Rattle.sva_snapshot.specs.Explaining.{Explaining}
 use Rattle.sva_script.proofs.ItemLemmas.{found_at}
 use Rattle.sva_script.specs.Lines.{script_words}
 use Rattle.sva_script_reports.specs.declared.rows.Style.{Style}

@@ -3,7 +3,7 @@ use Rattle.std.specs.Prelude.{◌≡◌, ℕ, ◌+◌, Bool, true, false, is_non
 use Rattle.std.specs.declared.alloc.AllocError.{AllocError}
 use Rattle.sva_step.specs.declared.limits.Config.{Config}
 use Rattle.sva_streams.specs.declared.streams.Outcome.TheVariants.{Faulted}
-use Rattle.sva_reports.specs.Explaining.{Explaining}
+use Rattle.sva_snapshot.specs.Explaining.{Explaining}
 use Rattle.sva_script.specs.declared.faults.Stop.{Stop}
 use Rattle.sva_script.specs.declared.faults.Stop.TheVariants as stop
 use Rattle.sva_script_reading.specs.Said.{IsSaid, Said, faulty}
@@ -56,17 +56,17 @@ abbrev pub held_by : Explaining → (is_last : Bool) → Wire → Taken → List
 held_by explained true wire taken = []
 held_by explained false wire taken = explained wire taken.step taken.told.reply
 
--- a line was taken, and what it expects is to be compared with its answer, whatever explains; or it is wrong, and changes nothing
-abbrev pub AnswersLine : Running → (line : ℕ) → List (List ℕ) → Running → (told answer expected : List ℕ) → Taken → Result Bool Stop → Type 0
-AnswersLine before line words after told answer expected taken (Ok is_last) =
-    (explained : Explaining) (count : ℕ) (rest : ℕ → Bool → At → Said) → test_step explained before line words count rest
+-- a line was taken, and what it expects is to be compared with its answer; or it is wrong, and changes nothing
+abbrev pub AnswersLine : Explaining → Running → (line : ℕ) → List (List ℕ) → Running → (told answer expected : List ℕ) → Taken → Result Bool Stop → Type 0
+AnswersLine explained before line words after told answer expected taken (Ok is_last) =
+    (count : ℕ) (rest : ℕ → Bool → At → Said) → test_step explained before line words count rest
     ≡ test_made (not (is_none (parts_of words).expected)) line told answer (held_by explained is_last after.seen taken) expected count
     (λ more. rest more is_last (behind_line after))
-AnswersLine before line words after told answer expected taken (Err stop.Memory) = Unit {0}
-AnswersLine before line words after told answer expected taken (Err (stop.Wrong wrong)) =
+AnswersLine explained before line words after told answer expected taken (Err stop.Memory) = Unit {0}
+AnswersLine explained before line words after told answer expected taken (Err (stop.Wrong wrong)) =
     (after ≡ before)
-    × ((explained : Explaining) (count : ℕ) (rest : ℕ → Bool → At → Said) → test_step explained before line words count rest ≡ faulty
-    (fault_of before.known line words wrong ∷ []))
+    × ((count : ℕ) (rest : ℕ → Bool → At → Said) → test_step explained before line words count rest
+    ≡ faulty (fault_of before.known line words wrong ∷ []))
 
 -- ---- The words of a line, be it a step, the config or nothing
 

@@ -1,6 +1,6 @@
 -- What is written of a script.
 use Rattle.std.specs.Prelude.{ℕ, List}
-use Rattle.sva_reports.specs.Explaining.{Explaining}
+use Rattle.sva_snapshot.specs.Explaining.{Explaining}
 use Rattle.sva_script_reports.specs.declared.printing.Saying.{Saying}
 use Rattle.sva_script_reports.specs.declared.printing.Saying.TheVariants.{Plain, Show, Test, Why}
 use Rattle.sva_script_reading.specs.Said.{Said}

@@ -6,7 +6,7 @@ use Rattle.sva_step.specs.declared.steps.Step.TheVariants.{Deliver}
 use Rattle.sva_model.specs.Message.{Message}
 use Rattle.sva_model.specs.Wire.{Wire}
 use Rattle.sva_grammar.specs.Replies.{ended, reply_text}
-use Rattle.sva_reports.specs.Explaining.{Explaining}
+use Rattle.sva_snapshot.specs.Explaining.{Explaining}
 use Rattle.sva_script.specs.declared.given.Told.{Told}
 use Rattle.sva_script_reports.specs.declared.rows.Columns.{Columns}
 use Rattle.sva_script_reports.specs.declared.rows.Columns.TheVariants.{Padded, Tabbed}

@@ -7,7 +7,7 @@ use Rattle.sva_labels.specs.Host.{first_wire, next_of, reply_of}
 use Rattle.sva_model.specs.Wire.{Wire}
 use Rattle.sva_grammar.specs.Grammar.{is_too_large, words_of}
 use Rattle.sva_grammar.specs.Replies.{ended, reply_text}
-use Rattle.sva_reports.specs.Explaining.{Explaining}
+use Rattle.sva_snapshot.specs.Explaining.{Explaining}
 use Rattle.sva_script.specs.declared.faults.Wanted.TheVariants as wanted
 use Rattle.sva_script.specs.declared.faults.Wrong.{Wrong}
 use Rattle.sva_script.specs.Expect.{are_as_expected}

@@ -11,7 +11,7 @@ use Rattle.sva_streams.specs.declared.streams.Outcome.TheVariants.{Done, Faulted
 use Rattle.sva_grammar.specs.Grammar.{config_read}
 use Rattle.sva_grammar.specs.Configs.{is_fit}
 use Rattle.sva_grammar.specs.Replies.{ended}
-use Rattle.sva_reports.specs.Explaining.{Explaining}
+use Rattle.sva_snapshot.specs.Explaining.{Explaining}
 use Rattle.sva_script.specs.declared.faults.Wanted.TheVariants as wanted
 use Rattle.sva_script.specs.declared.faults.Wrong.{Wrong}
 use Rattle.sva_script.specs.Lines.{parts_of, script_words}

@@ -7,7 +7,7 @@ use Rattle.sva_model.specs.Steps.{Reply}
 use Rattle.sva_model.specs.Wire.{Wire}
 use Rattle.sva_grammar.specs.Replies.{ended, reply_text}
 use Rattle.sva_streams.specs.declared.streams.Outcome.TheVariants.{Faulted}
-use Rattle.sva_reports.specs.Explaining.{Explaining, is_held}
+use Rattle.sva_snapshot.specs.Explaining.{Explaining, is_held}
 use Rattle.sva_script.specs.declared.faults.Wrong.{Wrong}
 use Rattle.sva_script.specs.Lines.{parts_of, script_words}
 use Rattle.sva_script_reading.specs.Lines.{LineRead, Plain}

@@ -9,10 +9,11 @@ ghost use Rattle.sva_script_reports.specs.Rows.{sends, sent_text, step_text, why
 use std::alloc::{AllocError, Global};
 use sva_frames::Counts;
 use sva_msg::Kind;
-use sva_reports::{Explains, put_counts};
+use sva_reports::put_counts;
 use sva_script::Told;
 use sva_script_reading::{put_number, put_reply};
 use sva_script_runs::{Run, Taken, kind_name};
+use sva_snapshot::{Explains, explain};
 use sva_step::Step;
 
 /// How wide the column of the line's number is.
@@ -114,7 +115,7 @@ fn put_whys_if<E: Explains>(
     ensures { OnOk result (out.new.items ≡ out.old.items ++ whys_if E.explained wanted run.now.seen (row_seen taken.now)) }
 {
     if wanted {
-        E::put_explained(out, alloc, run.world(), &taken.step, &taken.told.reply)
+        explain::<E>(out, alloc, run.world(), &taken.step, &taken.told.reply)
     } else {
         Ok(())
     }

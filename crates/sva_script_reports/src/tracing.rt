@@ -15,10 +15,10 @@ use crate::rows::{Style, put_end, put_step};
 use std::alloc::{AllocError, Global};
 use std::io::{Read, Write};
 use std::marker::Model;
-use sva_reports::Explains;
 use sva_script::{Names, Stop, Wanted, at_word, split};
 use sva_script_reading::{config_of, end_in, put_bad_config, put_wrong};
 use sva_script_runs::{Came, Run, Taken};
+use sva_snapshot::Explains;
 use sva_step::Refusal;
 use sva_streams::{DriveFault, MOST_TURNS, Outcome, Told, write_all};
 

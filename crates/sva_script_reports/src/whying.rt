@@ -9,12 +9,12 @@ ghost use Rattle.sva_script_reports.specs.Whys.{StepsWhy, WordsWhy, case_line, c
 ghost use Rattle.sva_script_reports.specs.Whys.{why_from, whys_of};
 
 use std::alloc::{AllocError, Global};
-use sva_reports::{Explains, is_held};
 use sva_script::{Stop, split};
 use sva_script_reading::{
     Desk, Lines, put_bad_config, put_number, put_reply, put_wrong, read_script,
 };
 use sva_script_runs::{Came, Run, Taken};
+use sva_snapshot::{Explains, explain, is_held};
 use sva_step::{Answer, Config, Refusal};
 use sva_streams::Outcome;
 
@@ -191,7 +191,7 @@ fn put_held<E: Explains>(
         ++ held_text E.explained number plain.now run.now.seen taken.now.step taken.now.told.reply) }
 {
     put_case_line(out, number, plain, &taken.told.reply)?;
-    E::put_explained(out, alloc, run.world(), &taken.step, &taken.told.reply)
+    explain::<E>(out, alloc, run.world(), &taken.step, &taken.told.reply)
 }
 
 /// Appends the case of a step, if it is held back.

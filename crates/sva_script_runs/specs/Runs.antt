@@ -1,5 +1,5 @@
 -- A script that is run: what each of its lines comes to.
-use Rattle.std.specs.Prelude.{◌≡◌, ℕ, ◌-◌, ◌==◌, List, [], ◌∷◌, ◌++◌, length, slice_get, find, Option, Some, None, option_map, Result, Ok, Err}
+use Rattle.std.specs.Prelude.{◌≡◌, ℕ, ◌-◌, ◌==◌, List, length, slice_get, find, Option, Some, None, option_map, Result, Ok, Err}
 use Rattle.sva_step.specs.declared.steps.Step.{Step}
 use Rattle.sva_step.specs.declared.steps.Step.TheVariants.{Deliver, Space}
 use Rattle.sva_step.specs.declared.refusals.Refusal.TheVariants.{OutOfMemory}
@@ -11,10 +11,9 @@ use Rattle.sva_parts_by_labels.specs.Flights.{kind_seen}
 use Rattle.sva_script.specs.declared.faults.Stop.{Stop}
 use Rattle.sva_script.specs.declared.faults.Stop.TheVariants as stop
 use Rattle.sva_script.specs.declared.faults.Wrong.{Wrong}
-use Rattle.sva_script.specs.declared.given.Given.{Given}
 use Rattle.sva_script.specs.declared.given.Told.{Told}
 use Rattle.sva_script.specs.Lines.{Parts}
-use Rattle.sva_script.specs.Names.{Known}
+use Rattle.sva_script.specs.Names.{Known, with_name}
 use Rattle.sva_script_runs.specs.declared.running.Came.{Came}
 use Rattle.sva_script_runs.specs.declared.running.Came.TheVariants as came
 use Rattle.sva_script_runs.specs.declared.running.Taken.{Taken}

@@ -3,8 +3,9 @@
 use std::alloc::{AllocError, Global};
 use std::process::Abort;
 use sva_core::World;
+use sva_snapshot::explain;
 use sva_step::{Config, Refusal, Step};
-use sva_why::put_why_in;
+use sva_why::Explainer;
 
 /// These refusals, and their lines. The other 26 say what holds the step back, where it is so: runs/scripts has 16 of
 /// them, and examples/why has QueueFull, NoTag, NoUseSlot, TooManySpaces, NoCredit, NoFrame, NotStopping, Mapped,
@@ -82,7 +83,7 @@ fn opened<R: Abort>(rt: &R, alloc: Global) -> World {
 /// What is said of a step that is refused so.
 fn said(alloc: Global, world: &World, refusal: Refusal) -> Result<Vec<u8>, AllocError> {
     let mut out = Vec::new(alloc);
-    put_why_in(&mut out, alloc, world, &Step::Space, &Err(refusal))?;
+    explain::<Explainer>(&mut out, alloc, world, &Step::Space, &Err(refusal))?;
     Ok(out)
 }
 

@@ -6,3 +6,4 @@ pub mod Causes
 pub mod Why
 pub mod Standing
 pub mod Stuck
+pub mod Unheld

@@ -11,4 +11,4 @@ mod vectors;
 mod whys;
 
 pub use laws::{lines_stand, stuck_stays};
-pub use whys::{Explainer, put_why, put_why_in};
+pub use whys::{Explainer, put_why};

@@ -1,14 +1,13 @@
 //! What holds a step back.
 
 ghost use Rattle.std.specs.Prelude.{◌≡◌, ◌++◌, OnOk};
+ghost use Rattle.sva_why.specs.Unheld.{nothing_said};
 ghost use Rattle.sva_why.specs.Why.{blocked, first_lines, looked, why_of};
 
 use crate::causes::put_refused;
-use std::alloc::{AllocError, Global};
-use sva_core::World;
+use std::alloc::AllocError;
 use sva_explain::{Level, part_at, put_blocked, put_place, put_withheld_range};
-use sva_reports::{Explains, is_held};
-use sva_snapshot::{Snapshot, snapshot};
+use sva_snapshot::{Explains, Snapshot};
 use sva_step::{Answer, Refusal, Step};
 
 /// Appends what blocks the head of a queue.
@@ -68,51 +67,20 @@ pub fn put_why(
     }
 }
 
-/// Appends the same of a world: what holds back, where it is now, a step that it answered so.
-fn put_held(
-    out: &mut Vec<u8>,
-    alloc: Global,
-    world: &World,
-    step: &Step,
-    reply: &Result<Answer, Refusal>,
-) -> Result<(), AllocError>
-    ensures { OnOk result (out.new.items ≡ out.old.items ++ why_of world.now step.now reply.now) }
-{
-    let kept = snapshot(alloc, world)?;
-    put_why(out, &kept, step, reply)
-}
-
-/// Appends what holds a step back that a world answered so, where that world is behind the step, as `put_why`. What the
-/// world keeps is read only where the step is held back.
-pub fn put_why_in(
-    out: &mut Vec<u8>,
-    alloc: Global,
-    world: &World,
-    step: &Step,
-    reply: &Result<Answer, Refusal>,
-) -> Result<(), AllocError>
-    ensures { OnOk result (out.new.items ≡ out.old.items ++ why_of world.now step.now reply.now) }
-{
-    if is_held(reply) {
-        put_held(out, alloc, world, step, reply)
-    } else {
-        Ok(())
-    }
-}
-
-/// What explains to reports why a step is held back: `put_why_in`.
+/// What explains to reports why a step is held back: `put_why`.
 pub struct Explainer;
 
 impl Explains for Explainer {
     ghost explained = { why_of };
 
+    ghost silent = { nothing_said };
+
     fn put_explained(
         out: &mut Vec<u8>,
-        alloc: Global,
-        world: &World,
+        snapshot: &Snapshot,
         step: &Step,
         reply: &Result<Answer, Refusal>,
     ) -> Result<(), AllocError> {
-        put_why_in(out, alloc, world, step, reply)
+        put_why(out, snapshot, step, reply)
     }
 }

@@ -18,7 +18,8 @@ returns-in-Err-Wrong g c =
     c.answer_line.new.expected.items c.args.out.now.items c.put_wrong.new.out.items c.args.is_last.now c.names.result.now
     c.answer_line.new.taken c.in-Err-Wrong.wrong
     (ap (λ ws. map {A = Bor (List ℕ)} {B = List ℕ} (λ word. word.now) ws) c.as_slice-words.ensures.value)
-    (subst (λ r. AnswersLine c.args.run.now c.args.number given c.answer_line.new.run c.answer_line.new.plain.items c.answer_line.new.answer.items
+    (subst (λ r. AnswersLine g.E.Explains.explained c.args.run.now c.args.number given c.answer_line.new.run c.answer_line.new.plain.items
+    c.answer_line.new.answer.items
     c.answer_line.new.expected.items c.answer_line.new.taken r) (c.in-Err-Wrong.is ∙ ap Err c.in-Err-Wrong.field-0-is) c.answer_line.ensures)
     c.names.ensures told
 
@@ -35,6 +36,7 @@ returns g c =
     c.answer_line.new.expected.items c.behind_space-expected.result.now c.args.out.now.items c.put_miss.new.out.items
     c.put_held.new.out.items c.in-Ok.last c.answer_line.new.taken
     (ap (λ ws. map {A = Bor (List ℕ)} {B = List ℕ} (λ word. word.now) ws) c.as_slice-words.ensures.value)
-    (subst (λ r. AnswersLine c.args.run.now c.args.number given c.answer_line.new.run c.answer_line.new.plain.items c.answer_line.new.answer.items
+    (subst (λ r. AnswersLine g.E.Explains.explained c.args.run.now c.args.number given c.answer_line.new.run c.answer_line.new.plain.items
+    c.answer_line.new.answer.items
     c.answer_line.new.expected.items c.answer_line.new.taken r) c.in-Ok.is c.answer_line.ensures) some shown differs told
     c.in_ok-put_held.ensures

@@ -4,7 +4,7 @@ use Rattle.sva_step.specs.declared.answers.Answer.TheVariants as answer
 use Rattle.sva_step.specs.declared.steps.Step.{Step}
 use Rattle.sva_model.specs.Steps.{Reply}
 use Rattle.sva_model.specs.Wire.{Wire}
-use Rattle.sva_reports.specs.Explaining.{is_held}
+use Rattle.sva_snapshot.specs.Explaining.{is_held}
 use Rattle.sva_why.specs.Why.{why_of}
 
 -- nothing is said of it

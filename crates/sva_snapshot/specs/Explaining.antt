@@ -1,5 +1,5 @@
 -- What explains to a report why a step is held back.
-use Rattle.std.specs.Prelude.{ℕ, Bool, true, false, List, Ok, Err}
+use Rattle.std.specs.Prelude.{◌≡◌, ℕ, Bool, true, false, List, [], Ok, Err}
 use Rattle.sva_step.specs.declared.answers.Answer.TheVariants as answer
 use Rattle.sva_step.specs.declared.steps.Step.{Step}
 use Rattle.sva_model.specs.Steps.{Reply}
@@ -17,3 +17,7 @@ is_held (Ok answer.Withheld) = true
 is_held (Ok (answer.WithheldFrames frames)) = true
 is_held (Ok (answer.RangeWithheld frames)) = true
 is_held (Ok other) = false
+
+-- of a step that isn't held back nothing is said
+abbrev pub IsSilent : Explaining → Type 0
+IsSilent explained = (wire : Wire) (step : Step) (reply : Reply) → is_held reply ≡ false → explained wire step reply ≡ []

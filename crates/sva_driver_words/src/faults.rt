@@ -13,9 +13,7 @@ ghost use Rattle.sva_script.specs.Reserved.{kind_words};
 
 use crate::needs::{Need, need_words};
 use std::alloc::AllocError;
-use sva_race_texts::{
-    RaceWanted, count_of, first_near, put_near, put_number, put_word, word_in, wrong_at,
-};
+use sva_race_texts::{RaceWanted, count_of, first_near, put_near, put_number, put_word, word_in};
 use sva_script::{Names, Wanted, near_kind};
 
 /// What was wanted where a line that submits descriptors is wrong.
@@ -388,7 +386,13 @@ pub fn put_fault(
 {
     match wrong.wanted {
         DriverWanted::Race(wanted) => {
-            sva_race_texts::put_fault(out, &wrong_at(wrong.at, wanted), line, words, names)
+            sva_race_texts::put_fault(
+                out,
+                &sva_race_texts::wrong_at(wrong.at, wanted),
+                line,
+                words,
+                names,
+            )
         }
         _ => put_own(out, wrong, line, words, names),
     }

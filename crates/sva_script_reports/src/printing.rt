@@ -14,7 +14,7 @@ use crate::testing::test;
 use crate::whying::why;
 use std::alloc::{AllocError, Global};
 use std::io::{Read, Write};
-use sva_reports::Explains;
+use sva_snapshot::Explains;
 use sva_streams::{DriveFault, Outcome, Told, read_all, write_all};
 
 /// What is said of a script.

@@ -1,10 +1,11 @@
 -- What is found among things that are seen by what they have.
-use Rattle.std.proofs.Common.{◌≡◌, ◌∙◌, ◌≤◌, ap, arith, refl, ℕ, zero, suc, Bool, List, [], ◌∷◌, length, map}
+use Rattle.std.proofs.Common.{◌≡◌, ◌∙◌, ◌≤◌, ap, arith, refl, ℕ, zero, suc, List, [], ◌∷◌, length, map}
 use Rattle.std.specs.Global.{Global}
-use Rattle.std.specs.Prelude.{◌||◌, Vec, slice_set}
+use Rattle.std.specs.Prelude.{Vec, slice_set}
 use Rattle.std.proofs.lemmas.List.{map-set}
 use Rattle.std.specs.List.{list_any}
 use Rattle.std.specs.Str.{bytes_eq}
+use Rattle.sva_race_texts.proofs.PieceLemmas.{any_seen}
 
 -- what is put at a place, and what isn't
 pub put_seen : {A B : Type 0} (f : A → B) (items new : List A) (place : ℕ) (one : A) (told : B) → new ≡ slice_set items place one → f one ≡ told
@@ -21,10 +22,6 @@ put_nowhere f (x ∷ xs) (suc place) told past = ap (λ l. f x ∷ l) (put_nowhe
 -- words that are owned
 abbrev pub own : List (Vec ℕ Global) → List (List ℕ)
 own words = map {A = Vec ℕ Global} {B = List ℕ} (λ word. word.items) words
-
-pub any_seen : {A B : Type 0} (f : A → B) (p : B → Bool) (xs : List A) → list_any (λ x. p (f x)) xs ≡ list_any p (map f xs)
-any_seen f p [] = refl
-any_seen f p (x ∷ xs) = ap (λ b. p (f x) || b) (any_seen f p xs)
 
 pub any_own : (name : List ℕ) (words : List (Vec ℕ Global))
     → list_any (λ word. bytes_eq word.items name) words ≡ list_any (λ word. bytes_eq word name) (own words)

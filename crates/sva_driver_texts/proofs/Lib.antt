@@ -6,7 +6,6 @@ pub mod Runs
 pub mod Takings
 pub mod Firsts
 pub mod Lists
-pub mod NamesOfLines
 pub mod Openings
 pub mod Stands
 pub mod Wholes

@@ -1,6 +1,5 @@
 -- A whole text, by what its parts are read as.
-use Rattle.std.proofs.Common.{◌≡◌, ◌∙◌, ◌+◌, ap, refl, sym, subst, ℕ, List, [], ◌∷◌, ◌++◌, true, false, cond, eqb, length, suc, arith}
-use Rattle.std.proofs.lemmas.Bool.Decides.{nat_tests}
+use Rattle.std.proofs.Common.{◌≡◌, ◌∙◌, ◌+◌, ap, refl, sym, subst, ℕ, List, [], ◌∷◌, ◌++◌, true, false, cond, length}
 use Rattle.std.specs.Prelude.{IfOk, Option, Some, None, Result, Ok, Err}
 use Rattle.std.specs.declared.alloc.AllocError.{AllocError}
 use Rattle.sva_step.specs.declared.limits.Config.{Config}
@@ -13,7 +12,8 @@ use Rattle.sva_script_reading.specs.Reading.{HasConfig}
 use Rattle.sva_race_texts.specs.Limits.{limits_text}
 use Rattle.sva_driver_texts.specs.declared.kept.Read.{Read}
 use Rattle.sva_driver_texts.specs.Texts.{IsRead, DriverRead, ReadsText, if_right, driver_behind, driver_of, driver_read, driver_with, right_or_said}
-use Rattle.sva_driver_texts.specs.Texts.{names_from, too_large}
+use Rattle.sva_driver_texts.specs.Texts.{too_large}
+use Rattle.sva_race_texts.specs.Texts.{names_from}
 use Rattle.sva_driver_texts.specs.Readings.{Reading, behind_lines, nothing}
 use Rattle.sva_script.specs.Names.{Known}
 
@@ -26,18 +26,6 @@ by_said read (byte ∷ said) new some is = is
 pub said_wrong : (read : DriverRead) (out new : List ℕ) → (read.reading.said ≡ [] → ⊥) → out ≡ [] → new ≡ out ++ read.reading.said
     → ReadsText (right_or_said read) None new
 said_wrong read out new some none is = by_said read read.reading.said new some (is ∙ ap (λ l. l ++ read.reading.said) none)
-
--- something is said, or nothing
-pub some_said : {said own : List ℕ} → own ≡ said → eqb (length own) 0 ≡ false → said ≡ [] → ⊥
-some_said {said} {own} same some none = absurd (no_more own (same ∙ none) some)
-  where
-    no_more : (xs : List ℕ) → xs ≡ [] → eqb (length xs) 0 ≡ false → ⊥
-    no_more [] empty some = cc some
-    no_more (x ∷ xs) empty some = cc empty
-
-pub none_said : (said : List ℕ) → eqb (length said) 0 ≡ true → said ≡ []
-none_said [] none = refl
-none_said (byte ∷ said) none = let zero : suc (length said) ≡ 0 = grind (arith, nat_tests) in absurd (omega (arith, zero))
 
 pub said_right : (read : DriverRead) (kept : Read) (out : List ℕ) → read.reading.said ≡ [] → IsRead read kept → out ≡ []
     → ReadsText (right_or_said read) (Some kept) out
@@ -91,12 +79,6 @@ pub whole_unread : (text : List ℕ) (begin : Result (Config × List Line) Fault
 whole_unread text begin left out new small same none has =
     by_size text None new small
     (subst (λ begin. ReadsText (driver_behind (lines_from 1 text) begin) None new) same (no_config (lines_from 1 text) begin left out new none has))
-
--- with a config nothing is said yet
-pub nothing_said : (begin : Result (Config × List Line) Fault) (config : Config) (left : List Line) (out mid : List ℕ)
-    → HasConfig begin (Some config) left out mid → out ≡ [] → mid ≡ []
-nothing_said (Ok both) config left out mid has none = has.2 ∙ none
-nothing_said (Err fault) config left out mid has none = absurd has
 
 -- the lines behind the config are read
 behind_config : (all : List Line) (begin : Result (Config × List Line) Fault) (config : Config) (left : List Line) (out mid new : List ℕ)

@@ -6,12 +6,13 @@ use Rattle.sva_step.specs.declared.limits.Config.{Config}
 use Rattle.sva_grammar.specs.Grammar.{◌>>=◌, is_too_large}
 use Rattle.sva_grammar.specs.Configs.{is_fit}
 use Rattle.sva_grammar.specs.Replies.{ended}
-use Rattle.sva_script.specs.Lines.{parts_of, script_words}
+use Rattle.sva_script.specs.Lines.{script_words}
 use Rattle.sva_script.specs.Names.{Known}
-use Rattle.sva_script_reading.specs.Begins.{Line, config_in, lines_from, noted}
+use Rattle.sva_script_reading.specs.Begins.{Line, config_in, lines_from}
 use Rattle.sva_script_reading.specs.Faults as scripts
 use Rattle.sva_script_reading.specs.Faults.{Fault}
 use Rattle.sva_race_texts.specs.Limits.{limits_text}
+use Rattle.sva_race_texts.specs.Texts.{names_from}
 use Rattle.sva_race_texts.specs.declared.faults.RaceWanted.TheVariants as race
 use Rattle.sva_open.specs.World.{Open, opened}
 use Rattle.sva_open.specs.declared.settings.Conduct.{Conduct}
@@ -40,12 +41,6 @@ use Rattle.sva_driver_texts.specs.declared.kept.Halt.TheVariants as halt
 use Rattle.sva_driver_texts.specs.declared.kept.Read.{Read}
 use Rattle.sva_driver_texts.specs.declared.kept.Said.{Said}
 use Rattle.sva_driver_texts.specs.declared.kept.Text.{Text}
-
--- ---- The names of all lines, by which near ones are told
-
-unfoldable pub names_from : Known → List Line → Known
-names_from known [] = known
-names_from known (line ∷ lines) = names_from (noted known line.0 (parts_of (script_words line.1)).name) lines
 
 -- ---- The lines, as they are judged and as they are told
 

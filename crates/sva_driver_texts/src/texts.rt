@@ -4,6 +4,7 @@ ghost use Rattle.std.specs.Prelude.{◌≡◌, ◌+◌, ◌++◌, [], IfOk, OnOk
 ghost use Rattle.sva_judge.specs.Spots as spots;
 ghost use Rattle.sva_driver_texts.specs.Texts as texts;
 ghost use Rattle.sva_script_reading.specs.Begins.{lines_from};
+ghost use Rattle.sva_race_texts.specs.Texts.{names_from};
 
 use crate::first::take_lines;
 use crate::kept::{Begun, Halt, Read, Said, Text};
@@ -26,7 +27,7 @@ const TOO_LARGE: &[u8] = b"line 0: the driver has more than 1048576 bytes or 655
 /// The names of all lines.
 fn names_of(alloc: Global, from: Lines<'_>) -> Result<Names, AllocError>
     ensures { IfOk result (λ names. names
-        ≡ texts.names_from [] (lines_from (from.entry.number + 1) from.entry.rest.now)) }
+        ≡ names_from [] (lines_from (from.entry.number + 1) from.entry.rest.now)) }
 {
     let mut lines = from;
     let mut names = Names::new(alloc);

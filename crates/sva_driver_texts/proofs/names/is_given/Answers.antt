@@ -1,6 +1,6 @@
 use Rattle.std.proofs.Common.{◌∙◌}
 use Rattle.sva_driver_words.specs.Awaits.{is_named, line_seen}
-use Rattle.sva_driver_texts.proofs.Anys.{any_seen}
+use Rattle.sva_race_texts.proofs.PieceLemmas.{any_seen}
 use Rattle.sva_driver_texts.proofs.names.is_given.Goals as goal
 
 pub returns : goal.returns

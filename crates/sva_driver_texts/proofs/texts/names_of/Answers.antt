@@ -3,7 +3,7 @@ use Rattle.sva_script_reading.proofs.BeginLemmas.{no_lines}
 use Rattle.sva_script_reading.specs.Begins.{lines_from}
 use Rattle.sva_script.specs.Lines.{parts_of}
 use Rattle.sva_race_texts.proofs.Lists.{said}
-use Rattle.sva_driver_texts.proofs.NamesOfLines.{names_end, names_next}
+use Rattle.sva_race_texts.proofs.RunLemmas.{names_end, names_next}
 use Rattle.sva_driver_texts.proofs.texts.names_of.Goals as goal
 
 pub loop-number-preserved : goal.loop-number-preserved

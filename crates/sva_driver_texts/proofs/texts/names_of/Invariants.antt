@@ -1,6 +1,6 @@
 use Rattle.std.proofs.Common.{◌≡◌, ◌+◌, [], length}
 use Rattle.sva_script_reading.specs.Begins.{lines_from}
-use Rattle.sva_driver_texts.specs.Texts.{names_from}
+use Rattle.sva_race_texts.specs.Texts.{names_from}
 use Rattle.sva_driver_texts.proofs.texts.names_of.Given as goal
 
 abbrev pub invariant-loop-number : goal.invariant-loop-number

@@ -1,6 +1,7 @@
 use Rattle.std.proofs.Common.{◌∙◌, ◌++◌, ap, refl, rules, sym}
 use Rattle.sva_driver_texts.specs.Readings.{Reading}
-use Rattle.sva_driver_texts.proofs.Wholes.{none_said, said_right, said_wrong, some_said}
+use Rattle.sva_race_texts.proofs.WholeLemmas.{none_said, some_said}
+use Rattle.sva_driver_texts.proofs.Wholes.{said_right, said_wrong}
 use Rattle.sva_driver_texts.proofs.texts.read_of.Goals as goal
 
 pub returns-then-not-is_empty : goal.returns-then-not-is_empty

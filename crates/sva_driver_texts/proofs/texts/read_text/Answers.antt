@@ -4,7 +4,8 @@ use Rattle.sva_step.specs.declared.limits.Config.{Config}
 use Rattle.sva_grammar.specs.Grammar.{is_too_large}
 use Rattle.sva_script_reading.specs.Begins.{config_in, lines_from}
 use Rattle.sva_script_reading.specs.Reading.{HasConfig}
-use Rattle.sva_driver_texts.proofs.Wholes.{nothing_said, whole_large, whole_read, whole_unread}
+use Rattle.sva_race_texts.proofs.WholeLemmas.{nothing_said}
+use Rattle.sva_driver_texts.proofs.Wholes.{whole_large, whole_read, whole_unread}
 use Rattle.sva_driver_texts.proofs.texts.read_text.Goals as goal
 
 pub returns-then-is_too_large : goal.returns-then-is_too_large

@@ -11,8 +11,8 @@ ghost use Rattle.sva_explain.specs.Units.{taken_text, use_text, waits_for_lines,
 
 use crate::blockers::levels::{Level, below, put_bracket_of_two, put_indent, put_start};
 use crate::blockers::link::{Topic, put_about};
-use std::alloc::AllocError;
 use crate::enabled::{can_end, can_finish, taken_at, vector_of};
+use std::alloc::AllocError;
 use sva_lines::{end_line, put_busy, put_extent, put_field, put_translation, put_vector, put_word};
 use sva_snapshot::{Busy, Endpoint, Snapshot, Taken, UseSlot};
 

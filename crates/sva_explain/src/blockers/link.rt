@@ -8,8 +8,8 @@ ghost use Rattle.sva_explain.specs.Link.{about_if, about_lines, is_about, link_t
 ghost use Rattle.sva_explain.specs.Link.{older_lines};
 
 use crate::blockers::levels::{Level, put_bracket, put_indent};
-use std::alloc::AllocError;
 use crate::enabled::{can_deliver, is_set};
+use std::alloc::AllocError;
 use sva_lines::{end_line, put_field, put_kind, put_word};
 use sva_snapshot::{Flight, Kind, Snapshot, held_back_by, holds_back};
 

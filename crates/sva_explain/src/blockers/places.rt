@@ -8,8 +8,8 @@ ghost use Rattle.sva_explain.specs.Units.{place_lines, target_lines, held_seen};
 
 use crate::blockers::levels::Level;
 use crate::blockers::units::{put_in_reset, put_wait};
-use std::alloc::AllocError;
 use crate::enabled::part_at;
+use std::alloc::AllocError;
 use sva_snapshot::{Held, Snapshot, Target};
 
 /// Appends what a frame waits for at a unit.

@@ -7,8 +7,8 @@ ghost use Rattle.sva_explain.specs.Requests.{asked_text, invalid_text, out_line,
 use crate::blockers::levels::{Level, below, put_start};
 use crate::blockers::link::{Topic, put_about};
 use crate::blockers::units::put_reset_if;
-use std::alloc::AllocError;
 use crate::enabled::can_answer_invalid;
+use std::alloc::AllocError;
 use sva_lines::{end_line, put_field, put_if, put_word};
 use sva_snapshot::{Endpoint, Snapshot};
 

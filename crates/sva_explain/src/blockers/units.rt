@@ -9,8 +9,8 @@ ghost use Rattle.sva_explain.specs.Units.{wait_lines, count_text, full_line, no_
 use crate::blockers::itags::put_busy_itags;
 use crate::blockers::levels::{Level, below, put_bracket, put_indent, put_start};
 use crate::blockers::link::{Topic, put_about};
-use std::alloc::AllocError;
 use crate::enabled::{can_pump, can_serve, has_room, is_full, is_some_busy};
+use std::alloc::AllocError;
 use sva_lines::{end_line, put_field, put_word};
 use sva_snapshot::{Descriptor, Endpoint, Snapshot};
 

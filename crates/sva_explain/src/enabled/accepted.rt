@@ -17,7 +17,10 @@ use crate::enabled::lookups::{
     binding_of, flight_of, has_open_group_at, has_room_at, held_by, is_bound, is_done_at, is_full,
     is_open, is_space, lacks_one, part_at,
 };
-use sva_snapshot::{Binding, Descriptor, Device, Endpoint, GroupPlace, Job, Kind, PasidState, RequestTag, Snapshot, Stage, Unit, UseSlot, held_back_by};
+use sva_snapshot::{
+    Binding, Descriptor, Device, Endpoint, GroupPlace, Job, Kind, PasidState, RequestTag, Snapshot,
+    Stage, Unit, UseSlot, held_back_by,
+};
 use sva_step::{PAGE_REQUESTS, PAGES};
 
 /// Would a delivery be accepted?

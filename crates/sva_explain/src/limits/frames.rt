@@ -15,12 +15,12 @@ ghost use Rattle.sva_lines.specs.Words.{is_free, is_withheld};
 ghost use Rattle.sva_snapshot.specs.Shown.{job_shown, space_shown};
 ghost use Rattle.sva_explain.specs.Units.{held_seen};
 
+use crate::blockers::{Level, put_bracket_of_two, put_held, put_indent, put_invalid, put_start};
+use crate::enabled::{binding_of, can_unmap, held_by, mapping_at, pages_in};
 use crate::limits::pages::put_new_pages;
 use std::alloc::AllocError;
-use crate::enabled::{binding_of, can_unmap, held_by, mapping_at, pages_in};
 use sva_lines::{end_line, put_field, put_if, put_word};
 use sva_snapshot::{Held, Job, Mapping, Snapshot, Space};
-use crate::blockers::{Level, put_bracket_of_two, put_held, put_indent, put_invalid, put_start};
 use sva_step::Step;
 
 /// Appends in brackets that a page is taken out, where it would be accepted.

@@ -4,11 +4,11 @@ ghost use Rattle.std.specs.Prelude.{◌≡◌, ◌++◌, OnOk};
 ghost use Rattle.sva_explain.specs.Hands.{empty_line, hand_line, hand_text, hands_full, no_job, no_job_line};
 ghost use Rattle.sva_snapshot.specs.Shown.{job_shown};
 
-use std::alloc::AllocError;
+use crate::blockers::{Level, put_bracket, put_indent, put_invalid, put_start};
 use crate::enabled::{can_take, held_by};
+use std::alloc::AllocError;
 use sva_lines::{end_line, put_field, put_word};
 use sva_snapshot::{Job, Snapshot};
-use crate::blockers::{Level, put_bracket, put_indent, put_invalid, put_start};
 use sva_step::Step;
 
 /// Appends which job a worker has.

@@ -9,8 +9,8 @@ ghost use Rattle.sva_labels.specs.Replying.{new_among, newly_mapped};
 ghost use Rattle.sva_explain.specs.Frames.{page_text};
 ghost use Rattle.sva_snapshot.specs.Shown.{job_shown};
 
-use std::alloc::AllocError;
 use crate::enabled::{is_mapped, pages_of_job};
+use std::alloc::AllocError;
 use sva_lines::put_field;
 use sva_snapshot::{Ask, Job, Mapping, Snapshot};
 

@@ -5,11 +5,11 @@ ghost use Rattle.sva_explain.specs.Pasids.{advance_text, all_borne_line, bearer_
 ghost use Rattle.sva_snapshot.specs.Shown.{binding_shown};
 ghost use Rattle.sva_explain.specs.declared.blockers.levels.Level.TheVariants.{Second};
 
-use std::alloc::AllocError;
+use crate::blockers::{Level, put_bracket, put_indent, put_start};
 use crate::enabled::{can_advance, can_unbind};
+use std::alloc::AllocError;
 use sva_lines::{end_line, put_field, put_stage, put_word};
 use sva_snapshot::{Binding, Snapshot};
-use crate::blockers::{Level, put_bracket, put_indent, put_start};
 
 /// Appends an unbinding in brackets, where it would be accepted.
 pub fn put_unbind(out: &mut Vec<u8>, snapshot: &Snapshot, binding: u64) -> Result<(), AllocError>

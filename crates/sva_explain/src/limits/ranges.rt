@@ -12,11 +12,11 @@ ghost use Rattle.sva_model.specs.Wire.TargetWire.{Cookie, ResetEnd};
 ghost use Rattle.sva_snapshot.specs.Shown.{binding_shown, endpoint_shown, stage_shown, unit_shown};
 ghost use Rattle.sva_explain.specs.Units.{held_seen};
 
-use std::alloc::AllocError;
+use crate::blockers::{Level, put_indent, put_target};
 use crate::enabled::{bound_at, part_at};
+use std::alloc::AllocError;
 use sva_lines::{end_line, put_field, put_word};
 use sva_snapshot::{Binding, Endpoint, Held, Snapshot, Stage, Target, Unit};
-use crate::blockers::{Level, put_indent, put_target};
 use sva_step::Step;
 
 /// A wait of the unit; or the end of its reset, which ends the wait.

@@ -5,11 +5,11 @@ ghost use Rattle.sva_explain.specs.Slots.{each_slot, no_slot, no_slot_lines, slo
 ghost use Rattle.sva_parts_by_labels.specs.Device.{slot_seen};
 ghost use Rattle.sva_snapshot.specs.Shown.{endpoint_shown};
 
-use std::alloc::AllocError;
+use crate::blockers::{Level, put_end, put_indent, put_start, put_use};
 use crate::enabled::part_at;
+use std::alloc::AllocError;
 use sva_lines::{end_line, put_field, put_word};
 use sva_snapshot::{Endpoint, Snapshot, UseSlot};
-use crate::blockers::{Level, put_end, put_indent, put_start, put_use};
 use sva_step::Step;
 
 /// Appends the line of a use.

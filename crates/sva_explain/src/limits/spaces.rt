@@ -4,11 +4,11 @@ ghost use Rattle.std.specs.Prelude.{◌≡◌, ◌++◌, OnOk, flat_map, map};
 ghost use Rattle.sva_explain.specs.Spaces.{spaces_line, too_many, unbound_if, unbound_line};
 ghost use Rattle.sva_snapshot.specs.Shown.{space_shown};
 
-use std::alloc::AllocError;
+use crate::blockers::{Level, put_indent};
 use crate::enabled::can_drop;
+use std::alloc::AllocError;
 use sva_lines::{end_line, put_field, put_word};
 use sva_snapshot::{Snapshot, Space};
-use crate::blockers::{Level, put_indent};
 
 /// Appends the line of a space that may go.
 fn put_unbound(out: &mut Vec<u8>, level: Level, space: u64) -> Result<(), AllocError>

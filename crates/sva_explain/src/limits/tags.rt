@@ -6,11 +6,11 @@ ghost use Rattle.sva_explain.specs.Tags.{not_held_at, not_held_line, not_held_li
 ghost use Rattle.sva_parts_by_labels.specs.Device.{tag_seen};
 ghost use Rattle.sva_snapshot.specs.Shown.{endpoint_shown};
 
-use std::alloc::AllocError;
+use crate::blockers::{Level, put_indent, put_out, put_start};
 use crate::enabled::{can_ask, part_at};
+use std::alloc::AllocError;
 use sva_lines::{end_line, put_field, put_word};
 use sva_snapshot::{Endpoint, RequestTag, Snapshot};
-use crate::blockers::{Level, put_indent, put_out, put_start};
 use sva_step::Step;
 
 /// Appends a translation request in brackets, where it would be accepted.

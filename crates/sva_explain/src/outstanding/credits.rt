@@ -8,12 +8,12 @@ ghost use Rattle.sva_snapshot.specs.Shown.{device_shown, endpoint_shown};
 ghost use Rattle.sva_explain.specs.Tables.{all_unfinished_text, credit_if, credit_line, credit_lines, credit_text};
 ghost use Rattle.sva_explain.specs.Tables.{disabled_if, due_if, due_line, due_lines, is_due, reset_text};
 
+use crate::blockers::{Level, below, put_bracket, put_indent, put_reset_if, put_start};
+use crate::enabled::{can_reset, has_no_credit};
 use crate::outstanding::jobs::put_on_its_way;
 use std::alloc::AllocError;
-use crate::enabled::{can_reset, has_no_credit};
 use sva_lines::{end_line, put_field, put_word};
 use sva_snapshot::{Device, Endpoint, GroupPlace, Snapshot};
-use crate::blockers::{Level, below, put_bracket, put_indent, put_reset_if, put_start};
 
 /// Appends a reset in brackets.
 fn put_reset(out: &mut Vec<u8>, snapshot: &Snapshot, endpoint: u64) -> Result<(), AllocError>

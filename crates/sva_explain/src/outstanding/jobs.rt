@@ -8,11 +8,11 @@ ghost use Rattle.sva_snapshot.specs.Shown.{endpoint_shown, host_group_shown, job
 ghost use Rattle.sva_explain.specs.Jobs.{hand_if, job_at_if, job_if, job_lines, on_its_way_lines};
 ghost use Rattle.sva_explain.specs.Jobs.{request_if, take_if, unfiled_lines};
 
-use std::alloc::AllocError;
+use crate::blockers::{Level, Topic, put_about, put_bracket, put_indent, put_invalid};
 use crate::enabled::{can_serve, can_take};
+use std::alloc::AllocError;
 use sva_lines::{end_line, put_field, put_word};
 use sva_snapshot::{Endpoint, HostGroup, Job, PageRequest, Snapshot};
-use crate::blockers::{Level, Topic, put_about, put_bracket, put_indent, put_invalid};
 
 /// Is it the job of the group?
 fn is_of_job(job: &Job, group: &HostGroup) -> bool

@@ -8,12 +8,15 @@ ghost use Rattle.sva_explain.specs.Tables.{tag_if, tag_lines, unfinished_if, unf
 ghost use Rattle.sva_explain.specs.Tables.{bearer_line, ending_line, unfinished_group_lines};
 ghost use Rattle.sva_explain.specs.Tables.{unfinished_line, use_lines};
 
+use crate::blockers::{
+    Level, Topic, below, put_about, put_bracket_of_two, put_indent, put_out, put_reset_if,
+    put_start, put_use,
+};
+use crate::enabled::{can_end, can_finish_group, is_unfinished, is_use_of, pasid_state};
 use crate::outstanding::credits::{put_credit, put_disabled};
 use std::alloc::AllocError;
-use crate::enabled::{can_end, can_finish_group, is_unfinished, is_use_of, pasid_state};
 use sva_lines::{end_line, put_field, put_if, put_stage, put_word};
 use sva_snapshot::{Binding, Endpoint, GroupPlace, PasidState, RequestTag, Snapshot, UseSlot};
-use crate::blockers::{Level, Topic, below, put_about, put_bracket_of_two, put_indent, put_out, put_reset_if, put_start, put_use};
 
 /// Appends the last request of a group in brackets.
 fn put_last(

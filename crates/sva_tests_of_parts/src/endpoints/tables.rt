@@ -2,7 +2,10 @@
 
 use crate::asserted::holds;
 use std::process::Abort;
-use sva_endpoint::{Extent, Invalidation, GroupPlace, GroupTable, PasidState, PasidStates, RequestTag, RequestTags, Taken, TakenTable, Use, UseSlot, UseSlots};
+use sva_endpoint::{
+    Extent, GroupPlace, GroupTable, Invalidation, PasidState, PasidStates, RequestTag, RequestTags,
+    Taken, TakenTable, Use, UseSlot, UseSlots,
+};
 use sva_msg::Range;
 
 fn in_range(range: Range) -> Invalidation {

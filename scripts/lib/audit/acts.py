@@ -20,6 +20,7 @@ import marshal
 import tempfile
 
 IN_MEMORY = 1 << 12  # acts that are kept before they are written out
+LENGTH = 8  # bytes that say how many are written
 
 
 class Submission:
@@ -43,15 +44,15 @@ class Spool:
         self._some.append(act)
         if len(self._some) >= IN_MEMORY:
             self._file = self._file or tempfile.TemporaryFile()
-            marshal.dump(self._some, self._file)
+            text = marshal.dumps(self._some)
+            self._file.write(len(text).to_bytes(LENGTH, "big") + text)
             self._some = []
 
     def __iter__(self):
         if self._file:
-            end = self._file.tell()
             self._file.seek(0)
-            while self._file.tell() < end:
-                yield from marshal.load(self._file)
+            while length := self._file.read(LENGTH):
+                yield from marshal.loads(self._file.read(int.from_bytes(length, "big")))
         yield from self._some
 
 
@@ -80,7 +81,7 @@ def played(read):
         elif kind in ("flushed domain", "flushed tag"):
             if is_flushed:
                 yield (*act[:3], kind[8:], *named(act[4:], act[0], read.facts, kind))
-        elif kind in ("domain", "map", "clear", "pgdfree"):
+        elif kind in ("domain", "map", "clear", "pgdfree") and read.facts.has_turns():
             yield (*act[:4], *named(act[4:], act[0], read.facts, kind))
         else:
             yield act

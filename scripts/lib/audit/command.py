@@ -82,7 +82,8 @@ def sliced(read, said):
     last, opened = read.last, {}
     for act in acts.played(read):
         where, kind = act[:3], act[3]
-        found.go_on(where[1])
+        if found.is_waiting():
+            found.go_on(where[1])
         if kind == "submit":
             opened[act[4].number] = act[4].unit
             pages.submitted(where, act[4])

@@ -37,6 +37,10 @@ class Facts:
         latest = self._latest.get(address)
         return latest and latest[1]
 
+    def has_turns(self):
+        """Whether an address was another domain's later."""
+        return bool(self._turns)
+
     def name(self, address, line):
         """The name of the domain that has this address at this line."""
         turns = self._turns.get(address)

@@ -20,6 +20,7 @@ LOST = re.compile(r"\[LOST .*EVENTS\]|EVENTS DROPPED|\bLOST \d+ EVENTS")
 MAY_BE_LOST = ("LOST", "DROPPED")
 SILENT = re.compile(r"(cpus=|version = )\d")
 DEVICE = re.compile(r"([0-9a-f]{4}):([0-9a-f]{2}):([0-9a-f]{2})\.([0-7])")
+FIELD = re.compile(r"(?<!\S)(\w+)=(0x[0-9a-f]+|\d+)(?!\S)")
 INTERRUPTS = frozenset("hHsZz")  # the third flag: within an interrupt
 
 
@@ -60,34 +61,21 @@ def number(word, at):
     return value
 
 
-def pattern_of(name):
-    """What finds the number behind NAME= in a line."""
-    return re.compile(r"(?<!\S)%s=(0x[0-9a-f]+|\d+)(?!\S)" % name)
+def fields(rest):
+    """What stands behind each NAME= between blanks, as its text; of one that stands twice the first."""
+    return dict(reversed(FIELD.findall(rest)))
 
 
-def pointer_of(name):
-    """What finds the pointer behind NAME= in a line."""
-    return re.compile(r"\b%s=(0x[0-9a-f]+)\b" % name)
-
-
-NUMBERS = {name: pattern_of(name) for name in "opt start end pasid did iova paddr".split()}
-POINTERS = {name: pointer_of(name) for name in "dom mm dev".split()}
-
-
-def field(name, rest, at):
-    """The number behind NAME= in the rest of line `at`."""
-    found = NUMBERS[name].search(rest)
-    if not found:
+def pointer(name, told, at):
+    """The pointer NAME= of these fields of line `at`, as its text: it is a name and no more."""
+    if name not in told:
         raise Refused("line %d: %s= is missing" % (at, name))
-    return number(found[1], at)
+    return told[name]
 
 
-def pointer(name, rest, at):
-    """The pointer behind NAME= in the rest of line `at`, as its text: it is a name and no more."""
-    found = POINTERS[name].search(rest)
-    if not found:
-        raise Refused("line %d: %s= is missing" % (at, name))
-    return found[1]
+def field(name, told, at):
+    """The number NAME= of these fields of line `at`."""
+    return number(pointer(name, told, at), at)
 
 
 def device_in(text):

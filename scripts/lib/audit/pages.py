@@ -144,7 +144,7 @@ class Pages:
             self._forget(domain, page)
         for sid in devices:
             one = domain.slices.get((sid, page, frame)) or self._begun(domain, sid, page, frame)
-            one.is_mapped = True
+            one.is_mapped, one.is_gone = True, False
             if not one.acts or one.acts[-1][1] != act[1]:
                 one.put(act, self.skew)
             self._clean_page(one)

@@ -7,13 +7,15 @@ from array import array
 from . import descriptors
 from .acts import Spool
 from .facts import Facts
-from .lines import LINE, LOST, MAY_BE_LOST, SILENT, Refused, blocks, device_in, field, number, place_of, pointer
+from .lines import LINE, LOST, MAY_BE_LOST, SILENT, Refused, blocks, device_in, field, fields, number, place_of, pointer
 
 PAGE = 12  # bits of an offset
 MOST_PAGES = 1 << 22  # of one event: each is taken by itself
 MOST_OPEN = 4  # submissions of a task, one within the other
 MOST_ORDER = 18  # of a block of frames
+MOST_DIGITS = 13  # of a frame
 FRAMES = 9  # frees are looked at by blocks of 2^9 frames: in one of which no page led to a frame none counts
+WRITE = 2  # of prot
 LAST_SPACE = 1 << 52  # no page is above
 
 ENTRIES = re.compile(r"# entries-in-buffer/entries-written: (\d+)/(\d+)")
@@ -22,8 +24,6 @@ HAS_ATS = re.compile(r"# svahost: device (\S+) ats=1$")
 END = re.compile(r"# svahost: end (\d{1,12}) events$")
 NEEDED = ("imap", "iunmap", "teardown", "pasidfree", "pgdfree", "setupfl")  # probes whose missed hits refuse a log
 WORDS = re.compile(r"(\S+): (0x[0-9a-f]+) (0x[0-9a-f]+) (0x[0-9a-f]+) (0x[0-9a-f]+)$")
-CHUNK = re.compile(r"pgsz=(0x[0-9a-f]+) n=(0x[0-9a-f]+)")
-PROT = re.compile(r"prot=(0x[0-9a-f]+)")
 RANGE = re.compile(r"iova=0x([0-9a-f]+) - 0x([0-9a-f]+)")
 FREED = re.compile(r"pfn=0x([0-9a-f]+) order=(\d+)")
 DID = re.compile(r"\bdid (\d+)")
@@ -172,7 +172,7 @@ class Reading:
         self._seen.add("qis")
         serial, stack = len(self.lengths), self._stacks[place]
         self.lengths.append(0)
-        self.spool.add((*where, "begin", serial, field("opt", rest, at) & 1))
+        self.spool.add((*where, "begin", serial, field("opt", fields(rest), at) & 1))
         stack.append([serial, 0, at])
         self._begun.add(place)
         if len(stack) > MOST_OPEN:
@@ -185,11 +185,13 @@ class Reading:
         if not found:
             raise Refused("line %d: four words are wanted" % at)
         unit, q0, q1 = found[1], number(found[2], at), number(found[3], at)
-        head = self._heads.get(q0) or descriptors.decode(q0, 0)
+        head = self._heads.get(q0)
         if head is None:
-            raise Refused("line %d: no such descriptor: 0x%x" % (at, q0))
-        if len(self._heads) < CACHED:
-            self._heads[q0] = head
+            head = descriptors.decode(q0, 0)
+            if head is None:
+                raise Refused("line %d: no such descriptor: 0x%x" % (at, q0))
+            if len(self._heads) < CACHED:
+                self._heads[q0] = head
         place = place_of(pid, cpu, flags)
         stack = self._stacks.get(place)
         if not stack:
@@ -231,7 +233,7 @@ class Reading:
     def _syncs(self, where, pid, flags, rest, _name):
         place = place_of(pid, where[2], flags)
         self._settle(place, where)
-        self._context[place] = "dom", pointer("dom", rest, where[0])
+        self._context[place] = "dom", pointer("dom", fields(rest), where[0])
 
     def _cache_tag(self, where, pid, flags, rest, name):
         at, _, cpu = where
@@ -264,13 +266,14 @@ class Reading:
     # ---- processes
 
     def _binds(self, where, pid, flags, rest, _name):
-        space = pointer("mm", rest, where[0])
+        space = pointer("mm", fields(rest), where[0])
         self._context[place_of(pid, where[2], flags)] = "mm", space
         self._spaces[pid] = space
 
     def _set_up(self, where, pid, flags, rest, _name):
         at, _, cpu = where
-        device, pasid, did = pointer("dev", rest, at), field("pasid", rest, at), field("did", rest, at)
+        told = fields(rest)
+        device, pasid, did = pointer("dev", told, at), field("pasid", told, at), field("did", told, at)
         if pasid:
             sid, tag = self._assigned.get(place_of(pid, cpu, flags), (None, None))
             if tag == (did, pasid):
@@ -279,16 +282,18 @@ class Reading:
 
     def _notified(self, where, pid, flags, rest, _name):
         at, _, cpu = where
-        space, start, end = pointer("mm", rest, at), field("start", rest, at), field("end", rest, at)
+        told = fields(rest)
+        space, start, end = pointer("mm", told, at), field("start", told, at), field("end", told, at)
         self._context[place_of(pid, cpu, flags)] = "mm", space
         first, last = start >> PAGE, min(end + (1 << PAGE) - 1 >> PAGE, LAST_SPACE)
         self._add(where, "clear", space, first, max(1, last - first))
 
     def _of_device(self, where, rest, what):
         """An act of a PASID at a device; one that isn't known is nobody's."""
-        pasid = field("pasid", rest, where[0])
+        told = fields(rest)
+        pasid = field("pasid", told, where[0])
         if pasid:
-            device = pointer("dev", rest, where[0])
+            device = pointer("dev", told, where[0])
             if self._devices.get(device) is None:
                 self.note["tear-downs and drains of a device that is not known, left out"] += 1
             self._add(where, what, pasid, self._devices.get(device, -1))
@@ -300,10 +305,10 @@ class Reading:
         self._of_device(where, rest, "drain")
 
     def _pasid_free(self, where, _pid, _flags, rest, _name):
-        self._add(where, "pasidfree", field("pasid", rest, where[0]))
+        self._add(where, "pasidfree", field("pasid", fields(rest), where[0]))
 
     def _table_free(self, where, _pid, _flags, rest, _name):
-        self._add(where, "pgdfree", pointer("mm", rest, where[0]))
+        self._add(where, "pgdfree", pointer("mm", fields(rest), where[0]))
 
     def _marker(self, where, pid, _flags, rest, _name):
         if (found := FRAME.search(rest)) and pid in self._spaces:
@@ -324,12 +329,12 @@ class Reading:
         if pages:
             self._add(where, "clear", *pages)
 
-    def _chunk(self, where, place, rest, kind, prot):
+    def _chunk(self, at, place, told, kind):
         """A kernel cuts one mapping by sizes of pages: the first piece has its address. What is asked for is (domain,
-        prot, from, to)."""
-        domain, start = pointer("dom", rest, where[0]), field("iova", rest, where[0])
-        found = CHUNK.search(rest)
-        size = number(found[1], where[0]) * number(found[2], where[0]) if found else 0
+        r or w, from, to)."""
+        domain, start = pointer("dom", told, at), field("iova", told, at)
+        size = field("pgsz", told, at) * field("n", told, at) if "pgsz" in told and "n" in told else 0
+        prot = "w" if "prot" not in told or field("prot", told, at) & WRITE else "r"
         old = self._asked.get((place, kind))
         if kind == "unmap" and size:
             self._cleared[place] = domain, start >> PAGE, min(size >> PAGE, MOST_PAGES)
@@ -339,14 +344,12 @@ class Reading:
             self._asked[place, kind] = domain, prot, start, start + size
 
     def _to_map(self, where, pid, flags, rest, _name):
-        found = PROT.search(rest)
-        prot = "w" if not found or int(found[1], 16) & 2 else "r"
-        self._chunk(where, place_of(pid, where[2], flags), rest, "map", prot)
+        self._chunk(where[0], place_of(pid, where[2], flags), fields(rest), "map")
 
     def _to_unmap(self, where, pid, flags, rest, _name):
         place = place_of(pid, where[2], flags)
         self._settle(place, where)
-        self._chunk(where, place, rest, "unmap", "")
+        self._chunk(where[0], place, fields(rest), "unmap")
 
     def _pages_in(self, rest, at):
         found = RANGE.search(rest)
@@ -375,7 +378,7 @@ class Reading:
                 old.add(domain)
             elif old != domain:
                 there[page] = {old, domain}
-        frame = field("paddr", rest, at) >> PAGE
+        frame = field("paddr", fields(rest), at) >> PAGE
         self._blocks.update(range(frame >> FRAMES, (frame + end - first - 1 >> FRAMES) + 1))
         self._add(where, "map", domain, first, end - first, frame, asked[1])
 
@@ -409,13 +412,14 @@ class Reading:
         found = FREED.search(rest)
         if not found:
             raise Refused("line %d: pfn= and order= are wanted" % where[0])
-        if len(found[1]) > 13 or len(found[2]) > 2 or int(found[2]) > MOST_ORDER:
+        digits, order = found.groups()
+        if len(digits) > MOST_DIGITS or len(order) > 2 or int(order) > MOST_ORDER:
             raise Refused("line %d: no such pfn or order" % where[0])
-        frame, count = int(found[1], 16), 1 << int(found[2])
+        frame, count = int(digits, 16), 1 << int(order)
         self.acts += 1
         self.last = where
-        some = range(frame >> FRAMES, (frame + count - 1 >> FRAMES) + 1)
-        if self._is_whole or any(block in self._blocks for block in some):
+        first, last, known = frame >> FRAMES, frame + count - 1 >> FRAMES, self._blocks
+        if first in known or last > first and any(each in known for each in range(first, last + 1)) or self._is_whole:
             self.spool.add((*where, "free", frame, count))
 
     def _driver_has(self, where, _pid, _flags, rest, _name):

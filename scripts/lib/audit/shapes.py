@@ -59,6 +59,10 @@ class Found:
                     one.acts[-1] = where[0], "free 0", where[1], where[2], None
                     one.is_near, ended[2] = True, "given back"
 
+    def is_waiting(self):
+        """Whether a slice has ended just now."""
+        return bool(self._ended)
+
     def go_on(self, seconds):
         """The log is at this time: what ended too long before is taken."""
         ended = self._ended

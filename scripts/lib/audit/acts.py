@@ -6,15 +6,15 @@ An act is a tuple (line, seconds, CPU, kind, ..), with
     map      domain, page, count, frame, r or w     the pages from there on lead to the frames from there on
     clear    domain, page, count                    they lead nowhere
     domain   domain, DID, PASID                     by which its invalidations go
-    tag, untag   DID, PASID, SID                    the device has a device-TLB for these, or has it no more
+    tag, untag   DID, PASID, SID                    the device has a device-TLB for these, or no more
     submit   a Submission                           where the queue's tail is written
     done     its number                             its wait is done
     bind     SID or None, PASID, DID                the device may use the PASID
     gone     PASID, SID or -1                       the PASID's entry is cleared
     drain    PASID, SID or -1                       page requests were awaited
     stop, stopped    SID, PASID                     the device is to stop; it has
-    pasidfree, pgdfree, free, release               a PASID, a space, frames (from, count) are another owner's; pages of
-                                                    a device (SID, page, count) are their driver's again"""
+    pasidfree, pgdfree, free                        a PASID, a space, frames (from, count) are another owner's
+    release                                         pages (SID of a device, page, count) are their driver's again"""
 
 import marshal
 import tempfile
@@ -57,8 +57,8 @@ class Spool:
 
 
 def played(read):
-    """The acts of a log that was read, in order: each submission at its last descriptor, and none that has no end; each
-    domain by its name."""
+    """The acts of a log that was read, in order: each submission at its last descriptor, and none without an end;
+    each domain by its name."""
     opened = {}
     is_flushed = read.is_flushed()
     for act in read.spool:

@@ -1,5 +1,7 @@
-"""Slices of PASIDs, and of their tables: from where the PASID's entry goes at a device to where the PASID, or the space's
-memory, is given back."""
+"""Slices of PASIDs, and of their tables: from where the PASID's entry goes at a device to where the PASID, or the
+space's memory, is given back."""
+
+from .pages import MOST_ACTS
 
 STOPS = "stops of a PASID that its device's driver is taken to have awaited before the tear-down"
 
@@ -13,7 +15,8 @@ class Binding:
 
     def put(self, where, text, number=None):
         """An act more."""
-        self.acts.append((where[0], text, where[1], where[2], number))
+        if len(self.acts) < MOST_ACTS:
+            self.acts.append((where[0], text, where[1], where[2], number))
 
 
 class Bindings:
@@ -125,7 +128,7 @@ class Bindings:
         self.found.ended_pasid(kind, who, how, acts)
 
     def left(self, where):
-        """What is not given back before the log ends: judged as if it were, or noted. `where` is the log's last act."""
+        """What is not given back before the log ends is judged as if it were, or noted. `where` is the last act."""
         if self.as_if:
             for who in sorted(self.bound, key=str):
                 if self.bound[who].is_gone:

@@ -1,16 +1,16 @@
 """The command line of scripts/audit, and the way of a log through it."""
 
 import argparse
+import gc
 import os
 import sys
 
 from . import acts, judging, report
-from .bindings import Bindings
 from .lines import Refused
 from .notes import Notes
-from .pages import Pages
 from .reading import GIVEN_BACK, Reading
-from .shapes import SETTINGS, Found
+from .shapes import SETTINGS
+from .slicing import sliced
 
 ROOT = os.path.dirname(os.path.dirname(os.path.dirname(os.path.dirname(os.path.abspath(__file__)))))
 RANKS = (0, 5, 4, 1)  # statuses, the worst last
@@ -41,16 +41,17 @@ def microseconds(word):
 
 def options(words):
     """What the words of a command line say."""
-    reader = argparse.ArgumentParser(prog="audit", description="judges what a machine's trace says (docs/FORMAT.md, section 16)")
+    told = "judges what a machine's trace says (docs/FORMAT.md, section 16)"
+    reader = argparse.ArgumentParser(prog="audit", description=told)
     reader.add_argument("logs", nargs="+", metavar="LOG", help="what record-iommu wrote; - is standard input")
     reader.add_argument("--free-at", choices=list(GIVEN_BACK), default="free", help="when a frame is another owner's")
-    reader.add_argument("--as-if", action="store_true", help="a PASID that isn't given back is judged as if it were")
+    reader.add_argument("--as-if", action="store_true", help="judge a PASID that isn't given back as if it were")
     reader.add_argument("--no-stops", dest="stops", action="store_false", help="no stop is taken for awaited")
     reader.add_argument("--skew", type=microseconds, default=2 * MICROSECOND, metavar="US",
                         help="microseconds within which acts of two CPUs have no order (2)")
     reader.add_argument("--asks", type=count, default=3, help="translations that a device may ask for (3)")
     reader.add_argument("--uses", type=count, default=1, help="uses of them that it may begin (1)")
-    reader.add_argument("--most", type=count, default=200000, help="moments that are looked at for each shape (200000)")
+    reader.add_argument("--most", type=count, default=200000, help="moments that are looked at for a shape (200000)")
     reader.add_argument("--platform", metavar="FILE", help="a file of settings, in place of those of VT-d")
     reader.add_argument("--out", metavar="DIR", help="write each shape as a driver; of one log")
     reader.add_argument("--acts", action="store_true", help="print what was read, and judge nothing")
@@ -73,76 +74,6 @@ def read_log(stream, said, note):
     return read
 
 
-def sliced(read, said):
-    """The shapes of a log that was read."""
-    found = Found(said)
-    pages = Pages(read.facts, said, found, read.note)
-    bindings = Bindings(read.facts, said, found, read.note)
-    takes = takers(pages, bindings)
-    last, opened = read.last, {}
-    for act in acts.played(read):
-        where, kind = act[:3], act[3]
-        if found.is_waiting():
-            found.go_on(where[1])
-        if kind == "submit":
-            opened[act[4].number] = act[4].unit
-            pages.submitted(where, act[4])
-            bindings.submitted(where, act[4])
-        elif kind == "done":
-            numbers = done_by(act[4], opened)
-            pages.done(where, numbers)
-            bindings.done(where, numbers)
-        elif kind in takes:
-            takes[kind](where, *act[4:])
-    bindings.left(last)
-    found.go_on(None)
-    pages.left()
-    return found
-
-
-def done_by(number, opened):
-    """The submissions that are done when the wait of this one is: its own, and all that its unit was given before it.
-    They are taken out of those that are open, which has each one's unit, in the queue's order."""
-    if number not in opened:
-        return []
-    numbers = []
-    for each in list(opened):
-        if opened[each] == opened[number]:
-            numbers.append(each)
-        if each == number:
-            break
-    for each in numbers:
-        del opened[each]
-    return numbers
-
-
-def takers(pages, bindings):
-    """What takes an act, by its kind."""
-
-    def gone(where, pasid, sid):
-        pages.gone(where, pasid, sid, bindings.gone(where, pasid, sid))
-
-    def table_gone(where, name):
-        pages.table_gone(name)
-        bindings.table_gone(where, name)
-
-    return {
-        "map": pages.map,
-        "clear": pages.clear,
-        "free": pages.free,
-        "release": pages.release,
-        "tag": lambda _, did, pasid, sid: pages.lost[did, pasid].discard(sid),
-        "untag": lambda _, did, pasid, sid: pages.lost[did, pasid].add(sid),
-        "bind": bindings.bind,
-        "stop": lambda where, sid, pasid: bindings.stop(where, "stop 0 1", sid, pasid),
-        "stopped": lambda where, sid, pasid: bindings.stop(where, "await stopped 0 1", sid, pasid),
-        "gone": gone,
-        "drain": bindings.drain,
-        "pasidfree": bindings.pasid_gone,
-        "pgdfree": table_gone,
-    }
-
-
 def audit(name, stream, said, judge):
     """What is said of a log, and the status; with --out its shapes are written."""
     note = Notes()
@@ -158,19 +89,27 @@ def audit(name, stream, said, judge):
     return told, status
 
 
+def say(told):
+    """Prints lines, as long as somebody reads them."""
+    try:
+        for line in told:
+            print(line)
+        sys.stdout.flush()
+    except BrokenPipeError:
+        os.dup2(os.open(os.devnull, os.O_WRONLY), sys.stdout.fileno())
+
+
 def main(words):
     """Audits each log: the worst status, or 2 where a file can't be read, or 3 where nothing judges."""
+    gc.disable()  # acts are many and in no cycles
     try:
         said = options(words)
         judge, worst = judging.Judge(said.svahost, said.most), 0
         for log in said.logs:
             with sys.stdin.buffer if log == "-" else open(log, "rb") as stream:
                 told, status = audit(os.path.basename(log), stream, said, judge)
-            for line in told:
-                print(line)
+            say(told)
             worst = max(worst, status, key=RANKS.index)
-    except BrokenPipeError:
-        raise
     except OSError as error:
         print("audit: %s: %s" % (error.filename, error.strerror), file=sys.stderr)
         return 2

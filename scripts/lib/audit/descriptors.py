@@ -13,7 +13,7 @@ class Descriptor(NamedTuple):
     """What a descriptor says; what its kind hasn't is 0. It is of the 2^order pages from `first` on."""
 
     kind: str  # context, iotlb, devtlb, iec, wait, piotlb, entry, pdevtlb, response
-    scope: int  # the granularity: of iotlb 1 global, 2 domain, 3 page; of piotlb 2 PASID, 3 page; of entry 0 domain, 1 PASID, 3 global
+    scope: int  # of iotlb 1 global, 2 domain, 3 page; of piotlb 2 PASID, 3 page; of entry 0 domain, 1 PASID, 3 global
     did: int
     pasid: int
     sid: int  # bus, device and function of the device: 16 bits

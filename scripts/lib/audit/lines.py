@@ -45,7 +45,7 @@ def blocks(stream):
 
 
 def place_of(pid, cpu, flags):
-    """Where a line is from, within which lines follow one another: a task, but of task 0 each CPU, and its interrupts."""
+    """Where a line is from, within which lines follow one another: a task, of task 0 each CPU, and its interrupts."""
     third = flags[2:3]
     return pid, cpu if pid == "0" else "", third if third in INTERRUPTS else ""
 

@@ -1,12 +1,13 @@
-"""Slices of pages: all that touches one page at one device, from where it leads to a frame to where that is given back,
-or where the page is clean: cleared, and covered by invalidations of the unit and then of the device, submitted behind
-the clearing, that are done. There a `free` is put, so that `safe` says that nothing is left.
+"""Slices of pages: all that touches one page at one device, from where it leads to a frame to where that is given
+back, or where the page is clean: cleared, and covered by invalidations of the unit and then of the device, submitted
+behind the clearing, that are done. There a `free` is put, so that `safe` says that nothing is left.
 
 Left out is what only holds the device back: acts on other pages, invalidations from before the clearing."""
 
 import collections
 
 DONE = -1  # an invalidation that is done; else it has the number of its submission, or None where there is none
+MOST_ACTS = 256  # of a slice: a longer one is cut off
 FEW = 1 << 16  # from so many pages on those that are mapped are looked through
 
 
@@ -14,7 +15,9 @@ class Slice:
     """The acts on a page at a device, while it leads to one frame. An act is (line, text of a driver, seconds, CPU,
     submission): of `await` and `submit` the submission's number, else None."""
 
-    __slots__ = ("domain", "sid", "page", "frame", "acts", "is_near", "is_mapped", "unit", "device", "entry", "is_gone")
+    __slots__ = (
+        "domain", "sid", "page", "frame", "acts", "is_near", "is_mapped", "unit", "device", "entry", "is_gone"
+    )
 
     def __init__(self, domain, sid, page, frame):
         self.domain, self.sid, self.page, self.frame = domain, sid, page, frame
@@ -32,7 +35,8 @@ class Slice:
             last = self.acts[-1]
             if last[3] != act[3] and act[2] - last[2] < skew:
                 self.is_near = True
-        self.acts.append(act)
+        if len(self.acts) < MOST_ACTS:
+            self.acts.append(act)
 
     def cleared(self):
         """What was invalidated doesn't count any more."""

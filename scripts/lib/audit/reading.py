@@ -7,7 +7,8 @@ from array import array
 from . import descriptors
 from .acts import Spool
 from .facts import Facts
-from .lines import LINE, LOST, MAY_BE_LOST, SILENT, Refused, blocks, device_in, field, fields, number, place_of, pointer
+from .lines import LINE, LOST, MAY_BE_LOST, SILENT, Refused, blocks, device_in
+from .lines import field, fields, number, place_of, pointer
 
 PAGE = 12  # bits of an offset
 MOST_PAGES = 1 << 22  # of one event: each is taken by itself
@@ -65,7 +66,7 @@ class Reading:
         self._events, self._told, self._is_recorded, self._with_ats = 0, None, False, set()
         self._stacks = collections.defaultdict(list)  # place -> its open submissions: [number, descriptors, line]
         self._begun = set()
-        self._cleared, self._asked = {}, {}  # place -> pages whose clearing is told by its next line; what it is to map
+        self._cleared, self._asked = {}, {}  # place -> pages that are clear at its next line; what it is to map
         self._context, self._spaces, self._assigned = {}, {}, {}
         self._devices = {}  # pointer of a device -> SID
         self._where = {}  # page -> the domain, or the set of domains, that have it mapped
@@ -96,7 +97,8 @@ class Reading:
                     continue
                 seconds = float(time)
                 if seconds < last:
-                    raise Refused("line %d is earlier than the line above: sort by time, and record with one clock" % at)
+                    words = "line %d is earlier than the line above: sort by time, and record with one clock"
+                    raise Refused(words % at)
                 last = seconds
                 self._events += 1
                 handler = handlers[name]
@@ -324,7 +326,7 @@ class Reading:
     # ---- pages
 
     def _settle(self, place, where):
-        """A range of an unmapping is clear where its task comes to its next line: its flush may come before `unmap`."""
+        """A range of an unmapping is clear where its task comes to its next line: a flush may come before `unmap`."""
         pages = self._cleared.pop(place, None)
         if pages:
             self._add(where, "clear", *pages)
@@ -442,7 +444,8 @@ class Reading:
         if "flushed" in self._seen and "cache_tag_" not in self._seen:
             self.facts = self._flushed
             self.acts += self.facts.count
-            self.note["no cache tags in this kernel: the devices of a domain are taken from what is flushed with it"] = 1
+            words = "no cache tags in this kernel: the devices of a domain are taken from what is flushed with it"
+            self.note[words] = 1
         known = set().union(*self.facts.devices.values())
         for sid in sorted(self._with_ats - known):
             self.note["no cache tag of device 0x%x, which has ATS on: nothing of it is judged" % sid] = 1

@@ -41,8 +41,9 @@ class Row:
 
 def rows_of(found, judge):
     """The shapes with their verdicts, the worst first."""
-    said = judge.judge([shape.text for shape in found.shapes.values()])
-    return sorted((Row(shape, said[shape.text]) for shape in found.shapes.values()), key=Row.place)
+    shapes = found.shapes.values()
+    said = judge.judge([shape.text for shape in shapes if not shape.said])
+    return sorted((Row(shape, [shape.said] if shape.said else said[shape.text]) for shape in shapes), key=Row.place)
 
 
 def counts_of(rows):

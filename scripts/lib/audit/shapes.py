@@ -3,18 +3,21 @@ judged once. Each is endpoint 0, PASID 1, page 16, frame 0, space 0."""
 
 import collections
 
+from .pages import MOST_ACTS
+
 SETTINGS = ("link posted", "waits plain", "drain arrived", "caches on", "stopped status")
 PAGES = "config 1 %d 1\n%sdevice 0 %d asks %d uses pages 16"
 OTHERS = "config 1 %d 1\nworkers success\n%sdevice 0 1 asks 1 uses 1 faults pages 16"
+MOST_SHAPES = 4096
 BEGUN = ("entry 0 1 0", "start 0 1", "deliver start 0", "race")
 
 
 class Shape:
-    """Slices that are one driver: how many, and the first of them."""
+    """Slices that are one driver: how many, and the first of them. Where `said` is their verdict none is judged."""
 
-    def __init__(self, kind, how, text, line_of):
-        self.kind, self.how, self.text = kind, how, text
-        self.line_of = line_of  # line of the driver -> line of the log, or 0, of the first slice
+    def __init__(self, kind, how, said=None):
+        self.kind, self.how, self.said = kind, how, said
+        self.text, self.line_of = "", []  # the driver, and of each of its lines the log's line, or 0
         self.count, self.order, self.who, self.acts = 0, None, None, None
 
     def first_lines(self):
@@ -23,8 +26,8 @@ class Shape:
 
 
 class Found:
-    """All shapes. A clean slice is kept until the skew is over: a free of its frame by another CPU may have come before
-    its end."""
+    """All shapes. A clean slice is kept until the skew is over: a free of its frame by another CPU may have come
+    before its end."""
 
     def __init__(self, options):
         self.options = options
@@ -77,14 +80,21 @@ class Found:
 
     def _take(self, kind, how, who, acts, is_near, order):
         self.near += is_near
-        key = kind, how, is_near and driver(kind, acts, self.options, True)[0] or numbered(acts)
-        shape = self.shapes.get(key)
-        if shape is None:
-            shape = self.shapes[key] = Shape(kind, how, *driver(kind, acts, self.options, is_near))
+        if len(acts) > MOST_ACTS:
+            shape = self._shape((kind, "too long"), "cut off: more than %d acts" % MOST_ACTS)
+        else:
+            key = kind, how, is_near and driver(kind, acts, self.options, True)[0] or numbered(acts)
+            shape = self.shapes.get(key) or self._shape(key, None)
         shape.count += 1
         if shape.order is None or order < shape.order:
             shape.order, shape.who, shape.acts = order, who, acts
-            shape.line_of = driver(kind, acts, self.options, is_near)[1]
+            shape.text, shape.line_of = driver(kind, acts, self.options, is_near)
+
+    def _shape(self, key, said):
+        """The shape of this key; where there are too many, one for all that are further ones."""
+        if key not in self.shapes and len(self.shapes) >= MOST_SHAPES:
+            key, said = (key[0], "further ones"), "cut off: more than %d shapes" % MOST_SHAPES
+        return self.shapes.setdefault(key, Shape(key[0], key[1], said))
 
 
 def numbered(acts):
@@ -129,14 +139,16 @@ def driver(kind, acts, options, is_near):
     else:
         above = OTHERS % (frames, settings)
     text = above.split("\n") + head + list(BEGUN)
-    lines, line_of = by_threads(body, options.skew) if is_near else ([line for line, _ in body], [act[0] for _, act in body])
+    lines, line_of = [line for line, _ in body], [act[0] for _, act in body]
+    if is_near:
+        lines, line_of = by_threads(body, options.skew)
     return "\n".join(text + lines) + "\n", [0] * len(text) + line_of
 
 
 def by_threads(body, skew):
     """A thread for each CPU, in which an act awaits those of other CPUs that are earlier by the skew or more. So a
-    search takes each order that the log permits. A submission is awaited by the line behind it, as to await its own name
-    is to await its wait."""
+    search takes each order that the log permits. A submission is awaited by the line behind it, as to await its own
+    name is to await its wait."""
     text, line_of = [], []
     submitted = {line.split(":")[0]: at for at, (line, _) in enumerate(body) if ": submit" in line}
     cpus = list(dict.fromkeys(act[3] for _, act in body))

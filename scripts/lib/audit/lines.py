@@ -68,14 +68,17 @@ def fields(rest):
 
 def pointer(name, told, at):
     """The pointer NAME= of these fields of line `at`, as its text: it is a name and no more."""
-    if name not in told:
+    word = told.get(name, "")
+    if not word.startswith("0x"):
         raise Refused("line %d: %s= is missing" % (at, name))
-    return told[name]
+    return word
 
 
 def field(name, told, at):
     """The number NAME= of these fields of line `at`."""
-    return number(pointer(name, told, at), at)
+    if name not in told:
+        raise Refused("line %d: %s= is missing" % (at, name))
+    return number(told[name], at)
 
 
 def device_in(text):

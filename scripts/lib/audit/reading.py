@@ -336,6 +336,7 @@ class Reading:
         r or w, from, to)."""
         domain, start = pointer("dom", told, at), field("iova", told, at)
         size = field("pgsz", told, at) * field("n", told, at) if "pgsz" in told and "n" in told else 0
+        size = size if size >> PAGE else 0
         prot = "w" if "prot" not in told or field("prot", told, at) & WRITE else "r"
         old = self._asked.get((place, kind))
         if kind == "unmap" and size:

@@ -80,7 +80,7 @@ class Pages:
         self.skew = options.skew
         self.domains = {}
         self.lost = collections.defaultdict(set)  # tag -> devices that it has no more
-        self.of_frame = collections.defaultdict(dict)  # frame -> key -> slice
+        self.of_frame = {}  # frame -> its slices
         self.maybe_at = collections.defaultdict(set)  # frame -> (domain, page) that may be mapped there
         self.pending = {}  # number of a submission -> slices that it is in
 
@@ -99,7 +99,8 @@ class Pages:
 
     def _begun(self, domain, sid, page, frame):
         one = Slice(domain, sid, page, frame)
-        domain.slices[sid, page, frame] = self.of_frame[frame][one.key()] = one
+        domain.slices[sid, page, frame] = one
+        self.of_frame.setdefault(frame, []).append(one)
         return one
 
     def _clear(self, one, where, text="pte 0 16 none"):
@@ -119,7 +120,7 @@ class Pages:
         del one.domain.slices[one.sid, one.page, one.frame]
         self._clean_page(one)
         at_frame = self.of_frame[one.frame]
-        del at_frame[one.key()]
+        at_frame.remove(one)
         if not at_frame:
             del self.of_frame[one.frame]
         one.acts.append((where[0], "free 0", where[1], where[2], None))
@@ -296,8 +297,8 @@ class Pages:
         for each in some:
             for domain, page in list(self.maybe_at.pop(each, ())):
                 domain.maybe.pop(page, None)
-            for key in sorted(self.of_frame.get(each, ())):
-                self._given_back(self.of_frame[each][key], where)
+            for one in sorted(self.of_frame.get(each, ()), key=Slice.key):
+                self._given_back(one, where)
 
     def _given_back(self, one, where):
         last = one.acts[-1]

@@ -70,7 +70,7 @@ class Reading:
         self._context, self._spaces, self._assigned = {}, {}, {}
         self._devices = {}  # pointer of a device -> SID
         self._where = {}  # page -> the domain, or the set of domains, that have it mapped
-        self._blocks = set()
+        self._blocks, self._unassigned = set(), False
         self._heads, self._tags = {}, {}
 
     def is_flushed(self):
@@ -160,10 +160,12 @@ class Reading:
         elif text == "# svahost: record 2":
             self._is_recorded = True
 
-    def _add(self, where, *what):
+    def _add(self, where, is_needed, *what):
+        """Counts an act, and keeps it where it is needed, or all are."""
         self.acts += 1
         self.last = where
-        self.spool.add((*where, *what))
+        if is_needed or self._is_whole:
+            self.spool.add((*where, *what))
 
     # ---- submissions
 
@@ -209,7 +211,7 @@ class Reading:
     def _learn(self, where, place, head):
         """What an invalidation says of the domain whose flush it is in."""
         what, address = self._context.get(place, ("", ""))
-        if what != "dom" or head.kind not in ("iotlb", "devtlb"):
+        if "cache_tag_" in self._seen or what != "dom" or head.kind not in ("iotlb", "devtlb"):
             return
         self._seen.add("flushed")
         if head.kind == "iotlb" and head.scope > 1:
@@ -228,7 +230,7 @@ class Reading:
             if length:
                 self.lengths[serial] = length
                 self.acts += 1
-                self._add(where, "done", serial)
+                self._add(where, True, "done", serial)
 
     # ---- what domains are
 
@@ -254,14 +256,17 @@ class Reading:
                 self._tags[head] = known
         tag, sid = known
         if sid is not None:
-            if "unassign" not in name:
+            is_new = "unassign" not in name
+            if is_new:
                 self.facts.device(tag, sid)
-            self._add(where, "untag" if "unassign" in name else "tag", *tag, sid)
+            # (where nothing was ever unassigned a tag says nothing new)
+            self._unassigned |= not is_new or tag[1] != 0
+            self._add(where, self._unassigned, "tag" if is_new else "untag", *tag, sid)
         what, address = self._context.get(place, ("", ""))
         is_assigned = name == "cache_tag_assign" and tag[1]
         if what and ("flush" in name or is_assigned and what == "mm"):
             self.facts.domain(at, address, tag)
-            self._add(where, "domain", address, *tag)
+            self._add(where, False, "domain", address, *tag)
         if is_assigned and sid is not None:
             self._assigned[place] = sid, tag
 
@@ -280,7 +285,7 @@ class Reading:
             sid, tag = self._assigned.get(place_of(pid, cpu, flags), (None, None))
             if tag == (did, pasid):
                 self._devices[device] = sid
-            self._add(where, "bind", self._devices.get(device), pasid, did)
+            self._add(where, True, "bind", self._devices.get(device), pasid, did)
 
     def _notified(self, where, pid, flags, rest, _name):
         at, _, cpu = where
@@ -288,7 +293,7 @@ class Reading:
         space, start, end = pointer("mm", told, at), field("start", told, at), field("end", told, at)
         self._context[place_of(pid, cpu, flags)] = "mm", space
         first, last = start >> PAGE, min(end + (1 << PAGE) - 1 >> PAGE, LAST_SPACE)
-        self._add(where, "clear", space, first, max(1, last - first))
+        self._add(where, True, "clear", space, first, max(1, last - first))
 
     def _of_device(self, where, rest, what):
         """An act of a PASID at a device; one that isn't known is nobody's."""
@@ -298,7 +303,7 @@ class Reading:
             device = pointer("dev", told, where[0])
             if self._devices.get(device) is None:
                 self.note["tear-downs and drains of a device that is not known, left out"] += 1
-            self._add(where, what, pasid, self._devices.get(device, -1))
+            self._add(where, True, what, pasid, self._devices.get(device, -1))
 
     def _torn_down(self, where, _pid, _flags, rest, _name):
         self._of_device(where, rest, "gone")
@@ -307,18 +312,18 @@ class Reading:
         self._of_device(where, rest, "drain")
 
     def _pasid_free(self, where, _pid, _flags, rest, _name):
-        self._add(where, "pasidfree", field("pasid", fields(rest), where[0]))
+        self._add(where, True, "pasidfree", field("pasid", fields(rest), where[0]))
 
     def _table_free(self, where, _pid, _flags, rest, _name):
-        self._add(where, "pgdfree", pointer("mm", fields(rest), where[0]))
+        self._add(where, True, "pgdfree", pointer("mm", fields(rest), where[0]))
 
     def _marker(self, where, pid, _flags, rest, _name):
         if (found := FRAME.search(rest)) and pid in self._spaces:
             frame = int(found[2], 16)
             self._blocks.add(frame >> FRAMES)
-            self._add(where, "map", self._spaces[pid], int(found[1], 16) >> PAGE, 1, frame, "w")
+            self._add(where, True, "map", self._spaces[pid], int(found[1], 16) >> PAGE, 1, frame, "w")
         if found := STOP.match(rest):
-            self._add(where, found[1], int(found[2], 16), int(found[3]))
+            self._add(where, True, found[1], int(found[2], 16), int(found[3]))
 
     def _page_request(self, _where, _pid, _flags, _rest, _name):
         self.note["page requests, left out: the search makes them"] += 1
@@ -329,7 +334,7 @@ class Reading:
         """A range of an unmapping is clear where its task comes to its next line: a flush may come before `unmap`."""
         pages = self._cleared.pop(place, None)
         if pages:
-            self._add(where, "clear", *pages)
+            self._add(where, True, "clear", *pages)
 
     def _chunk(self, at, place, told, kind):
         """A kernel cuts one mapping by sizes of pages: the first piece has its address. What is asked for is (domain,
@@ -383,7 +388,7 @@ class Reading:
                 there[page] = {old, domain}
         frame = field("paddr", fields(rest), at) >> PAGE
         self._blocks.update(range(frame >> FRAMES, (frame + end - first - 1 >> FRAMES) + 1))
-        self._add(where, "map", domain, first, end - first, frame, asked[1])
+        self._add(where, True, "map", domain, first, end - first, frame, asked[1])
 
     def _unmap(self, where, pid, flags, rest, _name):
         at, _, cpu = where
@@ -399,7 +404,7 @@ class Reading:
             if old == domain or old == set():
                 del self._where[page]
         if not asked or asked[3] == asked[2]:
-            self._add(where, "clear", domain, first, end - first)
+            self._add(where, True, "clear", domain, first, end - first)
 
     def _only(self, page, at):
         """The one domain that has this page mapped: of an unmapping whose probe was missed."""
@@ -431,7 +436,7 @@ class Reading:
         if sid is not None and found:
             start = int(found[1], 16)
             count = (start + int(found[2]) - 1 >> PAGE) - (start >> PAGE) + 1
-            self._add(where, "release", sid, start >> PAGE, min(max(count, 1), MOST_PAGES))
+            self._add(where, True, "release", sid, start >> PAGE, min(max(count, 1), MOST_PAGES))
         else:
             self.note["unmappings of a driver without dma_addr= and size=, left out"] += 1
 

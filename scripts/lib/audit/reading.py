@@ -83,7 +83,7 @@ class Reading:
 
     def take(self, stream):
         """Reads a whole log, a stream of bytes."""
-        handlers, last, at, is_read = self._handlers(), 0.0, 0, False
+        handlers, last, at = self._handlers(), 0.0, 0
         for block in blocks(stream):
             if not block.endswith("\n"):
                 raise Refused("line %d has no end: the log is cut off" % (at + 1 + block.count("\n")))

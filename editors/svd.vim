@@ -9,18 +9,27 @@ syntax iskeyword @,48-57,-,_
 
 " a line is [NAME:] ACT, a setting, or what begins another line; a comment begins a word
 syntax match svdComment /\%(^\|\s\)\@1<=#.*$/
-syntax match svdName /^\s*\zs\l[[:alnum:]-]*:\ze\s/
-syntax match svdAct /\%(^\s*\|^\s*\l[[:alnum:]-]*:\s\+\)\@<=\%(pte\|entry\|start\|stop\|reset\|submit\|await\|serve\|respond\|close\|open\|free\|freeze\|lock\|unlock\|ask\|use\|end\|evict\|fault\|finish\|quit\|pump\|deliver\|forget\)\ze\%(\s\|$\)/
-syntax match svdLine /^\s*\zs\%(config\|race\|thread\|workers\|device\|platform\|link\|waits\|drain\|caches\|stopped\)\ze\%(\s\|$\)/
-syntax match svdWord /\%(^\s*\%(platform\|link\|waits\|drain\|caches\|stopped\)\s\+\)\@<=\%(vt-d\|free\|posted\|fence\|plain\|empty\|arrived\|off\|on\|marker\|status\|known\)\ze\%(\s\|$\)/
-syntax match svdWord /\%(^\s*device\s.*\)\@<=\<\%(asks\|uses\|faults\|evicts\|silent\|lies\|awaits\|pages\)\ze\%(\s\|$\)/
-syntax match svdWord /\%(\s\)\@1<=\%(r\|w\|rw\|none\|new\|more\|last\|success\|invalid\|failure\)\ze\%(\s\|$\)/
+syntax match svdName /^\s*\zs\l[[:alnum:]_-]*:\ze\s/
+" by scripts/words --write: act
+syntax match svdAct /\%(^\s*\|^\s*\l[[:alnum:]_-]*:\s\+\)\@<=\%(pte\|entry\|replace\|start\|stop\|reset\|submit\|await\|free\|freeze\|serve\|respond\|discard\|close\|open\|skip\|lock\|unlock\|mark\|deliver\|pump\|write\|forget\|end\|finish\|quit\|fault\|ask\|use\|evict\)\ze\%(\s\|$\)/
+" by scripts/words --write: heading/d + setting
+syntax match svdLine /^\s*\zs\%(config\|race\|thread\|workers\|device\|platform\|link\|waits\|drain\|caches\|stopped\|refuses\|allow\)\ze\%(\s\|$\)/
+" by scripts/words --write: setting | setting.*
+syntax match svdWord /\%(^\s*\%(platform\|link\|waits\|drain\|caches\|stopped\|refuses\|allow\)\s\+\)\@<=\%(free\|vt-d\|posted\|fence\|plain\|empty\|arrived\|off\|on\|marker\|status\|known\|drain\|no-group\)\ze\%(\s\|$\)/
+" by scripts/words --write: part/d
+syntax match svdWord /\%(^\s*device\s.*\)\@<=\<\%(asks\|uses\|faults\|evicts\|pages\|silent\|lies\|awaits\)\ze\%(\s\|$\)/
+" by scripts/words --write: act.pte + act.fault + place.CODE
+syntax match svdWord /\%(\s\)\@1<=\%(r\|w\|none\|rw\|new\|more\|last\|success\|invalid\|failure\)\ze\%(\s\|$\)/
 " descriptors, what is awaited, and what is freed
+" by scripts/words --write: descriptor + descriptor.wait
 syntax match svdKind /\%(\<submit\s.*\)\@<=\<\%(range\|pasid\|iotlb\|entry\|wait\|drain\|fence\)\ze\%(\s\|$\)/
+" by scripts/words --write: act.await
 syntax match svdKind /\%(\<await\s\+\)\@20<=\%(wait\|stopped\|queue\|groups\|reset\)\ze\s/
-syntax match svdKind /\%(\<free\s\+\)\@20<=\%(pasid\|space\)\ze\s/
-syntax match svdKind /\%(\<deliver\s\+\)\@20<=\%(start\|stop\|reset\|reset-done\|completion\|invalidate\|invalidated\|response\|request\|page-request\|marker\|status\)\ze\s/
-syntax match svdNumber /\%(\s\)\@1<=\%(0\|[1-9]\d*\)\ze\%(\s\|$\)/
+" by scripts/words --write: act.free
+syntax match svdKind /\%(\<free\s\+\)\@20<=\%(pasid\|space\|domain\)\ze\s/
+" by scripts/words --write: kind/d
+syntax match svdKind /\%(\<deliver\s\+\)\@20<=\%(start\|stop\|reset\|completion\|invalidate\|response\|request\|invalidated\|page-request\|marker\|status\|reset-done\)\ze\s/
+syntax match svdNumber /\%(\s\)\@1<=\%(0\|[1-9]\d*\|0x\x\{1,16}\)\ze\%(\s\|$\)/
 syntax match svdPlus /\%(\s\)\@1<=+\ze\s/
 
 highlight default link svdComment Comment

@@ -9,7 +9,7 @@ import collections
 import contextlib
 import sys
 
-MOST_OF_PLANTED = 1500
+MOST_OF_PLANTED = 4000
 
 
 class Reading:

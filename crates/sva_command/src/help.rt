@@ -261,29 +261,37 @@ An endpoint's steps, under a PASID P:
                            completions
     quit E P               the PASID isn't used any more
 
-The acts of a driver. S is any space, 0 to 63, P a PASID, 1 to 32, I a group's index:
+The acts of a driver. S is any space, 0 to 63, I a group's index, P a PASID, 1 to 32, or 0 for requests
+without a PASID; pages may be hexadecimal:
 
     pte S PAGE F w         the page leads to the frame; `r`: only to read; `none` for F w: it goes
     entry E P S            the PASID table entry leads to the space; `none` for S: it goes
+    replace E P S          it leads there for the owner that P has: a new table in place of the old
     start E P              the device may use the PASID
     stop E P               it is to stop; `await stopped E P`: it has said that it did
     submit E D [+ D ..]    descriptors are queued: `range P PAGE K`, `pasid P`, `iotlb P [PAGE K]`,
                            `entry P`, `wait [drain] [fence]`
     await wait E           the last wait that this thread submitted is done; of one line `await NAME`
     await queue E [P]      no page request stands in the queue
-    await groups E P       each group that was filed is answered
+    await groups E [P]     each whole group that was filed is answered
     serve E                the oldest page request is filed
-    respond E P I success  a group is answered; or `invalid`, or `failure`
-    free F                 the frame has another owner; `free pasid P E`, `free space S`
+    respond E P I success  a group is answered; or `invalid`, or `failure`; `respond all E [P] success`:
+                           each whole one that was filed is; `discard E [P]` drops the others
+    free F                 the frame has another owner; `free pasid P E`, `free space S`, and
+                           `free domain S`, by which workers serve the space's groups
     freeze F               nobody may write the frame any more
     reset E                the device is reset; `await reset E`
     close E, open E        the unit is closed, and is open again
+    skip E                 the head of the invalidation queue is taken out, whatever it is
     lock L, unlock L       a lock that threads share
+    mark                   nothing; as `NAME: mark` another thread awaits it by `await NAME`
 
 Settings stand above the first act: `link free` or `posted`, `waits fence` or `plain`, `drain empty` or
 `arrived`, `caches off` or `on`, `stopped marker`, `status` or `known`; and before these `platform vt-d`,
-which is `link posted`, `waits plain`, `drain arrived` and `caches on`, or `platform free`. Threads,
-workers and devices are as in a race.
+which is `link posted`, `waits plain`, `drain arrived` and `caches on`, or `platform free`. By `refuses
+drain` the unit takes no wait with `drain`, and by `allow no-group` a response that finds no group is no
+finding. Threads, workers and devices are as in a race. A unit, as a link or a device, acts by itself:
+`pump E`; `write E`, the oldest page request that it has received comes into the queue; `forget E P`.
 
 These steps send a message, and no others. Behind it stands what its delivery is answered:
 

@@ -51,6 +51,7 @@ begun_text endpoint pasid page write last =
 abbrev pub local_text : Part → (endpoint : ℕ) → LocalAct → List ℕ
 local_text part endpoint (local.Deliver place) = delivered_text part endpoint place (slice_get part.flight place)
 local_text part endpoint local.Pump = with_endpoint (codes "pump") endpoint
+local_text part endpoint local.Write = with_endpoint (codes "write") endpoint
 local_text part endpoint local.Serve = with_endpoint (codes "serve") endpoint
 local_text part endpoint (local.Respond pasid index fails) = response_text endpoint pasid index fails
 local_text part endpoint (local.End place) =

@@ -14,6 +14,7 @@ thing_text thing.Request = codes "request that is out"
 thing_text thing.Start = codes "start in flight"
 thing_text thing.Stop = codes "stop in flight"
 thing_text thing.PageRequest = codes "page request in flight"
+thing_text thing.Received = codes "page request that the unit has received"
 thing_text thing.Queued = codes "page request in the queue"
 thing_text thing.Marker = codes "marker in flight"
 thing_text thing.Status = codes "status in flight"
@@ -21,6 +22,7 @@ thing_text thing.Answer = codes "answer to a stop"
 thing_text thing.Entry = codes "entry"
 thing_text thing.KeptEntry = codes "kept entry"
 thing_text thing.Kept = codes "kept translation"
+thing_text thing.Filed = codes "filed group"
 
 -- what leads to a frame
 abbrev pub leads_text : Thing → (page pasid : ℕ) → List ℕ
@@ -45,6 +47,11 @@ abbrev pub walks_text : (endpoint space : ℕ) → (kept : Bool) → (pasid : �
 walks_text endpoint space kept pasid =
     with_endpoint (codes "unit") endpoint ++ codes " may still walk the table of space" ++ and_number space
     ++ codes ", whose memory has another owner: " ++ entry_text kept ++ and_number pasid
+
+abbrev pub serves_text : (endpoint space pasid : ℕ) → List ℕ
+serves_text endpoint space pasid =
+    codes "a worker may still serve a group of endpoint" ++ and_number endpoint ++ codes " by the domain of space" ++ and_number space
+    ++ codes ", which was freed: a filed group of PASID" ++ and_number pasid
 
 abbrev pub frame_text : (endpoint : ℕ) → (may frame_is : List ℕ) → (frame : ℕ) → Thing → (page pasid : ℕ) → List ℕ
 frame_text endpoint may frame_is frame what page pasid =
@@ -76,6 +83,7 @@ wrong_text (wrong.Frozen endpoint frame what page pasid) =
 wrong_text (wrong.Left endpoint what pasid) = left_text endpoint what pasid
 wrong_text (wrong.Goes endpoint pasid) = goes_text endpoint pasid
 wrong_text (wrong.Walks endpoint space kept pasid) = walks_text endpoint space kept pasid
+wrong_text (wrong.Serves endpoint space pasid) = serves_text endpoint space pasid
 wrong_text (wrong.NoGroup endpoint index) = response_text endpoint index (codes "no group") (codes "")
 wrong_text (wrong.OtherGroup endpoint index) = response_text endpoint index (codes "another group") (codes " than its own")
 wrong_text (wrong.Unfinished endpoint index) = response_text endpoint index (codes "group") (codes " unfinished")

@@ -5,3 +5,4 @@ pub mod Nevers
 pub mod Reports
 pub mod Witness
 pub mod Judged
+pub mod Witnesses

@@ -17,6 +17,7 @@ use Rattle.sva_judge.specs.declared.choices.Doing.TheVariants as doing
 use Rattle.sva_open.specs.declared.drivers.Line.{Line}
 use Rattle.sva_open.specs.declared.drivers.Saying.{Saying}
 use Rattle.sva_open.specs.declared.drivers.Saying.TheVariants as saying
+use Rattle.sva_open.specs.declared.drivers.Workers.{Workers}
 use Rattle.sva_judge.specs.Choices.{act_of, next_in}
 use Rattle.sva_judge.specs.Spots.{Spot}
 use Rattle.sva_driver_texts.specs.declared.kept.Said.{Said}
@@ -66,6 +67,7 @@ abbrev pub who_text : Doing → (at : ℕ) → List ℕ
 who_text doing.Line at = []
 who_text doing.Deliver at = codes "link"
 who_text doing.Pump at = with_endpoint (codes "unit") at
+who_text doing.Write at = with_endpoint (codes "unit") at
 who_text doing.ForgetEntry at = with_endpoint (codes "unit") at
 who_text doing.Forget at = with_endpoint (codes "unit") at
 who_text doing.Serve at = codes "worker"
@@ -151,14 +153,30 @@ abbrev pub said_if : Bool → List ℕ → List ℕ
 said_if true text = text
 said_if false text = []
 
--- the settings that aren't those that hold where nothing is said
-abbrev pub settings_text : Settings → List ℕ
-settings_text settings =
+-- the settings of a pair that aren't those that hold where nothing is said
+abbrev pub pairs_text : Settings → List ℕ
+pairs_text settings =
     link_text settings.link
     ++ said_if (not settings.all_fence) (codes "waits plain\n")
     ++ said_if (not settings.drain_empties) (codes "drain arrived\n")
     ++ said_if settings.has_caches (codes "caches on\n")
     ++ stopped_text settings.stopped
+
+-- the settings that are no pair, where they hold
+abbrev pub unpaired_text : Settings → List ℕ
+unpaired_text settings =
+    said_if settings.refuses_drain (codes "refuses drain\n") ++ said_if settings.allows_no_group (codes "allow no-group\n")
+
+abbrev pub settings_text : Settings → List ℕ
+settings_text settings = pairs_text settings ++ unpaired_text settings
+
+-- the line that says how workers answer, where there are any
+abbrev pub workers_line : Workers → List ℕ
+workers_line workers =
+    codes "workers" ++ said_if workers.answer (codes " success") ++ said_if workers.fail (codes " failure") ++ codes "\n"
+
+abbrev pub workers_text : Workers → List ℕ
+workers_text workers = said_if workers.are_there (workers_line workers)
 
 -- the line that says what an endpoint is like
 abbrev pub conduct_line : (endpoint : ℕ) → Part → List ℕ
@@ -190,5 +208,5 @@ config_text config = codes "config" ++ and_number config.endpoints ++ and_number
 
 abbrev pub front_text : Text → List ℕ
 front_text text =
-    config_text text.config ++ settings_text text.driver.start.settings ++ conducts_from 0 text.driver.start.parts
-    ++ befores text text.before ++ codes "# race\n"
+    config_text text.config ++ settings_text text.driver.start.settings ++ workers_text text.driver.workers
+    ++ conducts_from 0 text.driver.start.parts ++ befores text text.before ++ codes "# race\n"

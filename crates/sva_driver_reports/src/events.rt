@@ -196,6 +196,7 @@ pub(crate) fn put_act(
     match act {
         LocalAct::Deliver { place } => put_delivered(out, part, endpoint, *place),
         LocalAct::Pump => put_endpoint(out, b"pump", endpoint),
+        LocalAct::Write => put_endpoint(out, b"write", endpoint),
         LocalAct::Serve => put_endpoint(out, b"serve", endpoint),
         LocalAct::Respond {
             pasid,
@@ -229,6 +230,7 @@ pub(crate) fn put_act(
         LocalAct::ForgetEntry { place } => put_entry_forgotten(out, part, endpoint, *place),
         LocalAct::Forget { place } => put_page_forgotten(out, part, endpoint, *place),
         LocalAct::SetEntry { .. }
+        | LocalAct::Replace { .. }
         | LocalAct::ClearEntry { .. }
         | LocalAct::Start { .. }
         | LocalAct::Stop { .. }
@@ -236,12 +238,15 @@ pub(crate) fn put_act(
         | LocalAct::Submit { .. }
         | LocalAct::Close
         | LocalAct::Reopen
+        | LocalAct::Skip
         | LocalAct::AwaitWait { .. }
         | LocalAct::AwaitStopped { .. }
         | LocalAct::AwaitQueue
         | LocalAct::AwaitQueueOf { .. }
         | LocalAct::AwaitGroups { .. }
         | LocalAct::AwaitResets
+        | LocalAct::RespondAll { .. }
+        | LocalAct::Discard { .. }
         | LocalAct::FreePasid { .. } => Ok(()),
     }
 }

@@ -18,6 +18,7 @@ fn thing_text(thing: Thing) -> &'static str
         Thing::Start => "start in flight",
         Thing::Stop => "stop in flight",
         Thing::PageRequest => "page request in flight",
+        Thing::Received => "page request that the unit has received",
         Thing::Queued => "page request in the queue",
         Thing::Marker => "marker in flight",
         Thing::Status => "status in flight",
@@ -25,6 +26,7 @@ fn thing_text(thing: Thing) -> &'static str
         Thing::Entry => "entry",
         Thing::KeptEntry => "kept entry",
         Thing::Kept => "kept translation",
+        Thing::Filed => "filed group",
     }
 }
 
@@ -117,6 +119,22 @@ fn put_walks(
     put_one(out, space)?;
     out.extend_from_slice(b", whose memory has another owner: ")?;
     out.extend_from_slice(entry_text(kept).as_bytes())?;
+    put_one(out, pasid as u64)
+}
+
+fn put_serves(
+    out: &mut Vec<u8>,
+    endpoint: usize,
+    space: u64,
+    pasid: usize,
+) -> Result<(), AllocError>
+    ensures { OnOk result (out.new.items ≡ out.old.items ++ findings.serves_text endpoint space pasid) }
+{
+    out.extend_from_slice(b"a worker may still serve a group of endpoint")?;
+    put_one(out, endpoint as u64)?;
+    out.extend_from_slice(b" by the domain of space")?;
+    put_one(out, space)?;
+    out.extend_from_slice(b", which was freed: a filed group of PASID")?;
     put_one(out, pasid as u64)
 }
 
@@ -213,6 +231,11 @@ pub fn put_wrong(out: &mut Vec<u8>, wrong: Wrong) -> Result<(), AllocError>
             kept,
             pasid,
         } => put_walks(out, endpoint, space, kept, pasid),
+        Wrong::Serves {
+            endpoint,
+            space,
+            pasid,
+        } => put_serves(out, endpoint, space, pasid),
         Wrong::NoGroup { endpoint, index } => put_response(out, endpoint, index, b"no group", b""),
         Wrong::OtherGroup { endpoint, index } => put_response(
             out,

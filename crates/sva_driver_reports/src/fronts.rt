@@ -1,4 +1,5 @@
-//! The front of a witness: its config, its settings, what endpoints are like, and the lines before `race`.
+//! The front of a witness: its config, its settings, how workers answer, what endpoints are like, and the lines before
+//! `race`.
 
 ghost use Rattle.std.specs.Prelude.{◌≡◌, ◌++◌, OnOk, Some, slice_get};
 ghost use Rattle.sva_driver_reports.specs.Witness as witness;
@@ -7,7 +8,7 @@ use crate::witness::{put_line_who, waits};
 use std::alloc::AllocError;
 use sva_driver_texts::{Said, Text};
 use sva_driver_words::{put_endpoint, put_one};
-use sva_open::{Line, Link, Part, Settings, Stopped};
+use sva_open::{Line, Link, Part, Settings, Stopped, Workers};
 use sva_step::Config;
 
 /// Appends a text, where it is so.
@@ -39,15 +40,54 @@ fn stopped_text(stopped: Stopped) -> &'static str
     }
 }
 
-/// Appends the settings that aren't those that hold where nothing is said.
-fn put_settings(out: &mut Vec<u8>, settings: &Settings) -> Result<(), AllocError>
-    ensures { OnOk result (out.new.items ≡ out.old.items ++ witness.settings_text settings.now) }
+/// Appends the settings of a pair that aren't those that hold where nothing is said.
+fn put_pairs(out: &mut Vec<u8>, settings: &Settings) -> Result<(), AllocError>
+    ensures { OnOk result (out.new.items ≡ out.old.items ++ witness.pairs_text settings.now) }
 {
     out.extend_from_slice(link_text(settings.link).as_bytes())?;
     put_if(out, !settings.all_fence, b"waits plain\n")?;
     put_if(out, !settings.drain_empties, b"drain arrived\n")?;
     put_if(out, settings.has_caches, b"caches on\n")?;
     out.extend_from_slice(stopped_text(settings.stopped).as_bytes())?;
+    Ok(())
+}
+
+/// Appends the settings that are no pair, where they hold.
+fn put_unpaired(out: &mut Vec<u8>, settings: &Settings) -> Result<(), AllocError>
+    ensures { OnOk result (out.new.items ≡ out.old.items ++ witness.unpaired_text settings.now) }
+{
+    put_if(out, settings.refuses_drain, b"refuses drain\n")?;
+    put_if(out, settings.allows_no_group, b"allow no-group\n")?;
+    Ok(())
+}
+
+/// Appends the settings that aren't those that hold where nothing is said.
+fn put_settings(out: &mut Vec<u8>, settings: &Settings) -> Result<(), AllocError>
+    ensures { OnOk result (out.new.items ≡ out.old.items ++ witness.settings_text settings.now) }
+{
+    put_pairs(out, settings)?;
+    put_unpaired(out, settings)?;
+    Ok(())
+}
+
+/// Appends the line that says how workers answer.
+fn put_workers_line(out: &mut Vec<u8>, workers: Workers) -> Result<(), AllocError>
+    ensures { OnOk result (out.new.items ≡ out.old.items ++ witness.workers_line workers) }
+{
+    out.extend_from_slice(b"workers")?;
+    put_if(out, workers.answer, b" success")?;
+    put_if(out, workers.fail, b" failure")?;
+    out.extend_from_slice(b"\n")?;
+    Ok(())
+}
+
+/// Appends how workers answer, where there are any.
+fn put_workers(out: &mut Vec<u8>, workers: Workers) -> Result<(), AllocError>
+    ensures { OnOk result (out.new.items ≡ out.old.items ++ witness.workers_text workers) }
+{
+    if workers.are_there {
+        return put_workers_line(out, workers);
+    }
     Ok(())
 }
 
@@ -136,6 +176,7 @@ pub(crate) fn put_front(out: &mut Vec<u8>, text: &Text) -> Result<(), AllocError
 {
     put_config(out, &text.config)?;
     put_settings(out, &text.driver.start.settings)?;
+    put_workers(out, text.driver.workers)?;
     put_conducts(out, text.driver.start.parts.as_slice())?;
     put_befores(out, text)?;
     out.extend_from_slice(b"# race\n")

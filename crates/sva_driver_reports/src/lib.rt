@@ -7,6 +7,7 @@ mod events;
 mod findings;
 mod fronts;
 mod judging;
+mod laws;
 mod limits;
 mod nevers;
 mod notes;
@@ -15,4 +16,5 @@ mod witness;
 
 pub use driving::{judge, run};
 pub use judging::{judge_text, run_text};
+pub use laws::witnesses_are_told;
 pub use reports::Ruling;

@@ -98,11 +98,13 @@ fn does(endpoint: usize, fact: Fact, saying: &Saying) -> bool
     match saying {
         Saying::Does { act } => match act {
             Act::At { endpoint: own, act } => *own == endpoint && is_act_of(fact, act),
-            Act::SetPage { .. }
+            Act::Mark
+            | Act::SetPage { .. }
             | Act::ClearPage { .. }
             | Act::FreeFrame { .. }
             | Act::Freeze { .. }
-            | Act::FreeSpace { .. } => false,
+            | Act::FreeSpace { .. }
+            | Act::FreeDomain { .. } => false,
         },
         Saying::Names {
             endpoint: own,

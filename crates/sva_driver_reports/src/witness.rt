@@ -57,11 +57,13 @@ pub(crate) fn waits(saying: &Saying) -> bool
         Saying::AwaitsLine { .. } | Saying::AwaitsWaits { .. } => true,
         Saying::Does { act } => match act {
             Act::At { act, .. } => is_wait(act),
-            Act::SetPage { .. }
+            Act::Mark
+            | Act::SetPage { .. }
             | Act::ClearPage { .. }
             | Act::FreeFrame { .. }
             | Act::Freeze { .. }
-            | Act::FreeSpace { .. } => false,
+            | Act::FreeSpace { .. }
+            | Act::FreeDomain { .. } => false,
         },
         Saying::Names { .. } | Saying::Locks { .. } | Saying::Unlocks { .. } => false,
     }
@@ -123,7 +125,9 @@ fn put_who(out: &mut Vec<u8>, doing: Doing, at: usize) -> Result<(), AllocError>
     match doing {
         Doing::Line => Ok(()),
         Doing::Deliver => out.extend_from_slice(b"link"),
-        Doing::Pump | Doing::ForgetEntry | Doing::Forget => put_endpoint(out, b"unit", at),
+        Doing::Pump | Doing::Write | Doing::ForgetEntry | Doing::Forget => put_endpoint(
+            out, b"unit", at,
+        ),
         Doing::Serve | Doing::Answer | Doing::Fail => out.extend_from_slice(b"worker"),
         Doing::End
         | Doing::Finish

@@ -17,10 +17,19 @@ use Rattle.sva_driver_words.specs.declared.faults.DriverWanted.TheVariants as wa
 use Rattle.sva_driver_words.specs.declared.faults.DriverStop.{DriverStop}
 use Rattle.sva_driver_words.specs.declared.faults.DriverWrong.{DriverWrong}
 
--- ---- Settings: the first word of each pair holds where nothing is said
+-- ---- Settings: the first word of each pair holds where nothing is said; nothing is refused then, and nothing allowed
 
 abbrev pub unsaid : Settings
-unsaid = record { link = Free; all_fence = true; drain_empties = true; has_caches = false; stopped = Marker }
+unsaid = record {
+  link = Free;
+  all_fence = true;
+  drain_empties = true;
+  refuses_drain = false;
+  has_caches = false;
+  stopped = Marker;
+  allows_no_group = false;
+  has_workers = false;
+}
 
 abbrev pub is_setting : (word : List ℕ) → Bool
 is_setting word =
@@ -30,9 +39,10 @@ is_setting word =
     || bytes_eq word (codes "drain")
     || bytes_eq word (codes "caches")
     || bytes_eq word (codes "stopped")
+    || bytes_eq word (codes "refuses")
+    || bytes_eq word (codes "allow")
 
--- a platform is all settings but one, which is the endpoint's: `vt-d` what Intel VT-d on PCI Express is, `free` what holds
--- where nothing is said
+-- a platform is four settings: `vt-d` what Intel VT-d on PCI Express is, `free` what holds where nothing is said
 abbrev pub platform_set : Settings → List (List ℕ) → Result Settings DriverWrong
 platform_set settings words =
     if says 1 (codes "vt-d") words
@@ -72,6 +82,21 @@ stopped_set settings words =
     if says 1 (codes "known") words then Ok (record settings { stopped = Known }) else
     wrong_at 1 wanted.Stopped
 
+abbrev pub refuses_set : Settings → List (List ℕ) → Result Settings DriverWrong
+refuses_set settings words =
+    if says 1 (codes "drain") words then Ok (record settings { refuses_drain = true }) else wrong_at 1 wanted.Refused
+
+abbrev pub allow_set : Settings → List (List ℕ) → Result Settings DriverWrong
+allow_set settings words =
+    if says 1 (codes "no-group") words then Ok (record settings { allows_no_group = true }) else wrong_at 1 wanted.Allowed
+
+-- those that are no pair, or else by what an endpoint says that it has stopped
+abbrev pub set_other : Settings → List (List ℕ) → Result Settings DriverWrong
+set_other settings words =
+    if says 0 (codes "refuses") words then refuses_set settings words else
+    if says 0 (codes "allow") words then allow_set settings words else
+    stopped_set settings words
+
 abbrev pub set : Settings → List (List ℕ) → Result Settings DriverWrong
 set settings words =
     if says 0 (codes "platform") words then platform_set settings words else
@@ -79,7 +104,7 @@ set settings words =
     if says 0 (codes "waits") words then waits_set settings words else
     if says 0 (codes "drain") words then drain_set settings words else
     if says 0 (codes "caches") words then caches_set settings words else
-    stopped_set settings words
+    set_other settings words
 
 abbrev pub setting_line : Settings → List (List ℕ) → Result Settings DriverWrong
 setting_line settings words = do

@@ -13,6 +13,7 @@ use Rattle.sva_driver_words.specs.declared.needs.Need.TheVariants as need
 -- an act at an endpoint
 abbrev pub need_at : LocalAct → Need
 need_at (local.SetEntry pasid space) = need.Nothing
+need_at (local.Replace pasid space) = need.Nothing
 need_at (local.ClearEntry pasid) = need.Nothing
 need_at (local.Start pasid) = need.Nothing
 need_at (local.Stop pasid) = need.Nothing
@@ -20,6 +21,7 @@ need_at local.Reset = need.Nothing
 need_at (local.Submit descriptors) = need.Room
 need_at local.Close = need.OpenUnit
 need_at local.Reopen = need.ClosedUnit
+need_at local.Skip = need.Descriptor
 need_at (local.AwaitWait name) = need.Done
 need_at (local.AwaitStopped pasid) = need.Stopped
 need_at local.AwaitQueue = need.EmptyQueue
@@ -28,6 +30,8 @@ need_at (local.AwaitGroups pasid) = need.Answered
 need_at local.AwaitResets = need.ResetsDone
 need_at local.Serve = need.Queued
 need_at (local.Respond pasid index fails) = need.Nothing
+need_at (local.RespondAll pasid fails) = need.Nothing
+need_at (local.Discard pasid) = need.Nothing
 need_at (local.FreePasid pasid) = need.Nothing
 need_at (local.Ask pasid page) = need.On
 need_at (local.Use pasid page) = need.Usable
@@ -38,11 +42,12 @@ need_at (local.More index page write last) = need.Unfinished
 need_at (local.Finish place) = need.Covered
 need_at (local.Quit pasid) = need.Idle
 need_at local.Pump = need.Head
+need_at local.Write = need.Received
 need_at (local.ForgetEntry place) = need.KeptEntry
 need_at (local.Forget place) = need.KeptTranslation
 need_at (local.Deliver place) = need.Deliverable
 
--- one in memory is always permitted
+-- one in memory is always permitted, and so is one that does nothing
 abbrev pub need_of_act : Act → Need
 need_of_act (act.At endpoint its) = need_at its
 need_of_act _ = need.Nothing

@@ -1,5 +1,5 @@
 -- How many PASIDs an endpoint has to have: each that a line names.
-use Rattle.std.specs.Prelude.{ℕ, suc, nat_lt, if◌then◌else◌, List, [], ◌∷◌}
+use Rattle.std.specs.Prelude.{ℕ, suc, nat_lt, if◌then◌else◌, List, [], ◌∷◌, Option, Some, None}
 use Rattle.sva_open.specs.declared.acts.Act.TheVariants as act
 use Rattle.sva_open.specs.declared.acts.LocalAct.{LocalAct}
 use Rattle.sva_open.specs.declared.acts.LocalAct.TheVariants as local
@@ -7,16 +7,23 @@ use Rattle.sva_driver_words.specs.Awaits.{LineSaid}
 use Rattle.sva_driver_words.specs.Sayings.{SayingSaid}
 use Rattle.sva_driver_words.specs.Sayings.SayingSaid.{DoesSaid}
 
--- the PASID that an act at an endpoint is of, or 0 if it is of none
+abbrev pub or_zero : Option ℕ → ℕ
+or_zero None = 0
+or_zero (Some pasid) = pasid
+
+-- The PASID that an act at an endpoint is of, or 0 if it is of none: there is a PASID 0 in any case.
 abbrev pub pasid_of : LocalAct → ℕ
 pasid_of (local.SetEntry pasid space) = pasid
+pasid_of (local.Replace pasid space) = pasid
 pasid_of (local.ClearEntry pasid) = pasid
 pasid_of (local.Start pasid) = pasid
 pasid_of (local.Stop pasid) = pasid
 pasid_of (local.AwaitStopped pasid) = pasid
 pasid_of (local.AwaitQueueOf pasid) = pasid
-pasid_of (local.AwaitGroups pasid) = pasid
+pasid_of (local.AwaitGroups pasid) = or_zero pasid
 pasid_of (local.Respond pasid index fails) = pasid
+pasid_of (local.RespondAll pasid fails) = or_zero pasid
+pasid_of (local.Discard pasid) = or_zero pasid
 pasid_of (local.FreePasid pasid) = pasid
 pasid_of (local.Ask pasid page) = pasid
 pasid_of (local.Use pasid page) = pasid

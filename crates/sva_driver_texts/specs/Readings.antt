@@ -74,7 +74,7 @@ is_of_endpoint word =
     || bytes_eq word (codes "quit")
 
 abbrev pub is_of_unit : (word : List ℕ) → Bool
-is_of_unit word = bytes_eq word (codes "pump") || bytes_eq word (codes "forget")
+is_of_unit word = bytes_eq word (codes "pump") || bytes_eq word (codes "write") || bytes_eq word (codes "forget")
 
 abbrev pub role_of : (word first : List ℕ) → List ℕ
 role_of word first =

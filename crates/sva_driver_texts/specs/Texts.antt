@@ -16,6 +16,7 @@ use Rattle.sva_race_texts.specs.Texts.{names_from}
 use Rattle.sva_race_texts.specs.declared.faults.RaceWanted.TheVariants as race
 use Rattle.sva_open.specs.World.{Open, opened}
 use Rattle.sva_open.specs.declared.settings.Conduct.{Conduct}
+use Rattle.sva_open.specs.declared.settings.Settings.{Settings}
 use Rattle.sva_open_safe.specs.Wrongs.{first_wrong}
 use Rattle.sva_open_safe.specs.declared.wrongs.Wrong.{Wrong}
 use Rattle.sva_judge.specs.declared.choices.Choice.{Choice}
@@ -70,12 +71,16 @@ told_seen said = record { thread = said.thread.items; text = said.text.items }
 abbrev pub conduct_of : DeviceSaid → Conduct
 conduct_of device = record { lies = device.lies; awaits = device.awaits }
 
-abbrev pub opened_by : Config → Reading → Open
-opened_by config reading =
-    opened reading.settings (map conduct_of reading.devices) (pasids_of reading.lines) config.frames
-
 abbrev pub workers_or : Option Workers → Workers
 workers_or workers = unwrap_or workers no_workers
+
+abbrev pub with_workers : Settings → Workers → Settings
+with_workers settings workers = record settings { has_workers = workers.are_there }
+
+abbrev pub opened_by : Config → Reading → Open
+opened_by config reading =
+    opened (with_workers reading.settings (workers_or reading.workers)) (map conduct_of reading.devices) (pasids_of reading.lines)
+    config.frames
 
 -- the driver of what was read, before its first line
 pub record IsOpening (config : Config) (reading : Reading) (driver : Driver) : Type 0 where

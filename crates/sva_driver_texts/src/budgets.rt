@@ -18,11 +18,13 @@ fn starts_at(endpoint: usize, saying: &Saying) -> bool
     match saying {
         Saying::Does { act } => match act {
             Act::At { endpoint: own, act } => *own == endpoint && is_start(act),
-            Act::SetPage { .. }
+            Act::Mark
+            | Act::SetPage { .. }
             | Act::ClearPage { .. }
             | Act::FreeFrame { .. }
             | Act::Freeze { .. }
-            | Act::FreeSpace { .. } => false,
+            | Act::FreeSpace { .. }
+            | Act::FreeDomain { .. } => false,
         },
         Saying::Names { .. }
         | Saying::AwaitsLine { .. }
@@ -51,11 +53,13 @@ fn asks_at(endpoint: usize, saying: &Saying) -> bool
     match saying {
         Saying::Does { act } => match act {
             Act::At { endpoint: own, act } => *own == endpoint && is_ask(act),
-            Act::SetPage { .. }
+            Act::Mark
+            | Act::SetPage { .. }
             | Act::ClearPage { .. }
             | Act::FreeFrame { .. }
             | Act::Freeze { .. }
-            | Act::FreeSpace { .. } => false,
+            | Act::FreeSpace { .. }
+            | Act::FreeDomain { .. } => false,
         },
         Saying::Names { .. }
         | Saying::AwaitsLine { .. }

@@ -29,10 +29,11 @@ use sva_script_reading::Lines;
 use sva_step::Config;
 
 /// The words that begin an act.
-const ACTS: [&[u8]; 25] = [
-    b"pte", b"entry", b"start", b"stop", b"reset", b"submit", b"await", b"serve", b"respond",
-    b"close", b"open", b"free", b"freeze", b"lock", b"unlock", b"ask", b"use", b"end", b"evict",
-    b"fault", b"finish", b"quit", b"pump", b"deliver", b"forget",
+const ACTS: [&[u8]; 30] = [
+    b"pte", b"entry", b"replace", b"start", b"stop", b"reset", b"submit", b"await", b"serve",
+    b"respond", b"discard", b"close", b"open", b"skip", b"free", b"freeze", b"lock", b"unlock",
+    b"mark", b"ask", b"use", b"end", b"evict", b"fault", b"finish", b"quit", b"pump", b"write",
+    b"deliver", b"forget",
 ];
 
 /// Whether it is one of these words.

@@ -12,15 +12,19 @@ fn need_at(act: &LocalAct) -> Need
 {
     match act {
         LocalAct::SetEntry { .. }
+        | LocalAct::Replace { .. }
         | LocalAct::ClearEntry { .. }
         | LocalAct::Start { .. }
         | LocalAct::Stop { .. }
         | LocalAct::Reset
         | LocalAct::Respond { .. }
+        | LocalAct::RespondAll { .. }
+        | LocalAct::Discard { .. }
         | LocalAct::FreePasid { .. } => Need::Nothing,
         LocalAct::Submit { .. } => Need::Room,
         LocalAct::Close => Need::OpenUnit,
         LocalAct::Reopen => Need::ClosedUnit,
+        LocalAct::Skip => Need::Descriptor,
         LocalAct::AwaitWait { .. } => Need::Done,
         LocalAct::AwaitStopped { .. } => Need::Stopped,
         LocalAct::AwaitQueue => Need::EmptyQueue,
@@ -37,13 +41,14 @@ fn need_at(act: &LocalAct) -> Need
         LocalAct::Finish { .. } => Need::Covered,
         LocalAct::Quit { .. } => Need::Idle,
         LocalAct::Pump => Need::Head,
+        LocalAct::Write => Need::Received,
         LocalAct::ForgetEntry { .. } => Need::KeptEntry,
         LocalAct::Forget { .. } => Need::KeptTranslation,
         LocalAct::Deliver { .. } => Need::Deliverable,
     }
 }
 
-/// What an act needs. One in memory is always permitted.
+/// What an act needs. One in memory is always permitted, and so is one that does nothing.
 fn need_of_act(act: &Act) -> Need
     ensures { result ≡ need_of_act act.now }
 {

@@ -76,6 +76,16 @@ fn workers_or(workers: Option<Workers>) -> Workers
     }
 }
 
+/// The settings, by whether there are workers.
+fn with_workers(settings: Settings, workers: Workers) -> Settings
+    ensures { result ≡ texts.with_workers settings workers }
+{
+    Settings {
+        has_workers: workers.are_there,
+        ..settings
+    }
+}
+
 /// The lines, as they are judged, and what is told of each.
 fn lines_of(alloc: Global, read: Vec<LineRead>) -> Result<(Vec<Line>, Vec<Said>), AllocError>
     ensures lines { IfOk result (λ lists. map texts.done_seen lists.0.items
@@ -128,11 +138,12 @@ pub fn opening_of(
     let own = told.as_slice();
     let acts = read.as_slice();
     let pasids = pasids_of(acts);
+    let workers = workers_or(workers);
+    let settings = with_workers(settings, workers);
     let start = opened_by(alloc, config, settings, own, pasids)?;
     let devices = all_planned(alloc, acts, own)?;
     let taken = falses(alloc, acts.len())?;
     let locked = falses(alloc, locks.len())?;
-    let workers = workers_or(workers);
     let (lines, said) = lines_of(alloc, read)?;
     Ok((
         Driver {

@@ -8,22 +8,34 @@ ghost use Rattle.sva_driver_texts.specs.Pasids as seen;
 use sva_driver_words::LineRead;
 use sva_open::{Act, LocalAct, Saying};
 
-/// No PASID is as high: they are 1 to 32.
+/// No PASID is as high: they are 0 to 32.
 const PASIDS_END: usize = 33;
 
-/// The PASID that an act at an endpoint is of, or 0 if it is of none.
+fn or_zero(pasid: Option<usize>) -> usize
+    ensures { result ≡ seen.or_zero pasid }
+{
+    match pasid {
+        None => 0,
+        Some(pasid) => pasid,
+    }
+}
+
+/// The PASID that an act at an endpoint is of, or 0 if it is of none: there is a PASID 0 in any case.
 fn pasid_of(act: &LocalAct) -> usize
     ensures { result ≡ seen.pasid_of act.now }
 {
     match act {
         LocalAct::SetEntry { pasid, .. } => *pasid,
+        LocalAct::Replace { pasid, .. } => *pasid,
         LocalAct::ClearEntry { pasid } => *pasid,
         LocalAct::Start { pasid } => *pasid,
         LocalAct::Stop { pasid } => *pasid,
         LocalAct::AwaitStopped { pasid } => *pasid,
         LocalAct::AwaitQueueOf { pasid } => *pasid,
-        LocalAct::AwaitGroups { pasid } => *pasid,
+        LocalAct::AwaitGroups { pasid } => or_zero(*pasid),
         LocalAct::Respond { pasid, .. } => *pasid,
+        LocalAct::RespondAll { pasid, .. } => or_zero(*pasid),
+        LocalAct::Discard { pasid } => or_zero(*pasid),
         LocalAct::FreePasid { pasid } => *pasid,
         LocalAct::Ask { pasid, .. } => *pasid,
         LocalAct::Use { pasid, .. } => *pasid,
@@ -34,6 +46,7 @@ fn pasid_of(act: &LocalAct) -> usize
         | LocalAct::Submit { .. }
         | LocalAct::Close
         | LocalAct::Reopen
+        | LocalAct::Skip
         | LocalAct::AwaitWait { .. }
         | LocalAct::AwaitQueue
         | LocalAct::AwaitResets
@@ -42,6 +55,7 @@ fn pasid_of(act: &LocalAct) -> usize
         | LocalAct::More { .. }
         | LocalAct::Finish { .. }
         | LocalAct::Pump
+        | LocalAct::Write
         | LocalAct::ForgetEntry { .. }
         | LocalAct::Forget { .. }
         | LocalAct::Deliver { .. } => 0,
@@ -55,11 +69,13 @@ fn pasid_at(saying: &Saying) -> usize
     match saying {
         Saying::Does { act } => match act {
             Act::At { act, .. } => pasid_of(act),
-            Act::SetPage { .. }
+            Act::Mark
+            | Act::SetPage { .. }
             | Act::ClearPage { .. }
             | Act::FreeFrame { .. }
             | Act::Freeze { .. }
-            | Act::FreeSpace { .. } => 0,
+            | Act::FreeSpace { .. }
+            | Act::FreeDomain { .. } => 0,
         },
         Saying::Names { .. }
         | Saying::AwaitsLine { .. }

@@ -43,10 +43,12 @@ fn page_set(saying: &Saying) -> Option<u64>
     match saying {
         Saying::Does { act } => match act {
             Act::SetPage { page, .. } => Some(*page),
-            Act::ClearPage { .. }
+            Act::Mark
+            | Act::ClearPage { .. }
             | Act::FreeFrame { .. }
             | Act::Freeze { .. }
             | Act::FreeSpace { .. }
+            | Act::FreeDomain { .. }
             | Act::At { .. } => None,
         },
         Saying::Names { .. }
@@ -75,12 +77,14 @@ fn started_by(is_there: bool, act: &LocalAct) -> Option<u64>
     match act {
         LocalAct::Start { pasid } => { if is_there { Some(*pasid as u64) } else { None } }
         LocalAct::SetEntry { .. }
+        | LocalAct::Replace { .. }
         | LocalAct::ClearEntry { .. }
         | LocalAct::Stop { .. }
         | LocalAct::Reset
         | LocalAct::Submit { .. }
         | LocalAct::Close
         | LocalAct::Reopen
+        | LocalAct::Skip
         | LocalAct::AwaitWait { .. }
         | LocalAct::AwaitStopped { .. }
         | LocalAct::AwaitQueue
@@ -89,6 +93,8 @@ fn started_by(is_there: bool, act: &LocalAct) -> Option<u64>
         | LocalAct::AwaitResets
         | LocalAct::Serve
         | LocalAct::Respond { .. }
+        | LocalAct::RespondAll { .. }
+        | LocalAct::Discard { .. }
         | LocalAct::FreePasid { .. }
         | LocalAct::Ask { .. }
         | LocalAct::Use { .. }
@@ -99,6 +105,7 @@ fn started_by(is_there: bool, act: &LocalAct) -> Option<u64>
         | LocalAct::Finish { .. }
         | LocalAct::Quit { .. }
         | LocalAct::Pump
+        | LocalAct::Write
         | LocalAct::ForgetEntry { .. }
         | LocalAct::Forget { .. }
         | LocalAct::Deliver { .. } => None,
@@ -112,11 +119,13 @@ fn started_at(endpoint: usize, saying: &Saying) -> Option<u64>
     match saying {
         Saying::Does { act } => match act {
             Act::At { endpoint: own, act } => started_by(*own == endpoint, act),
-            Act::SetPage { .. }
+            Act::Mark
+            | Act::SetPage { .. }
             | Act::ClearPage { .. }
             | Act::FreeFrame { .. }
             | Act::Freeze { .. }
-            | Act::FreeSpace { .. } => None,
+            | Act::FreeSpace { .. }
+            | Act::FreeDomain { .. } => None,
         },
         Saying::Names { .. }
         | Saying::AwaitsLine { .. }

@@ -132,7 +132,7 @@ fn is_of_endpoint(word: &[u8]) -> bool
 fn is_of_unit(word: &[u8]) -> bool
     ensures { result ≡ readings.is_of_unit word.now }
 {
-    is(word, b"pump") || is(word, b"forget")
+    is(word, b"pump") || is(word, b"write") || is(word, b"forget")
 }
 
 /// A role with the number of who has it.
@@ -189,8 +189,11 @@ impl Reading {
                 link: Link::Free,
                 all_fence: true,
                 drain_empties: true,
+                refuses_drain: false,
                 has_caches: false,
                 stopped: Stopped::Marker,
+                allows_no_group: false,
+                has_workers: false,
             },
             set: Vec::new(alloc),
             workers: None,

@@ -17,9 +17,11 @@ pub(crate) fn is_setting(word: &[u8]) -> bool
         || is(word, b"drain")
         || is(word, b"caches")
         || is(word, b"stopped")
+        || is(word, b"refuses")
+        || is(word, b"allow")
 }
 
-/// The settings of a platform: all but by what endpoints say that they have stopped.
+/// The four settings of a platform.
 fn platform_set(settings: Settings, words: &[&[u8]]) -> Result<Settings, DriverWrong>
     ensures { result ≡ devices.platform_set settings (map (λ word. word.now) words.now) }
 {
@@ -140,6 +142,43 @@ fn stopped_set(settings: Settings, words: &[&[u8]]) -> Result<Settings, DriverWr
     Err(wrong_at(1, DriverWanted::Stopped))
 }
 
+fn refuses_set(settings: Settings, words: &[&[u8]]) -> Result<Settings, DriverWrong>
+    ensures { result ≡ devices.refuses_set settings (map (λ word. word.now) words.now) }
+{
+    if says(words, 1, b"drain") {
+        return Ok(Settings {
+            refuses_drain: true,
+            ..settings
+        });
+    }
+    Err(wrong_at(1, DriverWanted::Refused))
+}
+
+fn allow_set(settings: Settings, words: &[&[u8]]) -> Result<Settings, DriverWrong>
+    ensures { result ≡ devices.allow_set settings (map (λ word. word.now) words.now) }
+{
+    if says(words, 1, b"no-group") {
+        return Ok(Settings {
+            allows_no_group: true,
+            ..settings
+        });
+    }
+    Err(wrong_at(1, DriverWanted::Allowed))
+}
+
+/// The settings that are no pair, or else by what endpoints say that they have stopped.
+fn set_other(settings: Settings, words: &[&[u8]]) -> Result<Settings, DriverWrong>
+    ensures { result ≡ devices.set_other settings (map (λ word. word.now) words.now) }
+{
+    if says(words, 0, b"refuses") {
+        return refuses_set(settings, words);
+    }
+    if says(words, 0, b"allow") {
+        return allow_set(settings, words);
+    }
+    stopped_set(settings, words)
+}
+
 fn set(settings: Settings, words: &[&[u8]]) -> Result<Settings, DriverWrong>
     ensures { result ≡ devices.set settings (map (λ word. word.now) words.now) }
 {
@@ -158,7 +197,7 @@ fn set(settings: Settings, words: &[&[u8]]) -> Result<Settings, DriverWrong>
     if says(words, 0, b"caches") {
         return caches_set(settings, words);
     }
-    stopped_set(settings, words)
+    set_other(settings, words)
 }
 
 /// The settings with the one that a line says.

@@ -10,7 +10,7 @@ use Rattle.sva_open.specs.declared.descriptors.Descriptor.{Descriptor}
 use Rattle.sva_open.specs.declared.descriptors.Descriptor.TheVariants as descriptor
 use Rattle.sva_race_texts.specs.Words.{word_at}
 use Rattle.sva_driver_words.specs.Faults.{wrong_at, no_more}
-use Rattle.sva_driver_words.specs.Fields.{endpoint_at, has_word, pasid_at, says}
+use Rattle.sva_driver_words.specs.Fields.{endpoint_at, has_word, pasid_at, says, some_pasid_at}
 use Rattle.sva_driver_words.specs.Sayings.{SayingSaid, did, saying_seen}
 use Rattle.sva_driver_words.specs.Sayings.SayingSaid.{SubmitsSaid, AwaitsLineSaid, AwaitsWaitsSaid}
 use Rattle.sva_driver_words.specs.declared.kept.LineRead.{LineRead}
@@ -101,7 +101,7 @@ awaits_name lines words = do
 abbrev pub await_named : List LineSaid → List (List ℕ) → Result SayingSaid DriverWrong
 await_named lines words = if has_word 1 words then awaits_name lines words else wrong_at 1 wanted.Awaited
 
--- ---- `await stopped E P`, `await queue E [P]`, `await groups E P`, `await reset E`
+-- ---- `await stopped E P`, `await queue E [P]`, `await groups E [P]`, `await reset E`
 
 abbrev pub await_stopped : Config → List (List ℕ) → Result SayingSaid DriverWrong
 await_stopped config words = do
@@ -124,7 +124,7 @@ await_queue config words = do
 abbrev pub await_groups : Config → List (List ℕ) → Result SayingSaid DriverWrong
 await_groups config words = do
   endpoint ← endpoint_at config 2 words
-  pasid ← pasid_at 3 words
+  pasid ← some_pasid_at 3 words
   _ ← no_more 4 words
   Ok (did endpoint (local.AwaitGroups pasid))
 

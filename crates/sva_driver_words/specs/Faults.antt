@@ -55,9 +55,11 @@ wanted_text wanted.Waits = codes "fence or plain"
 wanted_text wanted.Drain = codes "empty or arrived"
 wanted_text wanted.Caches = codes "off or on"
 wanted_text wanted.Stopped = codes "marker, status or known"
+wanted_text wanted.Refused = codes "drain"
+wanted_text wanted.Allowed = codes "no-group"
 wanted_text wanted.Frame = codes "a frame of the config"
-wanted_text wanted.Freed = codes "a frame of the config, space or pasid"
-wanted_text wanted.Pasid = codes "a PASID, 1 to 32"
+wanted_text wanted.Freed = codes "a frame of the config, space, domain or pasid"
+wanted_text wanted.Pasid = codes "a PASID, 0 to 32"
 wanted_text wanted.Space = codes "a space, 0 to 63"
 wanted_text wanted.SpaceOrNone = codes "a space, 0 to 63, or none"
 wanted_text wanted.FrameOrNone = codes "a frame of the config or none"
@@ -84,14 +86,15 @@ wanted_text (wanted.Permitted need) = codes "an act that is permitted now"
 
 unfoldable pub act_words : List (List ℕ)
 act_words =
-    codes "pte" ∷ codes "entry" ∷ codes "start" ∷ codes "stop" ∷ codes "reset" ∷ codes "submit" ∷ codes "await" ∷
-    codes "serve" ∷ codes "respond" ∷ codes "close" ∷ codes "open" ∷ codes "free" ∷ codes "freeze" ∷ codes "lock" ∷
-    codes "unlock" ∷ codes "ask" ∷ codes "use" ∷ codes "end" ∷ codes "evict" ∷ codes "fault" ∷ codes "finish" ∷
-    codes "quit" ∷ codes "pump" ∷ codes "deliver" ∷ codes "forget" ∷ []
+    codes "pte" ∷ codes "entry" ∷ codes "replace" ∷ codes "start" ∷ codes "stop" ∷ codes "reset" ∷ codes "submit" ∷
+    codes "await" ∷ codes "serve" ∷ codes "respond" ∷ codes "discard" ∷ codes "close" ∷ codes "open" ∷ codes "skip" ∷ codes "free" ∷
+    codes "freeze" ∷ codes "lock" ∷ codes "unlock" ∷ codes "mark" ∷ codes "ask" ∷ codes "use" ∷ codes "end" ∷
+    codes "evict" ∷ codes "fault" ∷ codes "finish" ∷ codes "quit" ∷ codes "pump" ∷ codes "write" ∷ codes "deliver" ∷ codes "forget" ∷ []
 
 unfoldable pub setting_words : List (List ℕ)
 setting_words =
-    codes "platform" ∷ codes "link" ∷ codes "waits" ∷ codes "drain" ∷ codes "caches" ∷ codes "stopped" ∷ []
+    codes "platform" ∷ codes "link" ∷ codes "waits" ∷ codes "drain" ∷ codes "caches" ∷ codes "stopped" ∷
+    codes "refuses" ∷ codes "allow" ∷ []
 
 -- the words that stand behind `platform`
 unfoldable pub platform_words : List (List ℕ)
@@ -113,7 +116,7 @@ descriptor_words = codes "range" ∷ codes "pasid" ∷ codes "iotlb" ∷ codes "
 
 -- the words that begin what is freed, where it isn't a frame
 unfoldable pub freed_words : List (List ℕ)
-freed_words = codes "space" ∷ codes "pasid" ∷ []
+freed_words = codes "space" ∷ codes "domain" ∷ codes "pasid" ∷ []
 
 -- the words that stand behind `await`, where a name doesn't
 unfoldable pub awaited_words : List (List ℕ)

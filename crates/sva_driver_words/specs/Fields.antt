@@ -1,9 +1,11 @@
 -- A word of a line by its place: a number within its range, or what was wanted there.
-use Rattle.std.specs.Prelude.{ℕ, ◌&&◌, nat_le, nat_lt, if◌then◌else◌, Bool, true, false, List, codes, length, Result, Ok, Err}
+use Rattle.std.specs.Prelude.{ℕ, ◌&&◌, nat_le, nat_lt, if◌then◌else◌, Bool, true, false, List, codes, length, Option, Some, None}
+use Rattle.std.specs.Prelude.{Result, Ok, Err}
 use Rattle.std.specs.Str.{bytes_eq}
 use Rattle.sva_step.specs.declared.limits.Config.{Config}
 use Rattle.sva_grammar.specs.declared.faults.Cause.{Cause}
-use Rattle.sva_grammar.specs.Grammar.{number}
+use Rattle.sva_grammar.specs.Grammar.{◌>>=◌, number}
+use Rattle.sva_script.specs.Numbers.{page_in}
 use Rattle.sva_open.specs.declared.naming.Kind.{Kind}
 use Rattle.sva_open.specs.declared.naming.Kind.TheVariants as kind
 use Rattle.sva_race_texts.specs.Words.{word_at}
@@ -33,15 +35,28 @@ endpoint_at config at words = number_at 0 config.endpoints at (wanted.Race race.
 abbrev pub frame_at : Config → (at : ℕ) → DriverWanted → List (List ℕ) → Result ℕ DriverWrong
 frame_at config at want words = number_at 0 config.frames at want words
 
+-- 0 is what a request without a PASID is of
 abbrev pub pasid_at : (at : ℕ) → List (List ℕ) → Result ℕ DriverWrong
-pasid_at at words = number_at 1 33 at wanted.Pasid words
+pasid_at at words = number_at 0 33 at wanted.Pasid words
+
+-- a PASID, where there is such a word
+abbrev pub some_pasid_at : (at : ℕ) → List (List ℕ) → Result (Option ℕ) DriverWrong
+some_pasid_at at words = if has_word at words then (pasid_at at words >>= λ pasid. Ok (Some pasid)) else Ok None
 
 abbrev pub space_at : (at : ℕ) → DriverWanted → List (List ℕ) → Result ℕ DriverWrong
 space_at at want words = number_at 0 64 at want words
 
+-- a page is written behind `0x` in hexadecimal digits, or in decimal
+abbrev pub page_or : (word : List ℕ) → Option ℕ → Result ℕ Cause
+page_or word (Some page) = Ok page
+page_or word None = number word
+
+abbrev pub page_of : (word : List ℕ) → Result ℕ Cause
+page_of word = page_or word (page_in word)
+
 -- pages have numbers below 2^36
 abbrev pub page_by : (at : ℕ) → DriverWanted → List (List ℕ) → Result ℕ DriverWrong
-page_by at want words = number_at 0 68719476736 at want words
+page_by at want words = within 0 68719476736 at want (page_of (word_at at words))
 
 abbrev pub page_at : (at : ℕ) → List (List ℕ) → Result ℕ DriverWrong
 page_at at words = page_by at wanted.Page words

@@ -1,4 +1,5 @@
--- What a platform is like, in words: each setting, also where it is the one that holds where nothing is said.
+-- What a platform is like, in words: each setting of a pair, also where it is the one that holds where nothing is said; and what is
+-- refused or allowed, where something is.
 use Rattle.std.specs.Prelude.{ℕ, ◌||◌, not, if◌then◌else◌, Bool, true, false, List, [], ◌∷◌, ◌++◌, codes}
 use Rattle.sva_open.specs.declared.settings.Settings.{Settings}
 use Rattle.sva_open.specs.declared.settings.Link.{Link}
@@ -14,20 +15,33 @@ abbrev pub one_of : (so : Bool) → (text other : List ℕ) → List ℕ
 one_of so text other = if so then text else other
 
 abbrev pub stopped_words : Stopped → List ℕ
-stopped_words Marker = codes ", stopped marker\n"
-stopped_words Status = codes ", stopped status\n"
-stopped_words Known = codes ", stopped known\n"
+stopped_words Marker = codes ", stopped marker"
+stopped_words Status = codes ", stopped status"
+stopped_words Known = codes ", stopped known"
 
-abbrev pub platform_text : Settings → List ℕ
-platform_text settings =
+-- the settings of a pair
+abbrev pub pairs_text : Settings → List ℕ
+pairs_text settings =
     link_words settings.link
     ++ one_of settings.all_fence (codes ", waits fence") (codes ", waits plain")
     ++ one_of settings.drain_empties (codes ", drain empty") (codes ", drain arrived")
     ++ one_of settings.has_caches (codes ", caches on") (codes ", caches off")
     ++ stopped_words settings.stopped
 
+-- the settings that are no pair, where they are said
+abbrev pub unpaired_text : Settings → List ℕ
+unpaired_text settings =
+    one_of settings.refuses_drain (codes ", refuses drain") (codes "")
+    ++ one_of settings.allows_no_group (codes ", allow no-group") (codes "")
+    ++ 10 ∷ []
+
+abbrev pub platform_text : Settings → List ℕ
+platform_text settings = pairs_text settings ++ unpaired_text settings
+
 -- ---- What leaves more open than the settings do, and so wasn't asked
--- A link that keeps posted requests in order is what PCI Express has: that `link free` leaves more open isn't told.
+-- A link that keeps posted requests in order is what PCI Express has: that `link free` leaves more open isn't told. A unit that refuses
+-- waits which drain takes fewer descriptors than another, and where a response may find no group nothing comes that else doesn't: so
+-- neither of these two leaves more open.
 
 -- a status may come where no marker may: past page requests, and at a closed unit
 abbrev pub may_be_status : Stopped → Bool

@@ -1,5 +1,5 @@
 -- What the line of an act says, by its words.
-use Rattle.std.specs.Prelude.{ℕ, ◌||◌, if◌then◌else◌, Bool, List, codes, Result, Ok, Err}
+use Rattle.std.specs.Prelude.{ℕ, ◌||◌, if◌then◌else◌, Bool, List, codes, Option, Some, None, Result, Ok, Err}
 use Rattle.std.specs.Str.{bytes_eq}
 use Rattle.sva_step.specs.declared.limits.Config.{Config}
 use Rattle.sva_grammar.specs.Grammar.{◌>>=◌}
@@ -15,7 +15,7 @@ use Rattle.sva_open.specs.declared.naming.Named.TheVariants as named
 use Rattle.sva_race_texts.specs.Words.{word_at}
 use Rattle.sva_driver_words.specs.Faults.{no_more}
 use Rattle.sva_driver_words.specs.Fields.{access_at, asked_at, endpoint_at, fails_at, frame_at, has_word, index_at, kind_at, last_at, older_at}
-use Rattle.sva_driver_words.specs.Fields.{page_at, pasid_at, says, space_at}
+use Rattle.sva_driver_words.specs.Fields.{page_at, pasid_at, says, some_pasid_at, space_at}
 use Rattle.sva_driver_words.specs.declared.faults.DriverWanted.TheVariants as wanted
 use Rattle.sva_driver_words.specs.declared.faults.DriverWrong.{DriverWrong}
 
@@ -50,7 +50,14 @@ read_seen (Err wrong) = Err wrong
 abbrev pub did : (endpoint : ℕ) → LocalAct → SayingSaid
 did endpoint its = DoesSaid (act.At endpoint its)
 
--- ---- `reset E`, `serve E`, `close E`, `open E`, `pump E`
+-- ---- `mark`
+
+abbrev pub mark_line : List (List ℕ) → Result SayingSaid DriverWrong
+mark_line words = do
+  _ ← no_more 1 words
+  Ok (DoesSaid act.Mark)
+
+-- ---- `reset E`, `serve E`, `close E`, `open E`, `skip E`, `write E`, `pump E`
 
 abbrev pub takes_endpoint : (word : List ℕ) → Bool
 takes_endpoint word =
@@ -58,6 +65,8 @@ takes_endpoint word =
     || bytes_eq word (codes "serve")
     || bytes_eq word (codes "close")
     || bytes_eq word (codes "open")
+    || bytes_eq word (codes "skip")
+    || bytes_eq word (codes "write")
     || bytes_eq word (codes "pump")
 
 abbrev pub of_endpoint : (word : List ℕ) → (endpoint : ℕ) → SayingSaid
@@ -66,6 +75,8 @@ of_endpoint word endpoint =
     if bytes_eq word (codes "serve") then did endpoint local.Serve else
     if bytes_eq word (codes "close") then did endpoint local.Close else
     if bytes_eq word (codes "open") then did endpoint local.Reopen else
+    if bytes_eq word (codes "skip") then did endpoint local.Skip else
+    if bytes_eq word (codes "write") then did endpoint local.Write else
     did endpoint local.Pump
 
 abbrev pub endpoint_line : Config → List (List ℕ) → Result SayingSaid DriverWrong
@@ -150,10 +161,45 @@ entry_line config words = do
   pasid ← pasid_at 2 words
   if says 3 (codes "none") words then entry_cleared endpoint pasid words else entry_set endpoint pasid words
 
--- ---- `respond E P I CODE`
+-- ---- `replace E P S`
 
-abbrev pub respond_line : Config → List (List ℕ) → Result SayingSaid DriverWrong
-respond_line config words = do
+abbrev pub replace_line : Config → List (List ℕ) → Result SayingSaid DriverWrong
+replace_line config words = do
+  endpoint ← endpoint_at config 1 words
+  pasid ← pasid_at 2 words
+  space ← space_at 3 wanted.Space words
+  _ ← no_more 4 words
+  Ok (did endpoint (local.Replace pasid space))
+
+-- ---- `respond E P I CODE`, `respond all E CODE`, `respond all E P CODE`, `discard E [P]`
+
+abbrev pub all_responded : (endpoint : ℕ) → List (List ℕ) → Result SayingSaid DriverWrong
+all_responded endpoint words = do
+  fails ← fails_at 3 words
+  _ ← no_more 4 words
+  Ok (did endpoint (local.RespondAll None fails))
+
+abbrev pub all_responded_under : (endpoint : ℕ) → List (List ℕ) → Result SayingSaid DriverWrong
+all_responded_under endpoint words = do
+  pasid ← pasid_at 3 words
+  fails ← fails_at 4 words
+  _ ← no_more 5 words
+  Ok (did endpoint (local.RespondAll (Some pasid) fails))
+
+abbrev pub respond_all_line : Config → List (List ℕ) → Result SayingSaid DriverWrong
+respond_all_line config words = do
+  endpoint ← endpoint_at config 2 words
+  if has_word 4 words then all_responded_under endpoint words else all_responded endpoint words
+
+abbrev pub discard_line : Config → List (List ℕ) → Result SayingSaid DriverWrong
+discard_line config words = do
+  endpoint ← endpoint_at config 1 words
+  pasid ← some_pasid_at 2 words
+  _ ← no_more 3 words
+  Ok (did endpoint (local.Discard pasid))
+
+abbrev pub respond_one : Config → List (List ℕ) → Result SayingSaid DriverWrong
+respond_one config words = do
   endpoint ← endpoint_at config 1 words
   pasid ← pasid_at 2 words
   index ← index_at 3 wanted.Index words
@@ -161,7 +207,10 @@ respond_line config words = do
   _ ← no_more 5 words
   Ok (did endpoint (local.Respond pasid index fails))
 
--- ---- `free F`, `free space S`, `free pasid P E`, `freeze F`
+abbrev pub respond_line : Config → List (List ℕ) → Result SayingSaid DriverWrong
+respond_line config words = if says 1 (codes "all") words then respond_all_line config words else respond_one config words
+
+-- ---- `free F`, `free space S`, `free domain S`, `free pasid P E`, `freeze F`
 
 abbrev pub frame_freed : Config → List (List ℕ) → Result SayingSaid DriverWrong
 frame_freed config words = do
@@ -175,6 +224,12 @@ space_freed words = do
   _ ← no_more 3 words
   Ok (DoesSaid (act.FreeSpace space))
 
+abbrev pub domain_freed : List (List ℕ) → Result SayingSaid DriverWrong
+domain_freed words = do
+  space ← space_at 2 wanted.Space words
+  _ ← no_more 3 words
+  Ok (DoesSaid (act.FreeDomain space))
+
 abbrev pub pasid_freed : Config → List (List ℕ) → Result SayingSaid DriverWrong
 pasid_freed config words = do
   pasid ← pasid_at 2 words
@@ -185,6 +240,7 @@ pasid_freed config words = do
 abbrev pub free_line : Config → List (List ℕ) → Result SayingSaid DriverWrong
 free_line config words =
     if says 1 (codes "space") words then space_freed words else
+    if says 1 (codes "domain") words then domain_freed words else
     if says 1 (codes "pasid") words then pasid_freed config words else
     frame_freed config words
 

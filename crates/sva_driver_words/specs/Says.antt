@@ -12,8 +12,9 @@ use Rattle.sva_driver_words.specs.declared.faults.DriverWanted.TheVariants as wa
 use Rattle.sva_driver_words.specs.declared.faults.DriverWrong.{DriverWrong}
 use Rattle.sva_driver_words.specs.Awaits.{LineSaid, await_line}
 use Rattle.sva_driver_words.specs.Descriptors.{submit_line}
-use Rattle.sva_driver_words.specs.Sayings.{SayingSaid, deliver_line, end_line, endpoint_line, entry_line, fault_line, finish_line, forget_line}
-use Rattle.sva_driver_words.specs.Sayings.{free_line, freeze_line, page_line, pasid_line, respond_line, table_line, takes_endpoint, takes_page, takes_pasid}
+use Rattle.sva_driver_words.specs.Sayings.{SayingSaid, deliver_line, discard_line, end_line, endpoint_line, entry_line, fault_line, finish_line, forget_line}
+use Rattle.sva_driver_words.specs.Sayings.{free_line, freeze_line, mark_line, page_line, pasid_line, replace_line, respond_line, table_line}
+use Rattle.sva_driver_words.specs.Sayings.{takes_endpoint, takes_page, takes_pasid}
 use Rattle.sva_driver_words.specs.Sayings.SayingSaid.{LocksSaid, UnlocksSaid}
 
 -- ---- Locks
@@ -45,7 +46,7 @@ with_lock locks words =
 abbrev pub is_act : (word : List ℕ) → Bool
 is_act word = list_any (bytes_eq word) act_words
 
--- of link, units and endpoints, or of a lock
+-- of link, units and endpoints, of an entry that is replaced, of a lock, or of nothing
 abbrev pub other_by : Config → (locks : List (List ℕ)) → List (List ℕ) → (word : List ℕ) → Result SayingSaid DriverWrong
 other_by config locks words word =
     if bytes_eq word (codes "fault") then fault_line config words else
@@ -53,6 +54,9 @@ other_by config locks words word =
     if bytes_eq word (codes "finish") then finish_line config words else
     if bytes_eq word (codes "deliver") then deliver_line config words else
     if bytes_eq word (codes "forget") then forget_line config words else
+    if bytes_eq word (codes "replace") then replace_line config words else
+    if bytes_eq word (codes "mark") then mark_line words else
+    if bytes_eq word (codes "discard") then discard_line config words else
     lock_line locks words
 
 -- all but `submit`

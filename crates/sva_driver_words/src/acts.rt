@@ -7,12 +7,21 @@ ghost use Rattle.sva_open.specs.declared.acts.Act.TheVariants as variants;
 
 use crate::faults::{DriverWanted, DriverWrong, judge_end};
 use crate::fields::{
-    access_at, endpoint_at, fails_at, frame_at, index_at, page_at, pasid_at, says, space_at,
+    access_at, endpoint_at, fails_at, frame_at, has_word, index_at, page_at, pasid_at, says,
+    some_pasid_at, space_at,
 };
 use sva_open::{Act, LocalAct, Saying};
 use sva_race_texts::word_at;
 use sva_script::is;
 use sva_step::Config;
+
+/// Reads `mark`.
+pub(crate) fn mark_line(words: &[&[u8]]) -> Result<Saying, DriverWrong>
+    ensures { read_seen result ≡ sayings.mark_line (map (λ word. word.now) words.now) }
+{
+    judge_end(words, 1)?;
+    Ok(Saying::Does { act: Act::Mark })
+}
 
 /// Whether an endpoint alone stands behind it.
 pub(crate) fn takes_endpoint(word: &[u8]) -> bool
@@ -22,6 +31,8 @@ pub(crate) fn takes_endpoint(word: &[u8]) -> bool
         || is(word, b"serve")
         || is(word, b"close")
         || is(word, b"open")
+        || is(word, b"skip")
+        || is(word, b"write")
         || is(word, b"pump")
 }
 
@@ -49,6 +60,12 @@ fn of_endpoint(word: &[u8], endpoint: usize) -> Saying
     }
     if is(word, b"open") {
         return did(endpoint, LocalAct::Reopen);
+    }
+    if is(word, b"skip") {
+        return did(endpoint, LocalAct::Skip);
+    }
+    if is(word, b"write") {
+        return did(endpoint, LocalAct::Write);
     }
     did(endpoint, LocalAct::Pump)
 }
@@ -233,9 +250,95 @@ pub(crate) fn entry_line(config: &Config, words: &[&[u8]]) -> Result<Saying, Dri
     }
 }
 
-/// Reads `respond E P I CODE`.
+/// Reads `replace E P S`.
+pub(crate) fn replace_line(config: &Config, words: &[&[u8]]) -> Result<Saying, DriverWrong>
+    ensures { read_seen result ≡ sayings.replace_line config.now (map (λ word. word.now) words.now) }
+{
+    let endpoint = endpoint_at(config, words, 1)?;
+    let pasid = pasid_at(words, 2)?;
+    let space = space_at(words, 3, DriverWanted::Space)?;
+    judge_end(words, 4)?;
+    Ok(Saying::Does {
+        act: Act::At {
+            endpoint,
+            act: LocalAct::Replace { pasid, space },
+        },
+    })
+}
+
+/// Reads the end of `respond all E CODE`.
+fn all_responded(endpoint: usize, words: &[&[u8]]) -> Result<Saying, DriverWrong>
+    ensures { read_seen result ≡ sayings.all_responded endpoint (map (λ word. word.now) words.now) }
+{
+    let fails = fails_at(words, 3)?;
+    judge_end(words, 4)?;
+    Ok(Saying::Does {
+        act: Act::At {
+            endpoint,
+            act: LocalAct::RespondAll { pasid: None, fails },
+        },
+    })
+}
+
+/// Reads the end of `respond all E P CODE`.
+fn all_responded_under(endpoint: usize, words: &[&[u8]]) -> Result<Saying, DriverWrong>
+    ensures { read_seen result ≡ sayings.all_responded_under endpoint (map (λ word. word.now) words.now) }
+{
+    let pasid = pasid_at(words, 3)?;
+    let fails = fails_at(words, 4)?;
+    judge_end(words, 5)?;
+    Ok(Saying::Does {
+        act: Act::At {
+            endpoint,
+            act: LocalAct::RespondAll {
+                pasid: Some(pasid),
+                fails,
+            },
+        },
+    })
+}
+
+/// Reads `respond all E [P] CODE`.
+fn respond_all_line(config: &Config, words: &[&[u8]]) -> Result<Saying, DriverWrong>
+    ensures { read_seen result ≡ sayings.respond_all_line config.now (map (λ word. word.now) words.now) }
+{
+    let endpoint = endpoint_at(config, words, 2)?;
+    if has_word(words, 4) {
+        all_responded_under(endpoint, words)
+    } else {
+        all_responded(endpoint, words)
+    }
+}
+
+/// Reads `discard E [P]`.
+pub(crate) fn discard_line(config: &Config, words: &[&[u8]]) -> Result<Saying, DriverWrong>
+    ensures { read_seen result ≡ sayings.discard_line config.now (map (λ word. word.now) words.now) }
+{
+    let endpoint = endpoint_at(config, words, 1)?;
+    let pasid = some_pasid_at(words, 2)?;
+    judge_end(words, 3)?;
+    Ok(Saying::Does {
+        act: Act::At {
+            endpoint,
+            act: LocalAct::Discard { pasid },
+        },
+    })
+}
+
+/// Reads `respond ..`.
 pub(crate) fn respond_line(config: &Config, words: &[&[u8]]) -> Result<Saying, DriverWrong>
     ensures { read_seen result ≡ sayings.respond_line config.now (map (λ word. word.now) words.now) }
+{
+    if says(words, 1, b"all") {
+        respond_all_line(config, words)
+    } else {
+        respond_one(config, words)
+    }
+}
+
+/// Reads `respond E P I CODE`.
+fn respond_one(config: &Config, words: &[&[u8]]) -> Result<Saying, DriverWrong>
+    ensures { read_seen result ≡ sayings.respond_one config.now (map (λ word. word.now) words.now) }
 {
     let endpoint = endpoint_at(config, words, 1)?;
     let pasid = pasid_at(words, 2)?;
@@ -276,6 +379,17 @@ fn space_freed(words: &[&[u8]]) -> Result<Saying, DriverWrong>
     })
 }
 
+/// Reads `free domain S`.
+fn domain_freed(words: &[&[u8]]) -> Result<Saying, DriverWrong>
+    ensures { read_seen result ≡ sayings.domain_freed (map (λ word. word.now) words.now) }
+{
+    let space = space_at(words, 2, DriverWanted::Space)?;
+    judge_end(words, 3)?;
+    Ok(Saying::Does {
+        act: Act::FreeDomain { space },
+    })
+}
+
 /// Reads `free pasid P E`.
 fn pasid_freed(config: &Config, words: &[&[u8]]) -> Result<Saying, DriverWrong>
     ensures { read_seen result ≡ sayings.pasid_freed config.now (map (λ word. word.now) words.now) }
@@ -297,6 +411,9 @@ pub(crate) fn free_line(config: &Config, words: &[&[u8]]) -> Result<Saying, Driv
 {
     if says(words, 1, b"space") {
         return space_freed(words);
+    }
+    if says(words, 1, b"domain") {
+        return domain_freed(words);
     }
     if says(words, 1, b"pasid") {
         return pasid_freed(config, words);

@@ -8,7 +8,7 @@ ghost use Rattle.sva_driver_words.specs.Sayings.{act_seen, read_seen, saying_see
 ghost use Rattle.sva_open.specs.declared.acts.Act.TheVariants as variants;
 
 use crate::faults::{DriverWanted, DriverWrong, judge_end, wrong_at};
-use crate::fields::{endpoint_at, has_word, pasid_at, says};
+use crate::fields::{endpoint_at, has_word, pasid_at, says, some_pasid_at};
 use crate::kept::LineRead;
 use sva_open::{Act, Descriptor, LocalAct, Saying};
 use sva_race_texts::word_at;
@@ -40,12 +40,14 @@ fn wait_of(endpoint: usize, act: &LocalAct) -> Option<usize>
     match act {
         LocalAct::Submit { descriptors } => at_if(has_a_wait(descriptors.as_slice()), endpoint),
         LocalAct::SetEntry { .. }
+        | LocalAct::Replace { .. }
         | LocalAct::ClearEntry { .. }
         | LocalAct::Start { .. }
         | LocalAct::Stop { .. }
         | LocalAct::Reset
         | LocalAct::Close
         | LocalAct::Reopen
+        | LocalAct::Skip
         | LocalAct::AwaitWait { .. }
         | LocalAct::AwaitStopped { .. }
         | LocalAct::AwaitQueue
@@ -54,6 +56,8 @@ fn wait_of(endpoint: usize, act: &LocalAct) -> Option<usize>
         | LocalAct::AwaitResets
         | LocalAct::Serve
         | LocalAct::Respond { .. }
+        | LocalAct::RespondAll { .. }
+        | LocalAct::Discard { .. }
         | LocalAct::FreePasid { .. }
         | LocalAct::Ask { .. }
         | LocalAct::Use { .. }
@@ -64,6 +68,7 @@ fn wait_of(endpoint: usize, act: &LocalAct) -> Option<usize>
         | LocalAct::Finish { .. }
         | LocalAct::Quit { .. }
         | LocalAct::Pump
+        | LocalAct::Write
         | LocalAct::ForgetEntry { .. }
         | LocalAct::Forget { .. }
         | LocalAct::Deliver { .. } => None,
@@ -77,11 +82,13 @@ fn wait_at(saying: &Saying) -> Option<usize>
     match saying {
         Saying::Does { act } => match act {
             Act::At { endpoint, act } => wait_of(*endpoint, act),
-            Act::SetPage { .. }
+            Act::Mark
+            | Act::SetPage { .. }
             | Act::ClearPage { .. }
             | Act::FreeFrame { .. }
             | Act::Freeze { .. }
-            | Act::FreeSpace { .. } => None,
+            | Act::FreeSpace { .. }
+            | Act::FreeDomain { .. } => None,
         },
         Saying::Names { .. }
         | Saying::AwaitsLine { .. }
@@ -226,12 +233,12 @@ fn await_queue(config: &Config, words: &[&[u8]]) -> Result<Saying, DriverWrong>
     })
 }
 
-/// Reads `await groups E P`.
+/// Reads `await groups E [P]`.
 fn await_groups(config: &Config, words: &[&[u8]]) -> Result<Saying, DriverWrong>
     ensures { read_seen result ≡ awaits.await_groups config.now (map (λ word. word.now) words.now) }
 {
     let endpoint = endpoint_at(config, words, 2)?;
-    let pasid = pasid_at(words, 3)?;
+    let pasid = some_pasid_at(words, 3)?;
     judge_end(words, 4)?;
     Ok(Saying::Does {
         act: Act::At {

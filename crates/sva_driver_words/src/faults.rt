@@ -66,6 +66,10 @@ pub enum DriverWanted {
     Caches,
     /// By what an endpoint says that it has stopped.
     Stopped,
+    /// What a unit refuses.
+    Refused,
+    /// What is no finding.
+    Allowed,
     /// A frame that the config has.
     Frame,
     /// What may be freed.
@@ -189,9 +193,11 @@ fn words_of(wanted: &DriverWanted) -> &'static str
         DriverWanted::Drain => "empty or arrived",
         DriverWanted::Caches => "off or on",
         DriverWanted::Stopped => "marker, status or known",
+        DriverWanted::Refused => "drain",
+        DriverWanted::Allowed => "no-group",
         DriverWanted::Frame => "a frame of the config",
-        DriverWanted::Freed => "a frame of the config, space or pasid",
-        DriverWanted::Pasid => "a PASID, 1 to 32",
+        DriverWanted::Freed => "a frame of the config, space, domain or pasid",
+        DriverWanted::Pasid => "a PASID, 0 to 32",
         DriverWanted::Space => "a space, 0 to 63",
         DriverWanted::SpaceOrNone => "a space, 0 to 63, or none",
         DriverWanted::FrameOrNone => "a frame of the config or none",
@@ -218,20 +224,23 @@ fn words_of(wanted: &DriverWanted) -> &'static str
 }
 
 /// The words that begin an act.
-const ACT_WORDS: [&[u8]; 25] = [
-    b"pte", b"entry", b"start", b"stop", b"reset", b"submit", b"await", b"serve", b"respond",
-    b"close", b"open", b"free", b"freeze", b"lock", b"unlock", b"ask", b"use", b"end", b"evict",
-    b"fault", b"finish", b"quit", b"pump", b"deliver", b"forget",
+const ACT_WORDS: [&[u8]; 30] = [
+    b"pte", b"entry", b"replace", b"start", b"stop", b"reset", b"submit", b"await", b"serve",
+    b"respond", b"discard", b"close", b"open", b"skip", b"free", b"freeze", b"lock", b"unlock",
+    b"mark", b"ask", b"use", b"end", b"evict", b"fault", b"finish", b"quit", b"pump", b"write",
+    b"deliver", b"forget",
 ];
 
 /// The words that begin a setting.
-const SETTING_WORDS: [&[u8]; 6] = [
+const SETTING_WORDS: [&[u8]; 8] = [
     b"platform",
     b"link",
     b"waits",
     b"drain",
     b"caches",
     b"stopped",
+    b"refuses",
+    b"allow",
 ];
 
 /// The words that stand behind `platform`.
@@ -250,7 +259,7 @@ const MORE_KINDS: [&[u8]; 1] = [b"status"];
 const DESCRIPTOR_WORDS: [&[u8]; 5] = [b"range", b"pasid", b"iotlb", b"entry", b"wait"];
 
 /// The words that begin what is freed, where it isn't a frame.
-const FREED_WORDS: [&[u8]; 2] = [b"space", b"pasid"];
+const FREED_WORDS: [&[u8]; 3] = [b"space", b"domain", b"pasid"];
 
 /// The words that stand behind `await`, where a name doesn't.
 const AWAITED_WORDS: [&[u8]; 5] = [b"wait", b"stopped", b"queue", b"groups", b"reset"];

@@ -4,10 +4,10 @@ ghost use Rattle.std.specs.Prelude.{◌≡◌, map};
 ghost use Rattle.sva_driver_words.specs.Fields as field;
 
 use crate::faults::{DriverWanted, DriverWrong, wrong_at};
-use sva_grammar::number_in;
+use sva_grammar::{Cause, number_in};
 use sva_open::Kind;
 use sva_race_texts::{RaceWanted, count_of, word_at};
-use sva_script::is;
+use sva_script::{is, page_in};
 use sva_step::Config;
 
 /// Whether the word at a place is this one.
@@ -24,6 +24,28 @@ pub fn has_word(words: &[&[u8]], at: usize) -> bool
     at < count_of(words)
 }
 
+/// What a word was read as, where that is a number from one on and below another.
+fn within(
+    read: Result<u64, Cause>,
+    at: usize,
+    low: u64,
+    below: u64,
+    wanted: DriverWanted,
+) -> Result<u64, DriverWrong>
+    ensures { result ≡ field.within low below at wanted read }
+{
+    match read {
+        Ok(value) => {
+            if low <= value && value < below {
+                Ok(value)
+            } else {
+                Err(wrong_at(at, wanted))
+            }
+        }
+        Err(_) => Err(wrong_at(at, wanted)),
+    }
+}
+
 /// A number from one on and below another.
 fn number_at(
     words: &[&[u8]],
@@ -34,16 +56,7 @@ fn number_at(
 ) -> Result<u64, DriverWrong>
     ensures { result ≡ field.number_at low below at wanted (map (λ word. word.now) words.now) }
 {
-    match number_in(word_at(words, at)) {
-        Ok(value) => {
-            if low <= value && value < below {
-                Ok(value)
-            } else {
-                Err(wrong_at(at, wanted))
-            }
-        }
-        Err(_) => Err(wrong_at(at, wanted)),
-    }
+    within(number_in(word_at(words, at)), at, low, below, wanted)
 }
 
 /// An endpoint of the config.
@@ -68,12 +81,23 @@ pub fn frame_at(
     Ok(value as usize)
 }
 
-/// A PASID, 1 to 32.
+/// A PASID, 1 to 32; or 0, which is what a request without a PASID is of.
 pub fn pasid_at(words: &[&[u8]], at: usize) -> Result<usize, DriverWrong>
     ensures { result ≡ field.pasid_at at (map (λ word. word.now) words.now) }
 {
-    let value = number_at(words, at, 1, 33, DriverWanted::Pasid)?;
+    let value = number_at(words, at, 0, 33, DriverWanted::Pasid)?;
     Ok(value as usize)
+}
+
+/// A PASID, where there is such a word.
+pub fn some_pasid_at(words: &[&[u8]], at: usize) -> Result<Option<usize>, DriverWrong>
+    ensures { result ≡ field.some_pasid_at at (map (λ word. word.now) words.now) }
+{
+    if !has_word(words, at) {
+        return Ok(None);
+    }
+    let pasid = pasid_at(words, at)?;
+    Ok(Some(pasid))
 }
 
 /// A space, 0 to 63.
@@ -83,11 +107,21 @@ pub fn space_at(words: &[&[u8]], at: usize, wanted: DriverWanted) -> Result<u64,
     number_at(words, at, 0, 64, wanted)
 }
 
+/// The page that a word writes: behind `0x` in hexadecimal digits, or in decimal.
+fn page_of(word: &[u8]) -> Result<u64, Cause>
+    ensures { result ≡ field.page_of word.now }
+{
+    match page_in(word) {
+        Some(page) => Ok(page),
+        None => number_in(word),
+    }
+}
+
 /// The number of a page, below 2^36; where something else may stand there too, that is wanted as well.
 pub fn page_by(words: &[&[u8]], at: usize, wanted: DriverWanted) -> Result<u64, DriverWrong>
     ensures { result ≡ field.page_by at wanted (map (λ word. word.now) words.now) }
 {
-    number_at(words, at, 0, 68_719_476_736, wanted)
+    within(page_of(word_at(words, at)), at, 0, 68_719_476_736, wanted)
 }
 
 /// The number of a page.

@@ -14,6 +14,8 @@ pub enum Need {
     OpenUnit,
     /// To open a unit: that it is closed.
     ClosedUnit,
+    /// To take the head out of a queue: a descriptor that stands there.
+    Descriptor,
     /// To await a wait: that it is done.
     Done,
     /// To await a stop: an answer to it.
@@ -22,10 +24,12 @@ pub enum Need {
     EmptyQueue,
     /// To await the page requests of a PASID: that none stands in the queue.
     NoneQueued,
-    /// To await the groups of a PASID: that each one is answered.
+    /// To await groups: that each whole one is answered.
     Answered,
     /// To await resets: that each one is done.
     ResetsDone,
+    /// To write a page request into the queue: one that the unit has received.
+    Received,
     /// To file a page request: one in the queue.
     Queued,
     /// To take a lock: that it is free.
@@ -67,12 +71,14 @@ pub(crate) fn need_words(need: Need) -> &'static str
         Need::Room => ": submit needs an open unit with room for all descriptors",
         Need::OpenUnit => ": close needs an open unit",
         Need::ClosedUnit => ": open needs a closed unit",
+        Need::Descriptor => ": skip needs a descriptor in the queue",
         Need::Done => ": await needs the wait done",
         Need::Stopped => ": await needs an answer to the stop",
         Need::EmptyQueue => ": await needs an empty page request queue",
         Need::NoneQueued => ": await needs no page request of the PASID in the queue",
-        Need::Answered => ": await needs each filed group of the PASID answered",
+        Need::Answered => ": await needs each whole group answered",
         Need::ResetsDone => ": await needs each reset done",
+        Need::Received => ": write needs a page request that the unit has received",
         Need::Queued => ": serve needs a page request in the queue",
         Need::FreeLock => ": lock needs a free lock",
         Need::TakenLock => ": unlock needs a taken lock",

@@ -26,16 +26,15 @@ fn stopped_words(stopped: Stopped) -> &'static str
     ensures { result.now ≡ platforms.stopped_words stopped }
 {
     match stopped {
-        Stopped::Marker => ", stopped marker\n",
-        Stopped::Status => ", stopped status\n",
-        Stopped::Known => ", stopped known\n",
+        Stopped::Marker => ", stopped marker",
+        Stopped::Status => ", stopped status",
+        Stopped::Known => ", stopped known",
     }
 }
 
-/// Appends a line with each setting, also where it is the one that holds where nothing is said:
-/// `with link free, waits fence, drain empty, caches off, stopped marker`.
-pub fn put_platform(out: &mut Vec<u8>, settings: &Settings) -> Result<(), AllocError>
-    ensures { OnOk result (out.new.items ≡ out.old.items ++ platforms.platform_text settings.now) }
+/// Appends each setting of a pair, also where it is the one that holds where nothing is said.
+fn put_pairs(out: &mut Vec<u8>, settings: &Settings) -> Result<(), AllocError>
+    ensures { OnOk result (out.new.items ≡ out.old.items ++ platforms.pairs_text settings.now) }
 {
     out.extend_from_slice(link_words(settings.link).as_bytes())?;
     let waits = one_of(settings.all_fence, ", waits fence", ", waits plain");
@@ -45,6 +44,30 @@ pub fn put_platform(out: &mut Vec<u8>, settings: &Settings) -> Result<(), AllocE
     let caches = one_of(settings.has_caches, ", caches on", ", caches off");
     out.extend_from_slice(caches.as_bytes())?;
     out.extend_from_slice(stopped_words(settings.stopped).as_bytes())?;
+    Ok(())
+}
+
+/// Appends what is refused and what is allowed, where something is, and ends the line:
+/// `, refuses drain, allow no-group`.
+fn put_unpaired(out: &mut Vec<u8>, settings: &Settings) -> Result<(), AllocError>
+    ensures { OnOk result (out.new.items ≡ out.old.items ++ platforms.unpaired_text settings.now) }
+{
+    let refused = one_of(settings.refuses_drain, ", refuses drain", "");
+    out.extend_from_slice(refused.as_bytes())?;
+    let allowed = one_of(settings.allows_no_group, ", allow no-group", "");
+    out.extend_from_slice(allowed.as_bytes())?;
+    out.extend_from_slice(b"\n")?;
+    Ok(())
+}
+
+/// Appends a line with each setting of a pair, also where it is the one that holds where nothing is said:
+/// `with link free, waits fence, drain empty, caches off, stopped marker`; and behind them what is refused and what is
+/// allowed, where something is: `, refuses drain, allow no-group`.
+pub fn put_platform(out: &mut Vec<u8>, settings: &Settings) -> Result<(), AllocError>
+    ensures { OnOk result (out.new.items ≡ out.old.items ++ platforms.platform_text settings.now) }
+{
+    put_pairs(out, settings)?;
+    put_unpaired(out, settings)?;
     Ok(())
 }
 

@@ -8,8 +8,8 @@ ghost use Rattle.sva_driver_words.specs.Sayings.{read_seen, saying_seen};
 ghost use Rattle.sva_driver_words.specs.Taking.{Gives};
 
 use crate::acts::{
-    endpoint_line, entry_line, free_line, freeze_line, page_line, pasid_line, respond_line,
-    table_line, takes_endpoint, takes_page, takes_pasid,
+    discard_line, endpoint_line, entry_line, free_line, freeze_line, mark_line, page_line,
+    pasid_line, replace_line, respond_line, table_line, takes_endpoint, takes_page, takes_pasid,
 };
 use crate::awaits::await_line;
 use crate::descriptors::submit_line;
@@ -101,7 +101,7 @@ fn read_plain(
     read_other(config, locks, words, word)
 }
 
-/// What a line says of link, units and endpoints, or of a lock.
+/// What a line says of link, units and endpoints, of an entry that is replaced, of a lock, or of nothing.
 fn read_other(
     config: &Config,
     locks: &[Vec<u8>],
@@ -125,6 +125,15 @@ fn read_other(
     }
     if is(word, b"forget") {
         return forget_line(config, words);
+    }
+    if is(word, b"replace") {
+        return replace_line(config, words);
+    }
+    if is(word, b"mark") {
+        return mark_line(words);
+    }
+    if is(word, b"discard") {
+        return discard_line(config, words);
     }
     lock_line(locks, words)
 }

@@ -18,6 +18,7 @@ use Rattle.sva_open.specs.Links.{deliver}
 
 abbrev pub next_part : Settings → List Mapping → Part → LocalAct → Option Part
 next_part settings mappings part (local.SetEntry pasid space) = host.set_entry part pasid space (slice_get part.rows pasid)
+next_part settings mappings part (local.Replace pasid space) = host.replace part pasid space (slice_get part.rows pasid)
 next_part settings mappings part (local.ClearEntry pasid) = host.clear_entry part pasid (slice_get part.rows pasid)
 next_part settings mappings part (local.Start pasid) = host.start part pasid (slice_get part.rows pasid)
 next_part settings mappings part (local.Stop pasid) = host.stop part pasid (slice_get part.rows pasid)
@@ -25,6 +26,7 @@ next_part settings mappings part local.Reset = Some (host.reset part)
 next_part settings mappings part (local.Submit descriptors) = host.submit part descriptors.items
 next_part settings mappings part local.Close = host.close part
 next_part settings mappings part local.Reopen = host.reopen part
+next_part settings mappings part local.Skip = host.skip part (slice_get part.queue 0)
 next_part settings mappings part (local.AwaitWait name) = host.await_wait part name
 next_part settings mappings part (local.AwaitStopped pasid) = host.await_stopped part pasid (slice_get part.rows pasid)
 next_part settings mappings part local.AwaitQueue = host.await_queue part
@@ -33,6 +35,8 @@ next_part settings mappings part (local.AwaitGroups pasid) = host.await_groups p
 next_part settings mappings part local.AwaitResets = host.await_resets part
 next_part settings mappings part local.Serve = host.serve part (slice_get part.arrived 0)
 next_part settings mappings part (local.Respond pasid index fails) = Some (host.respond part pasid index fails)
+next_part settings mappings part (local.RespondAll pasid fails) = Some (host.respond_all part pasid fails)
+next_part settings mappings part (local.Discard pasid) = Some (host.discard part pasid)
 next_part settings mappings part (local.FreePasid pasid) = host.free_pasid part pasid (slice_get part.rows pasid)
 next_part settings mappings part (local.Ask pasid page) = device.ask part pasid page (slice_get part.rows pasid)
 next_part settings mappings part (local.Use pasid page) = device.use_of part pasid page
@@ -44,6 +48,7 @@ next_part settings mappings part (local.More index page write last) = device.mor
 next_part settings mappings part (local.Finish place) = device.finish part place (slice_get part.works place)
 next_part settings mappings part (local.Quit pasid) = device.quit settings.stopped part pasid (slice_get part.rows pasid)
 next_part settings mappings part local.Pump = unit.pump settings part
+next_part settings mappings part local.Write = unit.write part (slice_get part.received 0)
 next_part settings mappings part (local.ForgetEntry place) = unit.forget_entry part place (slice_get part.kept_entries place)
 next_part settings mappings part (local.Forget place) = unit.forget part place (slice_get part.kept place)
 next_part settings mappings part (local.Deliver place) = deliver settings mappings part place (slice_get part.flight place)
@@ -89,9 +94,11 @@ at_endpoint now endpoint its =
     option_map (with_parts now) (parts_after now.settings now.mappings now.parts endpoint its (slice_get now.parts endpoint))
 
 abbrev pub next_open : Open → Act → Option Open
+next_open now act.Mark = Some now
 next_open now (act.SetPage space page frame write) = set_page now space page frame write (slice_get now.frames frame)
 next_open now (act.ClearPage space page) = Some (record now { mappings = without_page space page now.mappings })
 next_open now (act.FreeFrame frame) = free_frame now frame (slice_get now.frames frame)
 next_open now (act.Freeze frame) = freeze now frame (slice_get now.frames frame)
 next_open now (act.FreeSpace space) = Some (record now { freed = now.freed ++ space ∷ [] })
+next_open now (act.FreeDomain space) = Some (record now { domains = now.domains ++ space ∷ [] })
 next_open now (act.At endpoint its) = at_endpoint now endpoint its

@@ -1,5 +1,5 @@
 -- The same as a test, which a program can take. That it says what is meant is a law of its own.
-use Rattle.std.specs.Prelude.{◌↔◌, ◌≡◌, ℕ, ◌==◌, ◌&&◌, ◌||◌, not, Bool, true, false, List, Option, Some, None, slice_get}
+use Rattle.std.specs.Prelude.{◌↔◌, ◌≡◌, ℕ, ◌==◌, ◌&&◌, ◌||◌, not, Bool, true, false, List, Option, Some, None, slice_get, is_none}
 use Rattle.std.specs.List.{list_all, list_any}
 use Rattle.sva_open.specs.declared.frames.Tenure.{Tenure}
 use Rattle.sva_open.specs.declared.frames.Target.{Target}
@@ -16,7 +16,10 @@ use Rattle.sva_open.specs.declared.works.Work.{Work}
 use Rattle.sva_open.specs.declared.works.Work.TheVariants.{Use, Taken}
 use Rattle.sva_open.specs.declared.descriptors.Arrived.{Arrived}
 use Rattle.sva_open.specs.declared.descriptors.Filed.{Filed}
-use Rattle.sva_open.specs.World.{Open, Part, is_off}
+use Rattle.sva_open.specs.declared.descriptors.Received.{Received}
+use Rattle.sva_open.specs.declared.descriptors.Received.TheVariants.{Request as Asked, Drain}
+use Rattle.sva_open.specs.declared.settings.Settings.{Settings}
+use Rattle.sva_open.specs.World.{Open, Part, group_at, is_off}
 use Rattle.sva_open.specs.Host.{is_joined}
 use Rattle.sva_open.specs.Safe.{IsSafe}
 
@@ -55,10 +58,11 @@ abbrev pub may_be_held : List Tenure → Option Target → Bool
 may_be_held frames None = true
 may_be_held frames (Some target) = is_current frames target
 
-abbrev pub is_its_own : List Tenure → Part → Sent → Option Target → Option (Option Request) → Bool
-is_its_own frames part one target None = true
-is_its_own frames part one target (Some None) = true
-is_its_own frames part one target (Some (Some request)) = (one.number == part.time) && (request.is_doomed || may_be_held frames target)
+abbrev pub is_its_own : List Tenure → Part → Sent → (page : ℕ) → Option Target → Option (Option Request) → Bool
+is_its_own frames part one page target None = true
+is_its_own frames part one page target (Some None) = true
+is_its_own frames part one page target (Some (Some request)) =
+    ((one.number == part.time) && (page == request.page)) && (request.is_doomed || may_be_held frames target)
 
 abbrev pub is_its_end : (number : ℕ) → Option (Option Group) → Bool
 is_its_end number None = false
@@ -68,23 +72,30 @@ is_its_end number (Some (Some group)) = (number == group.number) && group.is_fin
 abbrev pub ends_its_group : Part → Sent → (index : ℕ) → Bool
 ends_its_group part one index = is_its_end one.number (slice_get part.groups index)
 
-abbrev pub is_right : List Tenure → Part → Sent → Message → Bool
-is_right frames part one (message.Start pasid) = is_present part pasid one.owner
-is_right frames part one (message.Stop pasid) = is_present part pasid one.owner
-is_right frames part one (message.Completion tag target) = is_its_own frames part one target (slice_get part.requests tag)
-is_right frames part one (message.Response index fails filed) = filed && ends_its_group part one index
-is_right frames part one (message.PageRequest request) = not part.is_open || is_present part request.pasid one.owner
-is_right frames part one (message.Marker pasid) = not part.is_open || is_present part pasid one.owner
-is_right frames part one (message.Status pasid) = is_present part pasid one.owner
-is_right frames part one _ = true
+abbrev pub ends_none : Settings → Part → (index : ℕ) → Bool
+ends_none settings part index = settings.allows_no_group && is_none (group_at (slice_get part.groups index))
 
-abbrev pub is_right_sent : List Tenure → Part → Sent → Bool
-is_right_sent frames part one = is_right frames part one one.message
+abbrev pub is_right : Settings → List Tenure → Part → Sent → Message → Bool
+is_right settings frames part one (message.Start pasid) = is_present part pasid one.owner
+is_right settings frames part one (message.Stop pasid) = is_present part pasid one.owner
+is_right settings frames part one (message.Completion tag page target) = is_its_own frames part one page target (slice_get part.requests tag)
+is_right settings frames part one (message.Response index fails filed) = (filed && ends_its_group part one index) || ends_none settings part index
+is_right settings frames part one (message.PageRequest request) = not part.is_open || is_present part request.pasid one.owner
+is_right settings frames part one (message.Marker pasid) = not part.is_open || is_present part pasid one.owner
+is_right settings frames part one (message.Status pasid) = is_present part pasid one.owner
+is_right settings frames part one _ = true
+
+abbrev pub is_right_sent : Settings → List Tenure → Part → Sent → Bool
+is_right_sent settings frames part one = is_right settings frames part one one.message
 
 -- ---- the unit
 
 abbrev pub is_good_arrived : Part → Arrived → Bool
 is_good_arrived part one = is_present part one.request.pasid one.owner
+
+abbrev pub is_good_received : Part → Received → Bool
+is_good_received part (Asked one) = is_good_arrived part one
+is_good_received part (Drain name) = true
 
 abbrev pub joins_own : Arrived → Filed → Bool
 joins_own one filed = not (is_joined one.request filed) || (filed.number == one.number)
@@ -96,6 +107,18 @@ joins_own_group filed (Some one) = list_all (joins_own one) filed
 -- does the space stand among these?
 abbrev pub is_freed : List ℕ → (space : ℕ) → Bool
 is_freed freed space = list_any (λ one. one == space) freed
+
+-- a whole group is served for its owner, by a space whose domain is there
+abbrev pub is_space_there : (domains : List ℕ) → Option ℕ → Bool
+is_space_there domains None = true
+is_space_there domains (Some space) = not (is_freed domains space)
+
+abbrev pub is_good_filed : (domains : List ℕ) → Part → Filed → Bool
+is_good_filed domains part filed =
+    not filed.is_whole || (is_present part filed.pasid filed.owner && is_space_there domains filed.space)
+
+abbrev pub are_good_filed : Settings → (domains : List ℕ) → Part → Bool
+are_good_filed settings domains part = not settings.has_workers || list_all (is_good_filed domains part) part.filed
 
 abbrev pub is_good_kept : Part → Translation → Bool
 is_good_kept part translation = is_present part translation.pasid translation.owner
@@ -124,19 +147,25 @@ is_safe_device frames part =
     list_all (is_good frames part) part.held
     && (list_all (is_good_work frames part) part.works && list_all (is_good_request part) part.requests)
 
-abbrev pub is_safe_unit : List ℕ → Part → Bool
+abbrev pub is_safe_unit : (freed : List ℕ) → Part → Bool
 is_safe_unit freed part =
     list_all (is_good_arrived part) part.arrived
     && (joins_own_group part.filed (slice_get part.arrived 0)
     && (list_all (is_good_kept part) part.kept && list_all (is_good_entry freed part) part.kept_entries))
 
-abbrev pub is_safe_part : List Tenure → List ℕ → Part → Bool
-is_safe_part frames freed part =
+-- what is on its way to the queue, and what workers have to serve
+abbrev pub is_safe_for_workers : Settings → (domains : List ℕ) → Part → Bool
+is_safe_for_workers settings domains part = list_all (is_good_received part) part.received && are_good_filed settings domains part
+
+abbrev pub is_safe_part : Settings → List Tenure → (freed domains : List ℕ) → Part → Bool
+is_safe_part settings frames freed domains part =
     is_safe_device frames part
-    && (is_safe_unit freed part && (list_all (is_right_sent frames part) part.flight && list_all (is_owned freed) part.rows))
+    && (is_safe_unit freed part
+    && (is_safe_for_workers settings domains part
+    && (list_all (is_right_sent settings frames part) part.flight && list_all (is_owned freed) part.rows)))
 
 abbrev pub is_safe : Open → Bool
-is_safe now = list_all (is_safe_part now.frames now.freed) now.parts
+is_safe now = list_all (is_safe_part now.settings now.frames now.freed now.domains) now.parts
 
 -- the test says what is meant
 abbrev pub IsTest : Type 0

@@ -12,6 +12,8 @@ use Rattle.sva_open.specs.declared.messages.Message.TheVariants as message
 use Rattle.sva_open.specs.declared.messages.Sent.{Sent}
 use Rattle.sva_open.specs.declared.descriptors.Arrived.{Arrived}
 use Rattle.sva_open.specs.declared.descriptors.Filed.{Filed}
+use Rattle.sva_open.specs.declared.descriptors.Received.{Received}
+use Rattle.sva_open.specs.declared.descriptors.Received.TheVariants.{Request as Asked, Drain}
 use Rattle.sva_open.specs.declared.works.Request.{Request}
 use Rattle.sva_open.specs.declared.works.Group.{Group}
 use Rattle.sva_open.specs.declared.works.Work.{Work}
@@ -53,7 +55,7 @@ evict part (Some place) = Some (record part { held = remove part.held place })
 -- ---- page requests
 
 -- Groups of one index are told apart by a number, which no message carries on a real link. That of a new group is above
--- those of all that is left of older groups of its index: in flight, in the page request queue, and filed.
+-- those of all that is left of older groups of its index: in flight, received, in the page request queue, and filed.
 abbrev pub above : (is_of_index : Bool) → (number : ℕ) → ℕ
 above true number = suc number
 above false number = 0
@@ -69,6 +71,10 @@ above_sent index one = above_message index one.number one.message
 abbrev pub above_arrived : (index : ℕ) → Arrived → ℕ
 above_arrived index one = above (one.request.index == index) one.number
 
+abbrev pub above_received : (index : ℕ) → Received → ℕ
+above_received index (Asked one) = above_arrived index one
+above_received index (Drain name) = 0
+
 abbrev pub above_filed : (index : ℕ) → Filed → ℕ
 above_filed index one = above (one.index == index) one.number
 
@@ -79,7 +85,8 @@ highest at (x ∷ xs) = max (at x) (highest at xs)
 abbrev pub number_above : Part → (index : ℕ) → ℕ
 number_above part index =
     max (highest (above_sent index) part.flight)
-    (max (highest (above_arrived index) part.arrived) (highest (above_filed index) part.filed))
+    (max (highest (above_received index) part.received)
+    (max (highest (above_arrived index) part.arrived) (highest (above_filed index) part.filed)))
 
 abbrev pub fresh_number : Part → ℕ
 fresh_number part = number_above part (lowest_free part.groups)

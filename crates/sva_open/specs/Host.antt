@@ -1,5 +1,5 @@
 -- What each act of the host at an endpoint leaves, where it is permitted.
-use Rattle.std.specs.Prelude.{ℕ, suc, ◌+◌, ◌==◌, ◌&&◌, ◌||◌, not, nat_le, if◌then◌else◌, Bool, true, false, List, [], ◌∷◌, ◌++◌, length}
+use Rattle.std.specs.Prelude.{ℕ, suc, ◌+◌, ◌==◌, ◌&&◌, ◌||◌, not, nat_le, if◌then◌else◌, Bool, true, false, List, [], ◌∷◌, ◌++◌, filter, length, map}
 use Rattle.std.specs.Prelude.{remove, position, slice_get, slice_set, Option, Some, None, is_some}
 use Rattle.std.specs.List.{list_any}
 use Rattle.sva_step.specs.Limits
@@ -12,8 +12,9 @@ use Rattle.sva_open.specs.declared.messages.Sent.{Sent}
 use Rattle.sva_open.specs.declared.descriptors.Descriptor.{Descriptor}
 use Rattle.sva_open.specs.declared.descriptors.Arrived.{Arrived}
 use Rattle.sva_open.specs.declared.descriptors.Filed.{Filed}
+use Rattle.sva_open.specs.declared.descriptors.Received.{Received}
 use Rattle.sva_open.specs.World.{Part, if_so, sent, with_row}
-use Rattle.sva_open.specs.Units.{is_wait, is_waiting}
+use Rattle.sva_open.specs.Units.{is_drain, is_received, is_wait, is_waiting, shifted}
 
 -- ---- owners and entries
 
@@ -36,6 +37,11 @@ entered row space = leading_to (owned_for row space row.space) space
 abbrev pub set_entry : Part → (pasid space : ℕ) → Option Row → Option Part
 set_entry part pasid space None = None
 set_entry part pasid space (Some row) = Some (with_row part pasid (entered row space))
+
+-- the same for the owner that the PASID has, whatever space it had
+abbrev pub replace : Part → (pasid space : ℕ) → Option Row → Option Part
+replace part pasid space None = None
+replace part pasid space (Some row) = Some (with_row part pasid (leading_to row space))
 
 abbrev pub clear_entry : Part → (pasid : ℕ) → Option Row → Option Part
 clear_entry part pasid None = None
@@ -69,19 +75,31 @@ may_submit part descriptors = part.is_open && nat_le (length part.queue + length
 abbrev pub submit : Part → List Descriptor → Option Part
 submit part descriptors = if_so (may_submit part descriptors) (record part { queue = part.queue ++ descriptors })
 
--- A unit that is closed has no page request queued and no group filed. What stands in its invalidation queue, and what has
--- left that, stays undone, and is gone when it is opened again: then all ITags are free, and all waits done.
+-- A unit that is closed has no page request received or queued, and no group filed. What stands in its invalidation queue, and what
+-- has left that, stays undone, and is gone when it is opened again: then all ITags are free, and all waits done.
+abbrev pub is_drain_of_any : Received → Bool
+is_drain_of_any one = not (is_received one)
+
 abbrev pub close : Part → Option Part
-close part = if_so part.is_open (record part { is_open = false; arrived = []; filed = [] })
+close part =
+    if_so part.is_open
+    (record part { is_open = false; received = filter is_drain_of_any part.received; arrived = []; filed = [] })
 
 abbrev pub reopen : Part → Option Part
-reopen part = if_so (not part.is_open) (record part { is_open = true; queue = []; issued = [] })
+reopen part = if_so (not part.is_open) (record part { is_open = true; queue = []; issued = []; received = [] })
+
+-- The head is taken out of the queue, whatever it is: what it asked for is never done, and a wait is awaited no more. So a driver
+-- gets past a descriptor that the unit has refused (Intel VT-d, "Invalidation Queue Error").
+abbrev pub skip : Part → Option Descriptor → Option Part
+skip part None = None
+skip part (Some head) = Some (shifted part)
 
 -- ---- what the host sees
 
--- a wait isn't done as long as it stands in the queue, or behind an invalidation that has left it
+-- a wait isn't done as long as it stands in the queue, behind an invalidation that has left it, or behind what it drains
 abbrev pub is_awaited : Part → (name : ℕ) → Bool
-is_awaited part name = list_any (is_wait name) part.queue || list_any (is_waiting name) part.issued
+is_awaited part name =
+    list_any (is_wait name) part.queue || (list_any (is_waiting name) part.issued || list_any (is_drain name) part.received)
 
 abbrev pub await_wait : Part → (name : ℕ) → Option Part
 await_wait part name = if_so (not (is_awaited part name)) part
@@ -99,11 +117,20 @@ await_queue part = if_so (length part.arrived == 0) part
 abbrev pub await_queue_of : Part → (pasid : ℕ) → Option Part
 await_queue_of part pasid = if_so (not (list_any (has_arrived pasid) part.arrived)) part
 
-abbrev pub is_under : (pasid : ℕ) → Filed → Bool
-is_under pasid filed = filed.pasid == pasid
+-- is it a group of the PASID, or of any where none is named?
+abbrev pub is_under : Option ℕ → Filed → Bool
+is_under None filed = true
+is_under (Some pasid) filed = filed.pasid == pasid
 
-abbrev pub await_groups : Part → (pasid : ℕ) → Option Part
-await_groups part pasid = if_so (not (list_any (is_under pasid) part.filed)) part
+abbrev pub is_whole_under : Option ℕ → Filed → Bool
+is_whole_under pasid filed = filed.is_whole && is_under pasid filed
+
+abbrev pub is_partial_under : Option ℕ → Filed → Bool
+is_partial_under pasid filed = not filed.is_whole && is_under pasid filed
+
+-- Whole groups are what workers have to do: to flush them waits for these, and for no group whose last request hasn't been filed.
+abbrev pub await_groups : Part → Option ℕ → Option Part
+await_groups part pasid = if_so (not (list_any (is_whole_under pasid) part.filed)) part
 
 -- a reset isn't done as long as it, or its reset-done, is in flight
 abbrev pub is_reset : Message → Bool
@@ -126,18 +153,37 @@ is_group pasid index filed = (filed.pasid == pasid) && (filed.index == index)
 abbrev pub is_joined : PageRequest → Filed → Bool
 is_joined request filed = not filed.is_whole && is_group request.pasid request.index filed
 
-abbrev pub filing : Arrived → Filed
-filing one = record { pasid = one.request.pasid; index = one.request.index; number = one.number; is_whole = one.request.last }
+abbrev pub space_of : Option Row → Option ℕ
+space_of None = None
+space_of (Some row) = row.space
 
-abbrev pub filed_at : List Filed → Arrived → Option ℕ → List Filed
-filed_at filed one None = filed ++ filing one ∷ []
-filed_at filed one (Some place) = slice_set filed place (filing one)
+-- a group is served for the owner whose it is, by the space that its PASID had when it was filed
+abbrev pub filing : (space : Option ℕ) → Arrived → Filed
+filing space one =
+    record {
+      pasid = one.request.pasid;
+      index = one.request.index;
+      number = one.number;
+      is_whole = one.request.last;
+      owner = one.owner;
+      space = space;
+    }
+
+abbrev pub filed_at : List Filed → Filed → Option ℕ → List Filed
+filed_at filed one None = filed ++ one ∷ []
+filed_at filed one (Some place) = slice_set filed place one
 
 -- the oldest page request is filed
+abbrev pub served : Part → Arrived → (space : Option ℕ) → Part
+served part one space =
+    record part {
+      arrived = remove part.arrived 0;
+      filed = filed_at part.filed (filing space one) (position (is_joined one.request) part.filed);
+    }
+
 abbrev pub serve : Part → Option Arrived → Option Part
 serve part None = None
-serve part (Some one) =
-    Some (record part { arrived = remove part.arrived 0; filed = filed_at part.filed one (position (is_joined one.request) part.filed) })
+serve part (Some one) = Some (served part one (space_of (slice_get part.rows one.request.pasid)))
 
 -- a response is sent for the first group that is filed under its PASID and index, which is filed no more; where none is, it is
 -- sent for none
@@ -152,3 +198,23 @@ respond_at part index fails (Some place) = responded part index fails place (sli
 
 abbrev pub respond : Part → (pasid index : ℕ) → (fails : Bool) → Part
 respond part pasid index fails = respond_at part index fails (position (is_group pasid index) part.filed)
+
+-- Each whole group is answered at once, the oldest first; and what isn't whole is dropped, and answered never.
+abbrev pub answer_to : (fails : Bool) → Filed → Sent
+answer_to fails filed = record { message = message.Response filed.index fails true; owner = 0; number = filed.number }
+
+abbrev pub isnt_whole_under : Option ℕ → Filed → Bool
+isnt_whole_under pasid filed = not (is_whole_under pasid filed)
+
+abbrev pub respond_all : Part → Option ℕ → (fails : Bool) → Part
+respond_all part pasid fails =
+    record part {
+      flight = part.flight ++ map (answer_to fails) (filter (is_whole_under pasid) part.filed);
+      filed = filter (isnt_whole_under pasid) part.filed;
+    }
+
+abbrev pub isnt_partial_under : Option ℕ → Filed → Bool
+isnt_partial_under pasid filed = not (is_partial_under pasid filed)
+
+abbrev pub discard : Part → Option ℕ → Part
+discard part pasid = record part { filed = filter (isnt_partial_under pasid) part.filed }

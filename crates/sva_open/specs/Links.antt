@@ -8,6 +8,8 @@ use Rattle.sva_open.specs.declared.messages.Message.{Message}
 use Rattle.sva_open.specs.declared.messages.Message.TheVariants as message
 use Rattle.sva_open.specs.declared.messages.PageRequest.{PageRequest}
 use Rattle.sva_open.specs.declared.messages.Sent.{Sent}
+use Rattle.sva_open.specs.declared.descriptors.Arrived.{Arrived}
+use Rattle.sva_open.specs.declared.descriptors.Received.TheVariants.{Request as Asked}
 use Rattle.sva_open.specs.declared.settings.Settings.{Settings}
 use Rattle.sva_open.specs.World.{Part, if_so, stopped_by, with_row}
 use Rattle.sva_open.specs.Order.{may_deliver}
@@ -24,8 +26,16 @@ abbrev pub told_to_stop : Part → (pasid owner : ℕ) → Option Row → Part
 told_to_stop part pasid owner None = part
 told_to_stop part pasid owner (Some row) = told part pasid (stopped_by row.state) owner (Some row)
 
-abbrev pub arrive : Part → Sent → PageRequest → Part
-arrive part one request = record part { arrived = part.arrived ++ (record { request = request; owner = one.owner; number = one.number }) ∷ [] }
+-- A page request stands in the queue at once where drains need that to be empty; else the unit has received it, and has yet to write
+-- it there (Intel VT-d, "Page Request Queue").
+abbrev pub arrived_as : Sent → PageRequest → Arrived
+arrived_as one request = record { request = request; owner = one.owner; number = one.number }
+
+abbrev pub arrive : Settings → Part → Sent → PageRequest → Part
+arrive settings part one request =
+    if settings.drain_empties
+    then record part { arrived = part.arrived ++ arrived_as one request ∷ [] }
+    else record part { received = part.received ++ Asked (arrived_as one request) ∷ [] }
 
 -- a unit that is closed drops all but a status and a reset-done
 abbrev pub if_open : Part → Part → Part
@@ -36,12 +46,12 @@ abbrev pub received : Settings → List Mapping → Part → Sent → Message �
 received settings mappings part one (message.Start pasid) = told part pasid On one.owner (slice_get part.rows pasid)
 received settings mappings part one (message.Stop pasid) = told_to_stop part pasid one.owner (slice_get part.rows pasid)
 received settings mappings part one message.Reset = reset_taken part
-received settings mappings part one (message.Completion tag target) = complete part tag target (slice_get part.requests tag)
+received settings mappings part one (message.Completion tag page target) = complete part tag target (slice_get part.requests tag)
 received settings mappings part one (message.Invalidate itag scope) = invalidate part itag scope
 received settings mappings part one (message.Response index fails filed) = end_group part index fails
 received settings mappings part one (message.Request tag pasid page) = if_open part (answer settings mappings part one tag pasid page)
 received settings mappings part one (message.Invalidated itag) = if_open part (complete_itag part itag)
-received settings mappings part one (message.PageRequest request) = if_open part (arrive part one request)
+received settings mappings part one (message.PageRequest request) = if_open part (arrive settings part one request)
 received settings mappings part one (message.Marker pasid) = if_open part (answered_stop part pasid one.owner (slice_get part.rows pasid))
 received settings mappings part one (message.Status pasid) = answered_stop part pasid one.owner (slice_get part.rows pasid)
 received settings mappings part one message.ResetDone = part

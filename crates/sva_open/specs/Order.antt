@@ -13,13 +13,13 @@ abbrev pub goes_up : Message → Bool
 goes_up (message.Start pasid) = false
 goes_up (message.Stop pasid) = false
 goes_up message.Reset = false
-goes_up (message.Completion tag target) = false
+goes_up (message.Completion tag page target) = false
 goes_up (message.Invalidate itag scope) = false
 goes_up (message.Response index fails filed) = false
 goes_up _ = true
 
 abbrev pub is_completion : Message → Bool
-is_completion (message.Completion tag target) = true
+is_completion (message.Completion tag page target) = true
 is_completion _ = false
 
 abbrev pub is_page_request : Message → Bool
@@ -30,7 +30,7 @@ is_page_request _ = false
 -- completion is a completion; all others are messages or memory writes.
 abbrev pub is_posted : Message → Bool
 is_posted (message.Request tag pasid page) = false
-is_posted (message.Completion tag target) = false
+is_posted (message.Completion tag page target) = false
 is_posted _ = true
 
 -- Must a message not overtake an older one of its endpoint? A page request that is the last of its group, and a marker,

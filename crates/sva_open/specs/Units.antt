@@ -1,5 +1,5 @@
 -- What a unit does by itself, and what it makes of what comes to it.
-use Rattle.std.specs.Prelude.{ℕ, zero, suc, ◌==◌, ◌&&◌, ◌||◌, not, if◌then◌else◌, Bool, true, false, List, [], ◌∷◌, ◌++◌, filter, find, drop, length}
+use Rattle.std.specs.Prelude.{ℕ, zero, suc, ◌-◌, ◌==◌, ◌&&◌, ◌||◌, not, if◌then◌else◌, Bool, true, false, List, [], ◌∷◌, ◌++◌, filter, find, drop, length}
 use Rattle.std.specs.Prelude.{remove, position, slice_get, slice_set, Option, Some, None, option_map, is_some}
 use Rattle.std.specs.List.{list_any}
 use Rattle.sva_step.specs.Limits
@@ -16,6 +16,8 @@ use Rattle.sva_open.specs.declared.descriptors.Descriptor.{Descriptor}
 use Rattle.sva_open.specs.declared.descriptors.Descriptor.TheVariants as descriptor
 use Rattle.sva_open.specs.declared.descriptors.Issued.{Issued}
 use Rattle.sva_open.specs.declared.descriptors.Issued.TheVariants.{Sent as Issue, Waiting}
+use Rattle.sva_open.specs.declared.descriptors.Received.{Received}
+use Rattle.sva_open.specs.declared.descriptors.Received.TheVariants.{Request as Asked, Drain}
 use Rattle.sva_open.specs.declared.settings.Settings.{Settings}
 use Rattle.sva_open.specs.World.{Part, if_so, is_of, is_page, or_else, sent, with_translation, without_covered}
 
@@ -28,28 +30,53 @@ is_wait name _ = false
 
 abbrev pub is_sent : Issued → Bool
 is_sent (Issue itag) = true
-is_sent (Waiting name) = false
+is_sent (Waiting name drain) = false
 
 abbrev pub has_itag : (itag : ℕ) → Issued → Bool
 has_itag itag (Issue own) = own == itag
-has_itag itag (Waiting name) = false
+has_itag itag (Waiting name drain) = false
 
 abbrev pub is_waiting : (name : ℕ) → Issued → Bool
 is_waiting name (Issue itag) = false
-is_waiting name (Waiting own) = own == name
+is_waiting name (Waiting own drain) = own == name
 
 -- the lowest ITag of so many from one on that no invalidation has
 unfoldable pub free_itag : List Issued → (many itag : ℕ) → Option ℕ
 free_itag issued zero itag = None
 free_itag issued (suc many) itag = if list_any (has_itag itag) issued then free_itag issued many (suc itag) else Some itag
 
--- a wait before which no ITag is busy is done
-abbrev pub settled_at : List Issued → Option ℕ → List Issued
-settled_at issued None = []
-settled_at issued (Some place) = drop place issued
+-- ---- what is received, and drains
 
-abbrev pub settled : List Issued → List Issued
-settled issued = settled_at issued (position is_sent issued)
+abbrev pub is_received : Received → Bool
+is_received (Asked one) = true
+is_received (Drain name) = false
+
+abbrev pub is_drain : (name : ℕ) → Received → Bool
+is_drain name (Asked one) = false
+is_drain name (Drain own) = own == name
+
+-- A wait whose invalidations are done is done; but one that drains stands behind the page requests that have been received by then
+-- (Intel VT-d, "Page Request Drain").
+abbrev pub waited : Part → (name : ℕ) → (drain : Bool) → Part
+waited part name drain =
+    if drain && list_any is_received part.received then record part { received = part.received ++ Drain name ∷ [] } else part
+
+-- drains before which no page request stands are done
+abbrev pub from_request : List Received → Option ℕ → List Received
+from_request received None = []
+from_request received (Some place) = drop place received
+
+abbrev pub without_drains : List Received → List Received
+without_drains received = from_request received (position is_received received)
+
+-- the oldest page request that is received is written into the queue; a unit that is closed has none
+abbrev pub write : Part → Option Received → Option Part
+write part None = None
+write part (Some (Drain name)) = None
+write part (Some (Asked one)) =
+    Some (record part { received = without_drains (remove part.received 0); arrived = part.arrived ++ one ∷ [] })
+
+-- ---- what has left the queue
 
 -- without the head of the queue
 abbrev pub shifted : Part → Part
@@ -61,14 +88,30 @@ issue part scope None = None
 issue part scope (Some itag) =
     Some (sent (record (shifted part) { issued = part.issued ++ Issue itag ∷ [] }) 0 part.time (message.Invalidate itag scope))
 
--- May a wait leave the queue? A fence needs all ITags free, and with them all waits before it done; one that drains needs an empty
--- page request queue, where the platform asks that (Intel VT-d, "Page Request Drain").
+-- May a wait leave the queue? One that drains never does where the unit refuses it (Intel VT-d, "Invalidation Queue Error"). A fence
+-- needs all ITags free, and with them all waits before it done; one that drains needs an empty page request queue, where the platform
+-- asks that (Intel VT-d, "Page Request Drain").
 abbrev pub may_pass : Settings → Part → (drain fence : Bool) → Bool
 may_pass settings part drain fence =
-    (not (settings.all_fence || fence) || (length part.issued == 0)) && (not (settings.drain_empties && drain) || (length part.arrived == 0))
+    not (settings.refuses_drain && drain)
+    && ((not (settings.all_fence || fence) || (length part.issued == 0))
+    && (not (settings.drain_empties && drain) || (length part.arrived == 0)))
 
-abbrev pub pass : Part → (name : ℕ) → Part
-pass part name = record (shifted part) { issued = settled (part.issued ++ Waiting name ∷ []) }
+-- Is an invalidation out that stands directly before a place? Then one is that stands behind the wait before.
+abbrev pub is_sent_there : Option Issued → Bool
+is_sent_there None = false
+is_sent_there (Some one) = is_sent one
+
+abbrev pub is_out_before : List Issued → (place : ℕ) → Bool
+is_out_before issued place = if place == 0 then false else is_sent_there (slice_get issued (place - 1))
+
+-- A wait covers the invalidations that stand behind the wait before it (Intel VT-d, "Queued Invalidation Ordering Considerations"):
+-- where none of these is out, it is done.
+abbrev pub pass : Part → (name : ℕ) → (drain : Bool) → Part
+pass part name drain =
+    if is_out_before part.issued (length part.issued)
+    then record (shifted part) { issued = part.issued ++ Waiting name drain ∷ [] }
+    else waited (shifted part) name drain
 
 -- without the entry that is kept of a PASID
 abbrev pub is_entry_of : (pasid : ℕ) → KeptEntry → Bool
@@ -85,7 +128,7 @@ pump_head settings part None = None
 pump_head settings part (Some (descriptor.Device scope)) = issue part scope (free_itag part.issued Limits.itags 0)
 pump_head settings part (Some (descriptor.Translations scope)) = Some (record (shifted part) { kept = without_covered scope part.kept })
 pump_head settings part (Some (descriptor.Entry pasid)) = Some (record (shifted part) { kept_entries = without_entry pasid part.kept_entries })
-pump_head settings part (Some (descriptor.Wait name drain fence)) = if_so (may_pass settings part drain fence) (pass part name)
+pump_head settings part (Some (descriptor.Wait name drain fence)) = if_so (may_pass settings part drain fence) (pass part name drain)
 
 -- a unit that is closed takes nothing
 abbrev pub pump : Settings → Part → Option Part
@@ -146,7 +189,7 @@ keeps true part pasid page (Some entry) target = kept_by part pasid page entry t
 -- a request is answered by what the page leads to now, to the owner that asked
 abbrev pub answer_by : Settings → Part → Sent → (tag pasid page : ℕ) → Option Entry → Option Target → Part
 answer_by settings part one tag pasid page entry target =
-    sent (keeps settings.has_caches part pasid page entry target) one.owner one.number (message.Completion tag target)
+    sent (keeps settings.has_caches part pasid page entry target) one.owner one.number (message.Completion tag page target)
 
 abbrev pub answer : Settings → List Mapping → Part → Sent → (tag pasid page : ℕ) → Part
 answer settings mappings part one tag pasid page =
@@ -154,12 +197,24 @@ answer settings mappings part one tag pasid page =
 
 -- ---- what else comes to it
 
-abbrev pub has_other_itag : (itag : ℕ) → Issued → Bool
-has_other_itag itag one = not (has_itag itag one)
+-- The wait that stands at a place now is done, if nothing is out that stands behind the wait before it.
+abbrev pub settled : Part → (place : ℕ) → (is_out : Bool) → Option Issued → Part
+settled part place true next = part
+settled part place false None = part
+settled part place false (Some (Issue itag)) = part
+settled part place false (Some (Waiting name drain)) = waited (record part { issued = remove part.issued place }) name drain
 
--- an Invalidate Completion frees its ITag
+abbrev pub without_issued : Part → (place : ℕ) → Part
+without_issued part place = record part { issued = remove part.issued place }
+
+-- an Invalidate Completion frees its ITag, and may have been the last that the wait behind it waits for
+abbrev pub completed_at : Part → Option ℕ → Part
+completed_at part None = part
+completed_at part (Some place) =
+    settled (without_issued part place) place (is_out_before part.issued place) (slice_get (remove part.issued place) place)
+
 abbrev pub complete_itag : Part → (itag : ℕ) → Part
-complete_itag part itag = record part { issued = settled (filter (has_other_itag itag) part.issued) }
+complete_itag part itag = completed_at part (position (has_itag itag) part.issued)
 
 -- the answer to a stop, of the owner whose stop it answers
 abbrev pub answered_stop : Part → (pasid owner : ℕ) → Option Row → Part

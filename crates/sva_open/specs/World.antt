@@ -21,6 +21,7 @@ use Rattle.sva_open.specs.declared.descriptors.Descriptor.{Descriptor}
 use Rattle.sva_open.specs.declared.descriptors.Issued.{Issued}
 use Rattle.sva_open.specs.declared.descriptors.Arrived.{Arrived}
 use Rattle.sva_open.specs.declared.descriptors.Filed.{Filed}
+use Rattle.sva_open.specs.declared.descriptors.Received.{Received}
 use Rattle.sva_open.specs.declared.settings.Conduct.{Conduct}
 use Rattle.sva_open.specs.declared.settings.Settings.{Settings}
 
@@ -54,7 +55,9 @@ pub record Part : Type 0 where
   -- what the unit keeps
   pub kept_entries : List KeptEntry
   pub kept : List Translation
-  -- the page request queue, and the groups that are filed and not answered
+  -- what the unit has received and not written into the page request queue; that queue; and the groups that are filed and not
+  -- answered
+  pub received : List Received
   pub arrived : List Arrived
   pub filed : List Filed
 
@@ -64,8 +67,9 @@ pub record Open : Type 0 where
   pub mappings : List Mapping
   -- the frames
   pub frames : List Tenure
-  -- the spaces whose table's memory was given away
+  -- the spaces whose table's memory was given away, and those that workers have nothing to serve groups by any more
   pub freed : List ℕ
+  pub domains : List ℕ
   -- the endpoints
   pub parts : List Part
 
@@ -153,6 +157,11 @@ put_at places x None = places ++ Some x ∷ []
 abbrev pub put : {X : Type 0} → List (Option X) → X → List (Option X)
 put places x = put_at places x (position is_none places)
 
+-- what is under a label, if something is
+abbrev pub group_at : Option (Option Group) → Option Group
+group_at None = None
+group_at (Some group) = group
+
 -- ---- rows and messages
 
 abbrev pub with_row : Part → (pasid : ℕ) → Row → Part
@@ -190,6 +199,7 @@ part_opened pasids conduct =
       issued = [];
       kept_entries = [];
       kept = [];
+      received = [];
       arrived = [];
       filed = [];
     }
@@ -201,5 +211,6 @@ opened settings conducts pasids frames =
       mappings = [];
       frames = replicate frames untouched;
       freed = [];
+      domains = [];
       parts = map (part_opened pasids) conducts;
     }

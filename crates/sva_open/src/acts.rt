@@ -12,6 +12,13 @@ pub enum LocalAct {
         /// The space.
         space: u64,
     },
+    /// The host: the entry of a PASID leads to a space, for the owner that it has.
+    Replace {
+        /// The PASID.
+        pasid: usize,
+        /// The space.
+        space: u64,
+    },
     /// The host: the entry of a PASID leads nowhere.
     ClearEntry {
         /// The PASID.
@@ -38,6 +45,8 @@ pub enum LocalAct {
     Close,
     /// The host: the unit takes what comes again, with all ITags free and all waits done.
     Reopen,
+    /// The host: takes the head out of the invalidation queue, whatever it is.
+    Skip,
     /// The host: no wait of a name stands at the unit. That one was submitted is for those to see to who await it.
     AwaitWait {
         /// The name.
@@ -55,10 +64,10 @@ pub enum LocalAct {
         /// The PASID.
         pasid: usize,
     },
-    /// The host: no group of a PASID is filed and not answered.
+    /// The host: no whole group is filed and not answered.
     AwaitGroups {
-        /// The PASID.
-        pasid: usize,
+        /// The PASID, where those of one alone are awaited.
+        pasid: Option<usize>,
     },
     /// The host: each reset is done.
     AwaitResets,
@@ -72,6 +81,18 @@ pub enum LocalAct {
         index: usize,
         /// Whether the code is Response Failure.
         fails: bool,
+    },
+    /// The host: answers each whole group that is filed.
+    RespondAll {
+        /// The PASID, where those of one alone are answered.
+        pasid: Option<usize>,
+        /// Whether the code is Response Failure.
+        fails: bool,
+    },
+    /// The host: drops each group that is filed and isn't whole.
+    Discard {
+        /// The PASID, where those of one alone are dropped.
+        pasid: Option<usize>,
     },
     /// The host: another owner has the PASID from now on.
     FreePasid {
@@ -138,6 +159,8 @@ pub enum LocalAct {
     },
     /// The unit: takes the head of the invalidation queue.
     Pump,
+    /// The unit: writes the oldest page request that it has received into the page request queue.
+    Write,
     /// The unit: drops an entry that it keeps.
     ForgetEntry {
         /// Its place.
@@ -158,6 +181,8 @@ pub enum LocalAct {
 /// An act.
 #[derive(Drop)]
 pub enum Act {
+    /// The host: does nothing. Its line may have a name, and be awaited.
+    Mark,
     /// The host: a page of a space leads to a frame.
     SetPage {
         /// The space.
@@ -188,6 +213,11 @@ pub enum Act {
     },
     /// The host: another owner has the memory of a space's table from now on.
     FreeSpace {
+        /// The space.
+        space: u64,
+    },
+    /// The host: that by which workers serve groups of a space is gone from now on.
+    FreeDomain {
         /// The space.
         space: u64,
     },

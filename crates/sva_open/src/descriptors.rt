@@ -55,10 +55,12 @@ pub enum Issued {
         /// Its ITag, which is busy.
         itag: usize,
     },
-    /// A wait that is done once the ITags before it are free.
+    /// A wait that is done once the ITags between the wait before it and itself are free.
     Waiting {
         /// Its name.
         name: usize,
+        /// Whether it drains what has been received by then.
+        drain: bool,
     },
 }
 
@@ -89,7 +91,7 @@ impl Issued {
     {
         match self {
             Issued::Sent { .. } => false,
-            Issued::Waiting { name: own } => *own == name,
+            Issued::Waiting { name: own, .. } => *own == name,
         }
     }
 }
@@ -105,6 +107,40 @@ pub struct Arrived {
     pub number: u64,
 }
 
+/// What a unit has received and not written into its page request queue.
+#[derive(Clone, Copy, PartialEq, Eq)]
+pub enum Received {
+    /// A page request.
+    Request(Arrived),
+    /// A wait that drains: it is done once what stands before it is written.
+    Drain {
+        /// Its name.
+        name: usize,
+    },
+}
+
+impl Received {
+    ghost use Rattle.std.specs.Prelude.{◌≡◌};
+    ghost use Rattle.sva_open.specs.Units.{is_drain, is_received};
+
+    /// Whether it is a page request.
+    pub fn is_request(&self) -> bool
+        ensures { result ≡ is_received self.now }
+    {
+        matches!(self, Received::Request(_))
+    }
+
+    /// Whether it is a wait of this name.
+    pub fn is_drain(&self, name: usize) -> bool
+        ensures { result ≡ is_drain name self.now }
+    {
+        match self {
+            Received::Request(_) => false,
+            Received::Drain { name: own } => *own == name,
+        }
+    }
+}
+
 /// A group of page requests that is filed and not answered.
 #[derive(Clone, Copy, PartialEq, Eq)]
 pub struct Filed {
@@ -116,17 +152,38 @@ pub struct Filed {
     pub number: u64,
     /// Whether its last request is filed.
     pub is_whole: bool,
+    /// The owner that its PASID had when it began.
+    pub owner: u64,
+    /// The space that its PASID had when its last request was filed, if any: by this workers serve it.
+    pub space: Option<u64>,
 }
 
 impl Filed {
     ghost use Rattle.std.specs.Prelude.{◌≡◌};
-    ghost use Rattle.sva_open.specs.Host.{is_group, is_joined, is_under};
+    ghost use Rattle.sva_open.specs.Host.{is_group, is_joined, is_partial_under, is_under, is_whole_under};
 
-    /// Whether it is a group of this PASID.
-    pub fn is_under(&self, pasid: usize) -> bool
+    /// Whether it is a group of this PASID, or of any where none is named.
+    pub fn is_under(&self, pasid: Option<usize>) -> bool
         ensures { result ≡ is_under pasid self.now }
     {
-        self.pasid == pasid
+        match pasid {
+            None => true,
+            Some(pasid) => self.pasid == pasid,
+        }
+    }
+
+    /// Whether it is whole, and of this PASID, or of any where none is named.
+    pub fn is_whole_under(&self, pasid: Option<usize>) -> bool
+        ensures { result ≡ is_whole_under pasid self.now }
+    {
+        self.is_whole && self.is_under(pasid)
+    }
+
+    /// Whether it isn't whole, and is of this PASID, or of any where none is named.
+    pub fn is_partial_under(&self, pasid: Option<usize>) -> bool
+        ensures { result ≡ is_partial_under pasid self.now }
+    {
+        !self.is_whole && self.is_under(pasid)
     }
 
     /// Whether it is a group of this PASID and index.

@@ -37,6 +37,8 @@ pub enum Message {
     Completion {
         /// The tag of the request that it answers.
         tag: usize,
+        /// The page that was asked for. On a real link no completion bears it: it is here to be spoken of.
+        page: u64,
         /// What the page leads to, if anything.
         target: Option<Target>,
     },

@@ -4,7 +4,7 @@ ghost use Rattle.std.specs.Prelude.{◌≡◌, IfOk};
 ghost use Rattle.sva_open.specs.Devices as device;
 ghost use Rattle.sva_open.specs.Devices.{highest, number_above};
 
-use crate::descriptors::{Arrived, Filed};
+use crate::descriptors::{Arrived, Filed, Received};
 use crate::messages::{Message, Sent};
 use crate::parts::Part;
 use std::alloc::AllocError;
@@ -16,9 +16,10 @@ impl Part {
         ensures { IfOk result (λ number. number ≡ number_above self.now index) }
     {
         let in_flight = above_all_sent(self.flight.as_slice(), index)?;
+        let received = above_all_received(self.received.as_slice(), index)?;
         let arrived = above_all_arrived(self.arrived.as_slice(), index)?;
         let filed = above_all_filed(self.filed.as_slice(), index)?;
-        Ok(in_flight.max(arrived.max(filed)))
+        Ok(in_flight.max(received.max(arrived.max(filed))))
     }
 }
 
@@ -50,6 +51,25 @@ fn above_all_sent(flight: &[Sent], index: usize) -> Result<u64, AllocError>
     let mut top = 0;
     for one in flight {
         top = top.max(above_sent(one, index)?);
+    }
+    Ok(top)
+}
+
+fn above_received(one: &Received, index: usize) -> Result<u64, AllocError>
+    ensures { IfOk result (λ it. it ≡ device.above_received index one.now) }
+{
+    match one {
+        Received::Request(arrived) => above(arrived.request.index == index, arrived.number),
+        Received::Drain { .. } => Ok(0),
+    }
+}
+
+fn above_all_received(received: &[Received], index: usize) -> Result<u64, AllocError>
+    ensures { IfOk result (λ it. it ≡ highest (device.above_received index) received.now) }
+{
+    let mut top = 0;
+    for one in received {
+        top = top.max(above_received(one, index)?);
     }
     Ok(top)
 }

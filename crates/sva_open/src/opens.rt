@@ -12,6 +12,7 @@ pub struct Open {
     pub mappings: Vec<Mapping>,
     pub frames: Vec<Tenure>,
     pub freed: Vec<u64>,
+    pub domains: Vec<u64>,
     pub parts: Vec<Part>,
 }
 
@@ -25,6 +26,7 @@ impl Model for Open {
       mappings = now.mappings.items;
       frames = now.frames.items;
       freed = now.freed.items;
+      domains = now.domains.items;
       parts = now.parts.items;
     } };
 }

@@ -3,7 +3,7 @@
 ghost use Rattle.std.specs.Prelude.{◌≡◌, IfOk, slice_get};
 ghost use Rattle.sva_open.specs.World.{sent, with_row};
 
-use crate::descriptors::{Arrived, Descriptor, Filed, Issued};
+use crate::descriptors::{Arrived, Descriptor, Filed, Issued, Received};
 use crate::frames::Translation;
 use crate::lists::set_at;
 use crate::messages::{Message, Sent};
@@ -30,6 +30,7 @@ pub struct Part {
     pub issued: Vec<Issued>,
     pub kept_entries: Vec<KeptEntry>,
     pub kept: Vec<Translation>,
+    pub received: Vec<Received>,
     pub arrived: Vec<Arrived>,
     pub filed: Vec<Filed>,
 }
@@ -55,6 +56,7 @@ impl Model for Part {
       issued = part.issued.items;
       kept_entries = part.kept_entries.items;
       kept = part.kept.items;
+      received = part.received.items;
       arrived = part.arrived.items;
       filed = part.filed.items;
     } };

@@ -89,7 +89,7 @@ pub struct Row {
 
 impl Row {
     ghost use Rattle.std.specs.Prelude.{◌≡◌, IfOk};
-    ghost use Rattle.sva_open.specs.Host.{entered, owned_for, with_next_owner};
+    ghost use Rattle.sva_open.specs.Host.{entered, leading_to, owned_for, with_next_owner};
 
     /// The row of the next owner. The error is of numbers that have come to their end.
     pub fn with_next_owner(self) -> Result<Row, AllocError>
@@ -122,18 +122,25 @@ impl Row {
         }
     }
 
-    /// The row whose entry leads to a space.
+    /// The row whose entry leads to a space, for the owner that the PASID has.
+    pub fn leading_to(self, space: u64) -> Row
+        ensures { result ≡ leading_to self space }
+    {
+        Row {
+            entry: Some(Entry {
+                space,
+                owner: self.owner,
+            }),
+            space: Some(space),
+            ..self
+        }
+    }
+
+    /// The row whose entry leads to a space, for the owner whose space that is.
     pub fn entered(self, space: u64) -> Result<Row, AllocError>
         ensures { IfOk result (λ row. row ≡ entered self space) }
     {
         let row = self.owned_for(space)?;
-        Ok(Row {
-            entry: Some(Entry {
-                space,
-                owner: row.owner,
-            }),
-            space: Some(space),
-            ..row
-        })
+        Ok(row.leading_to(space))
     }
 }

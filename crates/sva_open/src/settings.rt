@@ -36,10 +36,18 @@ pub struct Settings {
     pub link: Link,
     /// Whether each wait is a fence, also without its flag (Intel VT-d, "Invalidation Wait Descriptor").
     pub all_fence: bool,
-    /// Whether a wait that drains needs an empty page request queue.
+    /// Whether page requests stand in the page request queue as they come, and a wait that drains needs that to be
+    /// empty. Else they are received first, and such a wait is done once what had been received is written.
     pub drain_empties: bool,
+    /// Whether a unit doesn't take a wait that drains, so that it stays at the head of the queue.
+    pub refuses_drain: bool,
     /// Whether units keep entries and translations.
     pub has_caches: bool,
     /// By what endpoints say that they have stopped.
     pub stopped: Stopped,
+    /// Whether a response may come for an index under which the endpoint has no group (PCI Express Base 5.0, section
+    /// 10.5.2.3, "Unexpected Page Request Group Index").
+    pub allows_no_group: bool,
+    /// Whether workers answer whole groups.
+    pub has_workers: bool,
 }

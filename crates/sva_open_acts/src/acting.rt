@@ -10,10 +10,11 @@ use crate::deliveries::deliver;
 use crate::finishing::{finish, quit};
 use crate::hosting::{
     await_groups, await_queue, await_queue_of, await_resets, await_stopped, await_wait,
-    clear_entry, close, free_pasid, reopen, reset, set_entry, start, stop, submit,
+    clear_entry, close, free_pasid, reopen, replace, reset, set_entry, skip, start, stop, submit,
 };
 use crate::pumping::{forget, forget_entry, pump};
-use crate::serving::{respond, serve};
+use crate::receiving::write;
+use crate::serving::{discard, respond, respond_all, serve};
 use std::alloc::AllocError;
 use sva_open::{Act, LocalAct, Mapping, Open, Part, Settings, Target, Tenure, set_at};
 
@@ -29,6 +30,7 @@ fn act_at_part(
 {
     match act {
         LocalAct::SetEntry { pasid, space } => set_entry(part, *pasid, *space),
+        LocalAct::Replace { pasid, space } => Ok(replace(part, *pasid, *space)),
         LocalAct::ClearEntry { pasid } => Ok(clear_entry(part, *pasid)),
         LocalAct::Start { pasid } => start(part, *pasid),
         LocalAct::Stop { pasid } => stop(part, *pasid),
@@ -36,6 +38,7 @@ fn act_at_part(
         LocalAct::Submit { descriptors } => submit(part, descriptors.as_slice()),
         LocalAct::Close => Ok(close(part)),
         LocalAct::Reopen => Ok(reopen(part)),
+        LocalAct::Skip => Ok(skip(part)),
         LocalAct::AwaitWait { name } => Ok(await_wait(part, *name)),
         LocalAct::AwaitStopped { pasid } => Ok(await_stopped(part, *pasid)),
         LocalAct::AwaitQueue => Ok(await_queue(part)),
@@ -49,6 +52,14 @@ fn act_at_part(
             fails,
         } => {
             respond(part, *pasid, *index, *fails)?;
+            Ok(true)
+        }
+        LocalAct::RespondAll { pasid, fails } => {
+            respond_all(part, *pasid, *fails)?;
+            Ok(true)
+        }
+        LocalAct::Discard { pasid } => {
+            discard(part, *pasid);
             Ok(true)
         }
         LocalAct::FreePasid { pasid } => free_pasid(part, *pasid),
@@ -71,6 +82,7 @@ fn act_at_part(
         LocalAct::Finish { place } => finish(part, *place),
         LocalAct::Quit { pasid } => quit(part, settings.stopped, *pasid),
         LocalAct::Pump => pump(part, settings),
+        LocalAct::Write => write(part),
         LocalAct::ForgetEntry { place } => Ok(forget_entry(part, *place)),
         LocalAct::Forget { place } => Ok(forget(part, *place)),
         LocalAct::Deliver { place } => deliver(part, settings, mappings, *place),
@@ -83,6 +95,7 @@ pub fn act(now: &mut Open, act: &Act) -> Result<bool, AllocError>
     ensures { IfOk result (λ done. IsStep (next_open now.old act.now) done now.old now.new) }
 {
     match act {
+        Act::Mark => Ok(true),
         Act::SetPage {
             space,
             page,
@@ -99,6 +112,10 @@ pub fn act(now: &mut Open, act: &Act) -> Result<bool, AllocError>
             now.freed.push(*space)?;
             Ok(true)
         }
+        Act::FreeDomain { space } => {
+            now.domains.push(*space)?;
+            Ok(true)
+        }
         Act::At { endpoint, act } => act_at(now, *endpoint, act),
     }
 }
@@ -111,6 +128,7 @@ fn act_at(now: &mut Open, endpoint: usize, act: &LocalAct) -> Result<bool, Alloc
         mappings,
         frames: _,
         freed: _,
+        domains: _,
         parts,
     } = now;
     let done = act_in(parts, settings, mappings.as_slice(), endpoint, act)?;

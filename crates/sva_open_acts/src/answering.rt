@@ -25,7 +25,11 @@ pub(crate) fn answer(
     let entry = entry_at(part, pasid);
     let target = target_at(part, mappings, pasid, page, entry);
     keep_what(part, settings.has_caches, pasid, page, entry, target)?;
-    part.send(one.owner, one.number, Message::Completion { tag, target })
+    part.send(
+        one.owner,
+        one.number,
+        Message::Completion { tag, page, target },
+    )
 }
 
 /// The entry that it goes by.

@@ -11,8 +11,8 @@ use crate::order::may_deliver;
 use crate::pumping::{complete_itag, drop_covered};
 use std::alloc::AllocError;
 use sva_open::{
-    Arrived, Mapping, Message, PageRequest, Part, Request, Row, Scope, Sent, Settings, State,
-    Target, Translation, Work, drop_at, set_at,
+    Arrived, Mapping, Message, PageRequest, Part, Received, Request, Row, Scope, Sent, Settings,
+    State, Target, Translation, Work, drop_at, set_at,
 };
 
 pub(crate) fn deliver(
@@ -55,7 +55,7 @@ fn receive(
             Ok(())
         }
         Message::Reset => take_reset(part),
-        Message::Completion { tag, target } => complete(part, tag, target),
+        Message::Completion { tag, target, .. } => complete(part, tag, target),
         Message::Invalidate { itag, scope } => invalidate(part, itag, scope),
         Message::Response { index, fails, .. } => {
             end_group(part, index, fails);
@@ -70,11 +70,12 @@ fn receive(
         }
         Message::Invalidated { itag } => {
             if part.is_open {
-                complete_itag(part, itag);
+                complete_itag(part, itag)
+            } else {
+                Ok(())
             }
-            Ok(())
         }
-        Message::PageRequest(request) => arrive(part, one, request),
+        Message::PageRequest(request) => arrive(part, settings, one, request),
         Message::Marker { pasid } => {
             if part.is_open {
                 answer_stop(part, pasid, one.owner);
@@ -129,17 +130,29 @@ fn answer_stop(part: &mut Part, pasid: usize, owner: u64)
     );
 }
 
-fn arrive(part: &mut Part, one: &Sent, request: PageRequest) -> Result<(), AllocError>
-    ensures { IfOk result (λ _. part.new ≡ link.if_open part.old (link.arrive part.old one.now request)) }
+/// A page request comes to the unit.
+fn arrive(
+    part: &mut Part,
+    settings: &Settings,
+    one: &Sent,
+    request: PageRequest,
+) -> Result<(), AllocError>
+    ensures { IfOk result (λ _.
+        part.new ≡ link.if_open part.old (link.arrive settings.now part.old one.now request)) }
 {
     if !part.is_open {
         return Ok(());
     }
-    part.arrived.push(Arrived {
+    let arrived = Arrived {
         request,
         owner: one.owner,
         number: one.number,
-    })?;
+    };
+    if settings.drain_empties {
+        part.arrived.push(arrived)?;
+    } else {
+        part.received.push(Received::Request(arrived))?;
+    }
     Ok(())
 }
 

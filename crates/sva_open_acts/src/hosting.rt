@@ -1,13 +1,13 @@
 //! What the host does with entries, messages and its unit.
 
-ghost use Rattle.std.specs.Prelude.{◌≡◌, IfOk, Some, slice_get};
+ghost use Rattle.std.specs.Prelude.{◌≡◌, IfOk, Some, filter, slice_get};
 ghost use Rattle.std.specs.List.{list_any};
 ghost use Rattle.sva_search.specs.Rules.{IsStep};
 ghost use Rattle.sva_open.specs.Host as host;
-ghost use Rattle.sva_open.specs.Units.{is_wait, is_waiting};
+ghost use Rattle.sva_open.specs.Units.{is_drain, is_wait, is_waiting};
 
 use std::alloc::AllocError;
-use sva_open::{Arrived, Descriptor, Filed, Issued, Message, Part, Row, Sent};
+use sva_open::{Arrived, Descriptor, Filed, Issued, Message, Part, Received, Row, Sent, drop_at};
 use sva_step::QUEUE_PLACES;
 
 pub(crate) fn set_entry(part: &mut Part, pasid: usize, space: u64) -> Result<bool, AllocError>
@@ -20,6 +20,16 @@ pub(crate) fn set_entry(part: &mut Part, pasid: usize, space: u64) -> Result<boo
     let row = row.entered(space)?;
     part.set_row(pasid, row);
     Ok(true)
+}
+
+pub(crate) fn replace(part: &mut Part, pasid: usize, space: u64) -> bool
+    ensures { IsStep (host.replace part.old pasid space (slice_get part.old.rows pasid)) result part.old part.new }
+{
+    let Some(row) = part.row(pasid) else {
+        return false;
+    };
+    part.set_row(pasid, row.leading_to(space));
+    true
 }
 
 pub(crate) fn clear_entry(part: &mut Part, pasid: usize) -> bool
@@ -108,6 +118,7 @@ pub(crate) fn close(part: &mut Part) -> bool
         return false;
     }
     part.is_open = false;
+    keep_drains(&mut part.received);
     part.arrived.clear();
     part.filed.clear();
     true
@@ -122,13 +133,28 @@ pub(crate) fn reopen(part: &mut Part) -> bool
     part.is_open = true;
     part.queue.clear();
     part.issued.clear();
+    part.received.clear();
     true
+}
+
+/// Takes out the head of the invalidation queue.
+pub(crate) fn skip(part: &mut Part) -> bool
+    ensures { IsStep (host.skip part.old (slice_get part.old.queue 0)) result part.old part.new }
+{
+    match part.queue.get(0).copied() {
+        None => false,
+        Some(_head) => {
+            drop_at(&mut part.queue, 0);
+            true
+        }
+    }
 }
 
 pub(crate) fn await_wait(part: &Part, name: usize) -> bool
     ensures { IsStep (host.await_wait part.now name) result part.now part.now }
 {
-    !(is_queued(part.queue.as_slice(), name) || is_issued(part.issued.as_slice(), name))
+    !(is_queued(part.queue.as_slice(), name)
+        || (is_issued(part.issued.as_slice(), name) || is_received(part.received.as_slice(), name)))
 }
 
 pub(crate) fn await_stopped(part: &mut Part, pasid: usize) -> bool
@@ -162,7 +188,7 @@ pub(crate) fn await_queue_of(part: &Part, pasid: usize) -> bool
     !has_arrived(part.arrived.as_slice(), pasid)
 }
 
-pub(crate) fn await_groups(part: &Part, pasid: usize) -> bool
+pub(crate) fn await_groups(part: &Part, pasid: Option<usize>) -> bool
     ensures { IsStep (host.await_groups part.now pasid) result part.now part.now }
 {
     !is_filed(part.filed.as_slice(), pasid)
@@ -186,16 +212,29 @@ fn is_issued(issued: &[Issued], name: usize) -> bool
     issued.iter().any(|one| one.is_waiting(name))
 }
 
+fn is_received(received: &[Received], name: usize) -> bool
+    ensures { result ≡ list_any (is_drain name) received.now }
+{
+    received.iter().any(|one| one.is_drain(name))
+}
+
+/// Takes out the page requests that were received.
+fn keep_drains(received: &mut Vec<Received>)
+    ensures { received.new.items ≡ filter host.is_drain_of_any received.old.items }
+{
+    received.retain(|one| !one.is_request());
+}
+
 fn has_arrived(arrived: &[Arrived], pasid: usize) -> bool
     ensures { result ≡ list_any (host.has_arrived pasid) arrived.now }
 {
     arrived.iter().any(|one| one.request.pasid == pasid)
 }
 
-fn is_filed(filed: &[Filed], pasid: usize) -> bool
-    ensures { result ≡ list_any (host.is_under pasid) filed.now }
+fn is_filed(filed: &[Filed], pasid: Option<usize>) -> bool
+    ensures { result ≡ list_any (host.is_whole_under pasid) filed.now }
 {
-    filed.iter().any(|one| one.is_under(pasid))
+    filed.iter().any(|one| one.is_whole_under(pasid))
 }
 
 fn is_of_reset(one: &Sent) -> bool

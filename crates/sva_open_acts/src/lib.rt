@@ -9,6 +9,7 @@ mod finishing;
 mod hosting;
 mod order;
 mod pumping;
+mod receiving;
 mod serving;
 
 pub use acting::act;

@@ -1,6 +1,6 @@
 //! What a unit does by itself.
 
-ghost use Rattle.std.specs.Prelude.{◌≡◌, IfOk, None, Some, drop, filter, if◌then◌else◌, position, slice_get};
+ghost use Rattle.std.specs.Prelude.{◌≡◌, IfOk, None, Some, position, slice_get};
 ghost use Rattle.std.specs.List.{list_any};
 ghost use Rattle.sva_step.specs.Limits;
 ghost use Rattle.sva_search.specs.Rules.{IsStep};
@@ -8,9 +8,10 @@ ghost use Rattle.sva_open.specs.World.{without_covered};
 ghost use Rattle.sva_open.specs.Units as unit;
 ghost use Rattle.sva_open.specs.declared.descriptors.Descriptor.TheVariants.{Wait};
 
+use crate::receiving::wait;
 use std::alloc::AllocError;
 use sva_open::{
-    Descriptor, Issued, KeptEntry, Message, Part, Scope, Settings, Translation, drop_at, drop_first,
+    Descriptor, Issued, KeptEntry, Message, Part, Scope, Settings, Translation, drop_at,
 };
 use sva_step::ITAGS;
 
@@ -75,17 +76,42 @@ fn pass(
     if !may_pass(part, settings, drain, fence) {
         return Ok(false);
     }
-    drop_at(&mut part.queue, 0);
-    part.issued.push(Issued::Waiting { name })?;
-    settle(&mut part.issued);
+    leave(part, name, drain)?;
     Ok(true)
+}
+
+/// A wait leaves the queue: it is done, or stands behind what it covers.
+fn leave(part: &mut Part, name: usize, drain: bool) -> Result<(), AllocError>
+    ensures { IfOk result (λ _. part.new ≡ unit.pass part.old name drain) }
+{
+    let is_out = is_out_before(part.issued.as_slice(), part.issued.len());
+    drop_at(&mut part.queue, 0);
+    if is_out {
+        part.issued.push(Issued::Waiting { name, drain })?;
+        return Ok(());
+    }
+    wait(part, name, drain)
+}
+
+/// Whether an invalidation is out that stands directly before a place.
+fn is_out_before(issued: &[Issued], place: usize) -> bool
+    ensures { result ≡ unit.is_out_before issued.now place }
+{
+    if place == 0 {
+        return false;
+    }
+    match issued.get(place - 1) {
+        None => false,
+        Some(one) => one.is_sent(),
+    }
 }
 
 fn may_pass(part: &Part, settings: &Settings, drain: bool, fence: bool) -> bool
     ensures { result ≡ unit.may_pass settings.now part.now drain fence }
 {
-    (!(settings.all_fence || fence) || part.issued.len() == 0)
-        && (!(settings.drain_empties && drain) || part.arrived.len() == 0)
+    !(settings.refuses_drain && drain)
+        && ((!(settings.all_fence || fence) || part.issued.len() == 0)
+            && (!(settings.drain_empties && drain) || part.arrived.len() == 0))
 }
 
 pub(crate) fn forget_entry(part: &mut Part, place: usize) -> bool
@@ -109,11 +135,51 @@ pub(crate) fn forget(part: &mut Part, place: usize) -> bool
 }
 
 /// Frees an ITag.
-pub(crate) fn complete_itag(part: &mut Part, itag: usize)
-    ensures { part.new ≡ unit.complete_itag part.old itag }
+pub(crate) fn complete_itag(part: &mut Part, itag: usize) -> Result<(), AllocError>
+    ensures { IfOk result (λ _. part.new ≡ unit.complete_itag part.old itag) }
 {
-    drop_itag(&mut part.issued, itag);
-    settle(&mut part.issued);
+    match itag_place(part.issued.as_slice(), itag) {
+        None => Ok(()),
+        Some(place) => complete_at(part, place),
+    }
+}
+
+fn complete_at(part: &mut Part, place: usize) -> Result<(), AllocError>
+    ensures { IfOk result (λ _. part.new ≡ unit.completed_at part.old (Some place)) }
+{
+    let is_out = is_out_before(part.issued.as_slice(), place);
+    drop_at(&mut part.issued, place);
+    let next = part.issued.get(place).copied();
+    settle(part, place, is_out, next)
+}
+
+/// Takes out the wait that stands at a place, if nothing that it covers is out.
+fn settle(
+    part: &mut Part,
+    place: usize,
+    is_out: bool,
+    next: Option<Issued>,
+) -> Result<(), AllocError>
+    ensures { IfOk result (λ _. part.new ≡ unit.settled part.old place is_out next) }
+{
+    if is_out {
+        return Ok(());
+    }
+    match next {
+        Some(Issued::Waiting { name, drain }) => {
+            drop_at(&mut part.issued, place);
+            wait(part, name, drain)
+        }
+        Some(Issued::Sent { .. }) => Ok(()),
+        None => Ok(()),
+    }
+}
+
+/// The place of the invalidation that has an ITag.
+fn itag_place(issued: &[Issued], itag: usize) -> Option<usize>
+    ensures { result ≡ position (unit.has_itag itag) issued.now }
+{
+    issued.iter().position(|one| one.has_itag(itag))
 }
 
 fn is_busy(issued: &[Issued], itag: usize) -> bool
@@ -132,28 +198,6 @@ fn free_itag(issued: &[Issued]) -> Option<usize>
         }
     }
     None
-}
-
-fn first_sent(issued: &[Issued]) -> Option<usize>
-    ensures { result ≡ position unit.is_sent issued.now }
-{
-    issued.iter().position(|one| one.is_sent())
-}
-
-/// Takes out the waits that are done.
-fn settle(issued: &mut Vec<Issued>)
-    ensures { issued.new.items ≡ unit.settled issued.old.items }
-{
-    match first_sent(issued.as_slice()) {
-        None => issued.clear(),
-        Some(place) => drop_first(issued, place),
-    }
-}
-
-fn drop_itag(issued: &mut Vec<Issued>, itag: usize)
-    ensures { issued.new.items ≡ filter (unit.has_other_itag itag) issued.old.items }
-{
-    issued.retain(|one| !one.has_itag(itag));
 }
 
 /// Takes out what an invalidation covers.

@@ -1,11 +1,12 @@
 //! What the host does with page requests.
 
-ghost use Rattle.std.specs.Prelude.{◌≡◌, IfOk, None, Some, position, slice_get};
+ghost use Rattle.std.specs.Prelude.{◌≡◌, ◌++◌, IfOk, None, Some, filter, map, position, slice_get};
 ghost use Rattle.sva_search.specs.Rules.{IsStep};
-ghost use Rattle.sva_open.specs.Host.{filed_at, is_group, is_joined, respond, respond_at, serve};
+ghost use Rattle.sva_open.specs.Host as host;
+ghost use Rattle.sva_open.specs.Host.{filed_at, filing, is_group, is_joined, respond, respond_at, serve};
 
 use std::alloc::AllocError;
-use sva_open::{Arrived, Filed, Message, PageRequest, Part, drop_at, set_at};
+use sva_open::{Arrived, Filed, Message, PageRequest, Part, Sent, drop_at, set_at};
 
 pub(crate) fn serve(part: &mut Part) -> Result<bool, AllocError>
     ensures { IfOk result (λ done. IsStep (serve part.old (slice_get part.old.arrived 0)) done part.old part.new) }
@@ -13,7 +14,8 @@ pub(crate) fn serve(part: &mut Part) -> Result<bool, AllocError>
     let Some(one) = part.arrived.get(0).copied() else {
         return Ok(false);
     };
-    file(&mut part.filed, &one)?;
+    let space = space_of(part, one.request.pasid);
+    file(&mut part.filed, &one, space)?;
     drop_at(&mut part.arrived, 0);
     Ok(true)
 }
@@ -78,17 +80,36 @@ fn group_place(filed: &[Filed], pasid: usize, index: usize) -> Option<usize>
     filed.iter().position(|one| one.is_group(pasid, index))
 }
 
-/// Files a page request.
-fn file(filed: &mut Vec<Filed>, one: &Arrived) -> Result<(), AllocError>
-    ensures { IfOk result (λ _.
-        filed.new.items ≡ filed_at filed.old.items one.now (position (is_joined one.now.request) filed.old.items)) }
+/// The space that a PASID has.
+fn space_of(part: &Part, pasid: usize) -> Option<u64>
+    ensures { result ≡ host.space_of (slice_get part.now.rows pasid) }
 {
-    let filing = Filed {
+    match part.row(pasid) {
+        None => None,
+        Some(row) => row.space,
+    }
+}
+
+fn filing_of(one: &Arrived, space: Option<u64>) -> Filed
+    ensures { result ≡ filing space one.now }
+{
+    Filed {
         pasid: one.request.pasid,
         index: one.request.index,
         number: one.number,
         is_whole: one.request.last,
-    };
+        owner: one.owner,
+        space,
+    }
+}
+
+/// Files a page request.
+fn file(filed: &mut Vec<Filed>, one: &Arrived, space: Option<u64>) -> Result<(), AllocError>
+    ensures { IfOk result (λ _.
+        filed.new.items ≡ filed_at filed.old.items (filing space one.now)
+        (position (is_joined one.now.request) filed.old.items)) }
+{
+    let filing = filing_of(one, space);
     match joined(filed.as_slice(), &one.request) {
         None => {
             filed.push(filing)?;
@@ -99,4 +120,68 @@ fn file(filed: &mut Vec<Filed>, one: &Arrived) -> Result<(), AllocError>
             Ok(())
         }
     }
+}
+
+/// Answers each whole group, of one PASID or of all.
+pub(crate) fn respond_all(
+    part: &mut Part,
+    pasid: Option<usize>,
+    fails: bool,
+) -> Result<(), AllocError>
+    ensures { IfOk result (λ _. part.new ≡ host.respond_all part.old pasid fails) }
+{
+    answer_whole(&mut part.flight, part.filed.as_slice(), pasid, fails)?;
+    drop_whole(&mut part.filed, pasid);
+    Ok(())
+}
+
+fn answer_to(filed: &Filed, fails: bool) -> Sent
+    ensures { result ≡ host.answer_to fails filed.now }
+{
+    Sent {
+        message: Message::Response {
+            index: filed.index,
+            fails,
+            filed: true,
+        },
+        owner: 0,
+        number: filed.number,
+    }
+}
+
+fn answer_whole(
+    flight: &mut Vec<Sent>,
+    filed: &[Filed],
+    pasid: Option<usize>,
+    fails: bool,
+) -> Result<(), AllocError>
+    ensures { IfOk result (λ _.
+        flight.new.items
+        ≡ flight.old.items ++ map (host.answer_to fails) (filter (host.is_whole_under pasid) filed.now)) }
+{
+    for one in filed {
+        if one.is_whole_under(pasid) {
+            flight.push(answer_to(one, fails))?;
+        }
+    }
+    Ok(())
+}
+
+fn drop_whole(filed: &mut Vec<Filed>, pasid: Option<usize>)
+    ensures { filed.new.items ≡ filter (host.isnt_whole_under pasid) filed.old.items }
+{
+    filed.retain(|one| !one.is_whole_under(pasid));
+}
+
+/// Drops each group that isn't whole, of one PASID or of all.
+pub(crate) fn discard(part: &mut Part, pasid: Option<usize>)
+    ensures { part.new ≡ host.discard part.old pasid }
+{
+    drop_partial(&mut part.filed, pasid);
+}
+
+fn drop_partial(filed: &mut Vec<Filed>, pasid: Option<usize>)
+    ensures { filed.new.items ≡ filter (host.isnt_partial_under pasid) filed.old.items }
+{
+    filed.retain(|one| !one.is_partial_under(pasid));
 }

@@ -14,4 +14,4 @@ pub mod SwapWorlds
 pub mod Tested
 mod Firsts
 mod Quiet
-mod WrongsAndSafety
+pub mod WrongsAndSafety

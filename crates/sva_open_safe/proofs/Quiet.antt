@@ -2,15 +2,17 @@
 use Rattle.std.proofs.Common.{◌≡◌, ℕ, Bool, true, false, not, Option, Some, None, List, [], ◌∷◌, length, refl, ap, sym, ◌∙◌, ◌+◌}
 use Rattle.std.proofs.lemmas.Iterator.Adapters.{position_from-zero}
 use Rattle.std.proofs.lemmas.List.Folds.{find_at}
-use Rattle.std.specs.Prelude.{◌==◌, ◌&&◌, ◌||◌, cond, find, if◌then◌else◌, is_some, nat_lt, option_and_then, option_map, position, slice_get}
+use Rattle.std.specs.Prelude.{◌==◌, ◌&&◌, ◌||◌, cond, find, if◌then◌else◌, is_none, is_some, nat_lt, option_and_then, option_map, position, slice_get}
 use Rattle.std.specs.List.{list_all, position_from, position_or_len}
-use Rattle.sva_open.specs.World.{Open, Part, is_off, or_else}
+use Rattle.sva_open.specs.World.{Open, Part, group_at, is_off, or_else}
 use Rattle.sva_open.specs.Host.{is_joined}
 use Rattle.sva_open.specs.Checks.{is_answer_owned, is_current_at, is_entry_owned, is_its_end, is_freed, is_good, is_good_arrived}
 use Rattle.sva_open.specs.Checks.{is_good_entry, is_good_kept, is_good_request, is_good_work, is_its_own, is_owned, is_present, is_right}
-use Rattle.sva_open.specs.Checks.{joins_own, joins_own_group}
+use Rattle.sva_open.specs.Checks.{is_good_filed, is_good_received, is_space_there, joins_own, joins_own_group}
 use Rattle.sva_open.specs.declared.descriptors.Arrived.{Arrived}
 use Rattle.sva_open.specs.declared.descriptors.Filed.{Filed}
+use Rattle.sva_open.specs.declared.descriptors.Received.{Received}
+use Rattle.sva_open.specs.declared.descriptors.Received.TheVariants.{Request as Asked, Drain}
 use Rattle.sva_open.specs.declared.frames.Target.{Target}
 use Rattle.sva_open.specs.declared.frames.Tenure.{Tenure}
 use Rattle.sva_open.specs.declared.frames.Translation.{Translation}
@@ -20,6 +22,7 @@ use Rattle.sva_open.specs.declared.messages.Sent.{Sent}
 use Rattle.sva_open.specs.declared.rows.Entry.{Entry}
 use Rattle.sva_open.specs.declared.rows.KeptEntry.{KeptEntry}
 use Rattle.sva_open.specs.declared.rows.Row.{Row}
+use Rattle.sva_open.specs.declared.settings.Settings.{Settings}
 use Rattle.sva_open.specs.declared.works.Group.{Group}
 use Rattle.sva_open.specs.declared.works.Request.{Request}
 use Rattle.sva_open.specs.declared.works.Work.{Work}
@@ -184,26 +187,35 @@ upward : (is_open present : Bool) (u : Wrong)
 upward true present u = one_of present u
 upward false present u = refl
 
-answered : (e index : ℕ) (filed : Bool) (number : ℕ) (group : Option (Option Group))
-    → filed && is_its_end number group ≡ quiet (wrongs.group_met e index filed number group) && true
-answered e index true number None = refl
-answered e index false number None = refl
-answered e index true number (Some None) = refl
-answered e index false number (Some None) = refl
-answered e index true number (Some (Some group)) = at (number == group.number) group.is_finished _ _
-  where
-    at : (own finished : Bool) (u v : Wrong)
-        → own && finished ≡ quiet (if own then wrongs.if_so (not finished) u else Some v) && true
-    at true true u v = refl
-    at true false u v = refl
-    at false finished u v = refl
-answered e index false number (Some (Some group)) = refl
+no_group : (allows filed : Bool) (u : Wrong) → (filed && false) || (allows && true) ≡ quiet (wrongs.if_so (not allows) u) && true
+no_group true true u = refl
+no_group true false u = refl
+no_group false true u = refl
+no_group false false u = refl
+
+a_group : (allows filed own finished : Bool) (u v : Wrong)
+    → (filed && (own && finished)) || (allows && false)
+    ≡ quiet (if filed && own then wrongs.if_so (not finished) u else Some v) && true
+a_group allows true true true u v = refl
+a_group true true true false u v = refl
+a_group false true true false u v = refl
+a_group true true false finished u v = refl
+a_group false true false finished u v = refl
+a_group true false own finished u v = refl
+a_group false false own finished u v = refl
+
+answered : (allows : Bool) (e index : ℕ) (filed : Bool) (number : ℕ) (group : Option (Option Group))
+    → (filed && is_its_end number group) || (allows && is_none (group_at group))
+    ≡ quiet (wrongs.group_met allows e index filed number group) && true
+answered allows e index filed number None = no_group allows filed (wrong.NoGroup e index)
+answered allows e index filed number (Some None) = no_group allows filed (wrong.NoGroup e index)
+answered allows e index filed number (Some (Some group)) = a_group allows filed (number == group.number) group.is_finished _ _
 
 -- a completion that leads somewhere
-completed_by : (timely doomed given write frozen : Bool) (v w u : Wrong)
-    → timely && (doomed || (given && (not write || frozen)))
-    ≡ quiet (if timely && not doomed then wrongs.if_so (not given) v else None)
-    && (quiet (if timely && not doomed then wrongs.if_so (write && not frozen) w else None) && quiet (wrongs.if_so (not timely) u))
+completed_by : (own doomed given write frozen : Bool) (v w u : Wrong)
+    → own && (doomed || (given && (not write || frozen)))
+    ≡ quiet (if own && not doomed then wrongs.if_so (not given) v else None)
+    && (quiet (if own && not doomed then wrongs.if_so (write && not frozen) w else None) && quiet (wrongs.if_so (not own) u))
 completed_by false doomed given write frozen v w u = refl
 completed_by true true given write frozen v w u = refl
 completed_by true false false write frozen v w u = refl
@@ -211,36 +223,37 @@ completed_by true false true false frozen v w u = refl
 completed_by true false true true true v w u = refl
 completed_by true false true true false v w u = refl
 
-completed_at : (target : Target) (now : Option Tenure) (timely doomed : Bool) (v w u : Wrong)
-    → timely && (doomed || is_current_at target now)
-    ≡ quiet (if timely && not doomed then wrongs.if_so (wrongs.is_given_away target now) v else None)
-    && (quiet (if timely && not doomed then wrongs.if_so (wrongs.is_frozen target now) w else None) && quiet (wrongs.if_so (not timely) u))
+completed_at : (target : Target) (now : Option Tenure) (own doomed : Bool) (v w u : Wrong)
+    → own && (doomed || is_current_at target now)
+    ≡ quiet (if own && not doomed then wrongs.if_so (wrongs.is_given_away target now) v else None)
+    && (quiet (if own && not doomed then wrongs.if_so (wrongs.is_frozen target now) w else None) && quiet (wrongs.if_so (not own) u))
 completed_at target None true true v w u = refl
 completed_at target None true false v w u = refl
 completed_at target None false doomed v w u = refl
-completed_at target (Some now) timely doomed v w u =
-    completed_by timely doomed (target.tenure.given == now.given) target.write (target.tenure.frozen == now.frozen) v w u
+completed_at target (Some now) own doomed v w u =
+    completed_by own doomed (target.tenure.given == now.given) target.write (target.tenure.frozen == now.frozen) v w u
 
-timed : (timely doomed : Bool) (u : Wrong) → timely && (doomed || true) ≡ quiet (wrongs.if_so (not timely) u)
-timed true true u = refl
-timed true false u = refl
-timed false doomed u = refl
+own_or_not : (own doomed : Bool) (u : Wrong) → own && (doomed || true) ≡ quiet (wrongs.if_so (not own) u)
+own_or_not true true u = refl
+own_or_not true false u = refl
+own_or_not false doomed u = refl
 
-abbrev arrives : Sort → Open → (e : ℕ) → Part → Sent → Option Target → Option (Option Request) → Option Wrong
-arrives of now e part one None request = None
-arrives of now e part one (Some target) request = wrongs.arrives_wrong of now e (one.number == part.time) target request
+abbrev arrives : Sort → Open → (e : ℕ) → Part → Sent → (page : ℕ) → Option Target → Option (Option Request) → Option Wrong
+arrives of now e part one page None request = None
+arrives of now e part one page (Some target) request = wrongs.arrives_wrong of now e (one.number == part.time) page target request
 
-completed : (now : Open) (e : ℕ) (part : Part) (one : Sent) (tag : ℕ) (target : Option Target) (request : Option (Option Request))
-    → is_its_own now.frames part one target request
-    ≡ quiet (arrives sort.Freed now e part one target request) && (quiet (arrives sort.Frozen now e part one target request)
-    && quiet (wrongs.request_met e tag (one.number == part.time) request))
-completed now e part one tag None None = refl
-completed now e part one tag None (Some None) = refl
-completed now e part one tag None (Some (Some request)) = timed (one.number == part.time) request.is_doomed _
-completed now e part one tag (Some target) None = refl
-completed now e part one tag (Some target) (Some None) = refl
-completed now e part one tag (Some target) (Some (Some request)) =
-    completed_at target (slice_get now.frames target.frame) (one.number == part.time) request.is_doomed _ _ _
+completed : (now : Open) (e : ℕ) (part : Part) (one : Sent) (tag page : ℕ) (target : Option Target) (request : Option (Option Request))
+    → is_its_own now.frames part one page target request
+    ≡ quiet (arrives sort.Freed now e part one page target request) && (quiet (arrives sort.Frozen now e part one page target request)
+    && quiet (wrongs.request_met e tag (one.number == part.time) page request))
+completed now e part one tag page None None = refl
+completed now e part one tag page None (Some None) = refl
+completed now e part one tag page None (Some (Some request)) =
+    own_or_not (wrongs.answers (one.number == part.time) page request) request.is_doomed _
+completed now e part one tag page (Some target) None = refl
+completed now e part one tag page (Some target) (Some None) = refl
+completed now e part one tag page (Some target) (Some (Some request)) =
+    completed_at target (slice_get now.frames target.frame) (wrongs.answers (one.number == part.time) page request) request.is_doomed _ _ _
 
 -- what may be wrong with a message, kind by kind
 abbrev pub left_by : (e : ℕ) → Part → (owner : ℕ) → Message → Bool
@@ -249,9 +262,9 @@ left_by e part owner it =
     && (quiet (wrongs.message_left part e thing.PageRequest owner it) && (quiet (wrongs.message_left part e thing.Marker owner it)
     && quiet (wrongs.message_left part e thing.Status owner it))))
 
-abbrev pub met_by : (e : ℕ) → Part → Sent → Message → Bool
-met_by e part one it =
-    quiet (wrongs.response_met part e one.number it) && quiet (wrongs.completion_met part e (one.number == part.time) it)
+abbrev pub met_by : Settings → (e : ℕ) → Part → Sent → Message → Bool
+met_by settings e part one it =
+    quiet (wrongs.response_met settings part e one.number it) && quiet (wrongs.completion_met part e (one.number == part.time) it)
 
 abbrev led_to : Sort → Open → (e : ℕ) → Part → Sent → Message → Bool
 led_to of now e part one it = quiet (wrongs.completion_wrong of now e part (one.number == part.time) it)
@@ -259,17 +272,18 @@ led_to of now e part one it = quiet (wrongs.completion_wrong of now e part (one.
 abbrev quiet_message : Open → (e : ℕ) → Part → Sent → Message → Bool
 quiet_message now e part one it =
     led_to sort.Freed now e part one it && (led_to sort.Frozen now e part one it
-    && (left_by e part one.owner it && met_by e part one it))
+    && (left_by e part one.owner it && met_by now.settings e part one it))
 
-pub right : (now : Open) (e : ℕ) (part : Part) (one : Sent) (it : Message) → is_right now.frames part one it ≡ quiet_message now e part one it
+pub right : (now : Open) (e : ℕ) (part : Part) (one : Sent) (it : Message)
+    → is_right now.settings now.frames part one it ≡ quiet_message now e part one it
 right now e part one (message.Start pasid) = one_of (is_present part pasid one.owner) _
 right now e part one (message.Stop pasid) = one_of (is_present part pasid one.owner) _
 right now e part one message.Reset = refl
-right now e part one (message.Completion tag None) = completed now e part one tag None (slice_get part.requests tag)
-right now e part one (message.Completion tag (Some target)) = completed now e part one tag (Some target) (slice_get part.requests tag)
+right now e part one (message.Completion tag page None) = completed now e part one tag page None (slice_get part.requests tag)
+right now e part one (message.Completion tag page (Some target)) = completed now e part one tag page (Some target) (slice_get part.requests tag)
 right now e part one (message.Invalidate itag scope) = refl
 right now e part one (message.Response index fails filed) =
-    answered e index filed one.number (slice_get part.groups index)
+    answered now.settings.allows_no_group e index filed one.number (slice_get part.groups index)
 right now e part one (message.Request tag pasid page) = refl
 right now e part one (message.Invalidated itag) = refl
 right now e part one (message.PageRequest request) = upward part.is_open (is_present part request.pasid one.owner) _
@@ -340,6 +354,33 @@ walked freed e part = at (position (wrongs.is_walked freed) part.rows) refl
 
 pub good_arrived : (e : ℕ) (part : Part) (one : Arrived) → is_good_arrived part one ≡ quiet (wrongs.arrived_left part e one)
 good_arrived e part one = unless (is_present part one.request.pasid one.owner) _
+
+pub good_received : (e : ℕ) (part : Part) (one : Received) → is_good_received part one ≡ quiet (wrongs.received_left part e one)
+good_received e part (Asked one) = unless (is_present part one.request.pasid one.owner) _
+good_received e part (Drain name) = refl
+
+pub good_filed : (settings : Settings) (domains : List ℕ) (e : ℕ) (part : Part) (one : Filed)
+    → not settings.has_workers || is_good_filed domains part one
+    ≡ quiet (wrongs.filed_left settings part e one) && quiet (wrongs.filed_served settings domains e one)
+good_filed settings domains e part one =
+    at settings.has_workers one.is_whole (is_present part one.pasid one.owner) one.space _
+  where
+    by_space : (space : Option ℕ) → is_space_there domains space ≡ quiet (wrongs.space_served domains e one.pasid space)
+    by_space None = refl
+    by_space (Some space) = gone (is_freed domains space) _
+      where
+        gone : (so : Bool) (u : Wrong) → not so ≡ quiet (wrongs.if_so so u)
+        gone true u = refl
+        gone false u = refl
+
+    at : (works whole present : Bool) (space : Option ℕ) (u : Wrong)
+        → not works || (not whole || (present && is_space_there domains space))
+        ≡ quiet (if works && whole then wrongs.if_so (not present) u else None)
+        && quiet (if works && whole then wrongs.space_served domains e one.pasid space else None)
+    at false whole present space u = refl
+    at true false present space u = refl
+    at true true true space u = by_space space
+    at true true false space u = refl
 
 pub good_kept : (e : ℕ) (part : Part) (one : Translation) → is_good_kept part one ≡ quiet (wrongs.kept_left part e one)
 good_kept e part one = unless (is_present part one.pasid one.owner) _

@@ -1,10 +1,11 @@
 -- The test of a moment says what is meant.
-use Rattle.std.proofs.Common.{◌≡◌, ℕ, Bool, true, false, not, Option, Some, None, List, refl, ap, sym, subst, ◌∙◌}
+use Rattle.std.proofs.Common.{◌≡◌, ◌⊎◌, inl, inr, ℕ, Bool, true, false, not, Option, Some, None, List, refl, ap, sym, subst, ◌∙◌}
 use Rattle.std.proofs.lemmas.Bool.{and_from, and_parts, eq-eqb, eqb-true, not-false, not-true}
 use Rattle.std.proofs.lemmas.List.Elements.{Contains-get_or}
+use Rattle.std.proofs.lemmas.Option.{same_Some}
 use Rattle.std.proofs.lemmas.List.Folds.{Any-from_list_any, list_any-from_Any}
 use Rattle.std.proofs.lemmas.List.Sums.{AllPass-from_list_all, list_all-from_AllPass}
-use Rattle.std.specs.Prelude.{◌↔◌, ◌==◌, ◌&&◌, ◌||◌, Contains, slice_get, slice_index_or, IfSome}
+use Rattle.std.specs.Prelude.{◌↔◌, ◌==◌, ◌&&◌, ◌||◌, Contains, is_none, slice_get, slice_index_or, IfSome}
 use Rattle.std.specs.List.{list_all}
 use Rattle.sva_open.specs.declared.frames.Tenure.{Tenure}
 use Rattle.sva_open.specs.declared.frames.Target.{Target}
@@ -20,13 +21,16 @@ use Rattle.sva_open.specs.declared.works.Work.{Work}
 use Rattle.sva_open.specs.declared.works.Work.TheVariants.{Use, Taken}
 use Rattle.sva_open.specs.declared.descriptors.Arrived.{Arrived}
 use Rattle.sva_open.specs.declared.descriptors.Filed.{Filed}
-use Rattle.sva_open.specs.World.{Open, Part, is_off}
+use Rattle.sva_open.specs.declared.descriptors.Received.{Received}
+use Rattle.sva_open.specs.declared.descriptors.Received.TheVariants.{Request as Asked, Drain}
+use Rattle.sva_open.specs.declared.settings.Settings.{Settings}
+use Rattle.sva_open.specs.World.{Open, Part, group_at, is_off}
 use Rattle.sva_open.specs.Host.{is_group, is_joined}
-use Rattle.sva_open.specs.Safe.{EndsItsGroup, IsCurrent, IsGood, IsItsOwn, IsOwned, IsPresent, IsRight, IsSafe, IsSafePart}
-use Rattle.sva_open.specs.Checks.{IsTest, is_answer_owned, is_current, is_current_at, is_entry_owned, is_its_end, is_freed, is_good}
+use Rattle.sva_open.specs.Safe.{EndsItsGroup, EndsNone, IsCurrent, IsGood, IsItsOwn, IsOwned, IsPresent, IsRight, IsSafe, IsSafePart}
+use Rattle.sva_open.specs.Checks.{IsTest, ends_its_group, ends_none, is_answer_owned, is_current, is_current_at, is_entry_owned, is_its_end, is_freed, is_good}
 use Rattle.sva_open.specs.Checks.{is_good_arrived, is_good_entry, is_good_kept, is_good_request, is_good_work, is_its_own, is_owned, is_owner}
 use Rattle.sva_open.specs.Checks.{is_present, is_right, is_right_sent, is_safe, is_safe_device, is_safe_part, is_safe_unit, joins_own, joins_own_group}
-use Rattle.sva_open.specs.Checks.{may_be_held}
+use Rattle.sva_open.specs.Checks.{are_good_filed, is_good_filed, is_good_received, is_safe_for_workers, is_space_there, may_be_held}
 
 -- ---- tests
 
@@ -140,19 +144,26 @@ may_be_held_by : (frames : List Tenure) (target : Option Target) → IfSome targ
 may_be_held_by frames None h = refl
 may_be_held_by frames (Some target) h = is_current_by frames target h
 
-its_own : (frames : List Tenure) (part : Part) (one : Sent) (target : Option Target) (request : Request)
-    → is_its_own frames part one target (Some (Some request)) ≡ true → IsItsOwn frames part one target request
-its_own frames part one target request h =
-    let each = and_parts _ _ h in
-    record { time = eqb-true _ _ each.0; frame = λ k. held frames target (other request.is_doomed _ each.1 k) }
+its_own : (frames : List Tenure) (part : Part) (one : Sent) (page : ℕ) (target : Option Target) (request : Request)
+    → is_its_own frames part one page target (Some (Some request)) ≡ true → IsItsOwn frames part one page target request
+its_own frames part one page target request h =
+    let each = and_parts ((one.number == part.time) && (page == request.page)) _ h in
+    let own = and_parts (one.number == part.time) (page == request.page) each.0 in
+    record {
+      time = eqb-true _ _ own.0;
+      same = eqb-true _ _ own.1;
+      frame = λ k. held frames target (other request.is_doomed _ each.1 k);
+    }
 
-is_its_own_by : (frames : List Tenure) (part : Part) (one : Sent) (target : Option Target) (found : Option (Option Request))
-    → ((request : Request) → found ≡ Some (Some request) → IsItsOwn frames part one target request)
-    → is_its_own frames part one target found ≡ true
-is_its_own_by frames part one target None s = refl
-is_its_own_by frames part one target (Some None) s = refl
-is_its_own_by frames part one target (Some (Some request)) s =
-    and_from _ _ (eq-eqb _ _ (s request refl).time) (or_by request.is_doomed _ (λ k. may_be_held_by frames target ((s request refl).frame k)))
+is_its_own_by : (frames : List Tenure) (part : Part) (one : Sent) (page : ℕ) (target : Option Target) (found : Option (Option Request))
+    → ((request : Request) → found ≡ Some (Some request) → IsItsOwn frames part one page target request)
+    → is_its_own frames part one page target found ≡ true
+is_its_own_by frames part one page target None s = refl
+is_its_own_by frames part one page target (Some None) s = refl
+is_its_own_by frames part one page target (Some (Some request)) s =
+    let own = s request refl in
+    and_from ((one.number == part.time) && (page == request.page)) _ (and_from _ _ (eq-eqb _ _ own.time) (eq-eqb _ _ own.same))
+    (or_by request.is_doomed _ (λ k. may_be_held_by frames target (own.frame k)))
 
 ends_at : (part : Part) (one : Sent) (index : ℕ) (found : Option (Option Group)) → slice_get part.groups index ≡ found
     → is_its_end one.number found ≡ true → EndsItsGroup part one index
@@ -162,38 +173,72 @@ ends_at part one index (Some (Some group)) is h =
     let each = and_parts (one.number == group.number) _ h in
     record { group = group; found = is; number = eqb-true _ _ each.0; finished = each.1 }
 
-right : (frames : List Tenure) (part : Part) (one : Sent) (it : Message) → is_right frames part one it ≡ true → IsRight frames part one it
-right frames part one (message.Start pasid) h = present part pasid one.owner h
-right frames part one (message.Stop pasid) h = present part pasid one.owner h
-right frames part one message.Reset h = tt
-right frames part one (message.Completion tag target) h =
-    λ request is. its_own frames part one target request (sym (ap (is_its_own frames part one target) is) ∙ h)
-right frames part one (message.Invalidate itag scope) h = tt
-right frames part one (message.Response index fails filed) h =
-    let each = and_parts filed _ h in (each.0, ends_at part one index (slice_get part.groups index) refl each.1)
-right frames part one (message.Request tag pasid page) h = tt
-right frames part one (message.Invalidated itag) h = tt
-right frames part one (message.PageRequest request) h = λ k. present part request.pasid one.owner (other (not part.is_open) _ h (ap not k))
-right frames part one (message.Marker pasid) h = λ k. present part pasid one.owner (other (not part.is_open) _ h (ap not k))
-right frames part one (message.Status pasid) h = present part pasid one.owner h
-right frames part one message.ResetDone h = tt
+ends_by : (part : Part) (one : Sent) (index : ℕ) → EndsItsGroup part one index → ends_its_group part one index ≡ true
+ends_by part one index e = ap (is_its_end one.number) e.found ∙ and_from _ _ (eq-eqb _ _ e.number) e.finished
 
-is_right_by : (frames : List Tenure) (part : Part) (one : Sent) (it : Message) → IsRight frames part one it → is_right frames part one it ≡ true
-is_right_by frames part one (message.Start pasid) r = is_present_by part pasid one.owner r
-is_right_by frames part one (message.Stop pasid) r = is_present_by part pasid one.owner r
-is_right_by frames part one message.Reset r = refl
-is_right_by frames part one (message.Completion tag target) r = is_its_own_by frames part one target (slice_get part.requests tag) r
-is_right_by frames part one (message.Invalidate itag scope) r = refl
-is_right_by frames part one (message.Response index fails filed) r =
-    and_from filed _ r.0 (ap (is_its_end one.number) r.1.found ∙ and_from _ _ (eq-eqb _ _ r.1.number) r.1.finished)
-is_right_by frames part one (message.Request tag pasid page) r = refl
-is_right_by frames part one (message.Invalidated itag) r = refl
-is_right_by frames part one (message.PageRequest request) r =
+no_group : (found : Option Group) → is_none found ≡ true → found ≡ None
+no_group None h = refl
+no_group (Some group) h = absurd (cc)
+
+none_ended : (settings : Settings) (part : Part) (index : ℕ) → ends_none settings part index ≡ true → EndsNone settings part index
+none_ended settings part index h =
+    let each = and_parts settings.allows_no_group _ h in
+    record { allowed = each.0; none = no_group (group_at (slice_get part.groups index)) each.1 }
+
+none_ended_by : (settings : Settings) (part : Part) (index : ℕ) → EndsNone settings part index → ends_none settings part index ≡ true
+none_ended_by settings part index e = and_from settings.allows_no_group _ e.allowed (ap is_none e.none)
+
+either : (a b : Bool) → a || b ≡ true → (a ≡ true) ⊎ (b ≡ true)
+either true b h = inl refl
+either false b h = inr h
+
+responds : (settings : Settings) (part : Part) (one : Sent) (index : ℕ) (filed : Bool)
+    → (filed && ends_its_group part one index ≡ true) ⊎ (ends_none settings part index ≡ true)
+    → ((filed ≡ true) × EndsItsGroup part one index) ⊎ EndsNone settings part index
+responds settings part one index filed (inl h) =
+    let each = and_parts filed _ h in inl (each.0, ends_at part one index (slice_get part.groups index) refl each.1)
+responds settings part one index filed (inr h) = inr (none_ended settings part index h)
+
+responds_by : (settings : Settings) (part : Part) (one : Sent) (index : ℕ) (filed : Bool)
+    → ((filed ≡ true) × EndsItsGroup part one index) ⊎ EndsNone settings part index
+    → (filed && ends_its_group part one index) || ends_none settings part index ≡ true
+responds_by settings part one index filed (inl r) =
+    ap (λ b. b || ends_none settings part index) (and_from filed _ r.0 (ends_by part one index r.1))
+responds_by settings part one index filed (inr r) = or_by _ _ (λ k. none_ended_by settings part index r)
+
+right : (settings : Settings) (frames : List Tenure) (part : Part) (one : Sent) (it : Message)
+    → is_right settings frames part one it ≡ true → IsRight settings frames part one it
+right settings frames part one (message.Start pasid) h = present part pasid one.owner h
+right settings frames part one (message.Stop pasid) h = present part pasid one.owner h
+right settings frames part one message.Reset h = tt
+right settings frames part one (message.Completion tag page target) h =
+    λ request is. its_own frames part one page target request (sym (ap (is_its_own frames part one page target) is) ∙ h)
+right settings frames part one (message.Invalidate itag scope) h = tt
+right settings frames part one (message.Response index fails filed) h =
+    responds settings part one index filed (either (filed && ends_its_group part one index) _ h)
+right settings frames part one (message.Request tag pasid page) h = tt
+right settings frames part one (message.Invalidated itag) h = tt
+right settings frames part one (message.PageRequest request) h = λ k. present part request.pasid one.owner (other (not part.is_open) _ h (ap not k))
+right settings frames part one (message.Marker pasid) h = λ k. present part pasid one.owner (other (not part.is_open) _ h (ap not k))
+right settings frames part one (message.Status pasid) h = present part pasid one.owner h
+right settings frames part one message.ResetDone h = tt
+
+is_right_by : (settings : Settings) (frames : List Tenure) (part : Part) (one : Sent) (it : Message)
+    → IsRight settings frames part one it → is_right settings frames part one it ≡ true
+is_right_by settings frames part one (message.Start pasid) r = is_present_by part pasid one.owner r
+is_right_by settings frames part one (message.Stop pasid) r = is_present_by part pasid one.owner r
+is_right_by settings frames part one message.Reset r = refl
+is_right_by settings frames part one (message.Completion tag page target) r = is_its_own_by frames part one page target (slice_get part.requests tag) r
+is_right_by settings frames part one (message.Invalidate itag scope) r = refl
+is_right_by settings frames part one (message.Response index fails filed) r = responds_by settings part one index filed r
+is_right_by settings frames part one (message.Request tag pasid page) r = refl
+is_right_by settings frames part one (message.Invalidated itag) r = refl
+is_right_by settings frames part one (message.PageRequest request) r =
     or_by (not part.is_open) _ (λ k. is_present_by part request.pasid one.owner (r (not-false part.is_open k)))
-is_right_by frames part one (message.Marker pasid) r =
+is_right_by settings frames part one (message.Marker pasid) r =
     or_by (not part.is_open) _ (λ k. is_present_by part pasid one.owner (r (not-false part.is_open k)))
-is_right_by frames part one (message.Status pasid) r = is_present_by part pasid one.owner r
-is_right_by frames part one message.ResetDone r = refl
+is_right_by settings frames part one (message.Status pasid) r = is_present_by part pasid one.owner r
+is_right_by settings frames part one message.ResetDone r = refl
 
 -- ---- the unit
 
@@ -259,11 +304,46 @@ is_owned_by freed row s =
 
 -- ---- the whole
 
-safe_part : (frames : List Tenure) (freed : List ℕ) (part : Part) → is_safe_part frames freed part ≡ true → IsSafePart frames freed part
-safe_part frames freed part h =
+served : (domains : List ℕ) (space : Option ℕ) → is_space_there domains space ≡ true → (own : ℕ) → space ≡ Some own → Contains domains own → ⊥
+served domains None h own is has = absurd (cc)
+served domains (Some space) h own is has =
+    let same : space ≡ own = same_Some _ _ is in not_freed domains own (subst (λ s. not (is_freed domains s) ≡ true) same h) has
+
+served_by : (domains : List ℕ) (space : Option ℕ) → ((own : ℕ) → space ≡ Some own → Contains domains own → ⊥) → is_space_there domains space ≡ true
+served_by domains None s = refl
+served_by domains (Some space) s = freed_not domains space (s space refl)
+
+-- a whole group, where there are workers
+filed_good : (settings : Settings) (domains : List ℕ) (part : Part) → are_good_filed settings domains part ≡ true
+    → settings.has_workers ≡ true → (filed : Filed) → Contains part.filed filed → filed.is_whole ≡ true
+    → is_present part filed.pasid filed.owner && is_space_there domains filed.space ≡ true
+filed_good settings domains part h works filed has whole =
+    other (not filed.is_whole) _
+    (each_of (is_good_filed domains part) part.filed (other (not settings.has_workers) _ h (ap not works)) filed has) (ap not whole)
+
+received_by : (part : Part) (s : (one : Arrived) → Contains part.received (Asked one) → IsPresent part one.request.pasid one.owner)
+    (one : Received) → Contains part.received one → is_good_received part one ≡ true
+received_by part s (Asked one) has = is_present_by part one.request.pasid one.owner (s one has)
+received_by part s (Drain name) has = refl
+
+filed_by : (settings : Settings) (frames : List Tenure) (freed domains : List ℕ) (part : Part) → IsSafePart settings frames freed domains part
+    → are_good_filed settings domains part ≡ true
+filed_by settings frames freed domains part s =
+    or_by (not settings.has_workers) _ (λ k.
+    let works = not-false settings.has_workers k in
+    all_of (is_good_filed domains part) part.filed (λ filed has. or_by (not filed.is_whole) _ (λ l.
+    let whole = not-false filed.is_whole l in
+    and_from _ _ (is_present_by part filed.pasid filed.owner (s.filed works filed has whole))
+    (served_by domains filed.space (s.served works filed has whole)))))
+
+safe_part : (settings : Settings) (frames : List Tenure) (freed domains : List ℕ) (part : Part)
+    → is_safe_part settings frames freed domains part ≡ true → IsSafePart settings frames freed domains part
+safe_part settings frames freed domains part h =
     let top = and_parts (is_safe_device frames part) _ h in
     let next = and_parts (is_safe_unit freed part) _ top.1 in
-    let last = and_parts (list_all (is_right_sent frames part) part.flight) (list_all (is_owned freed) part.rows) next.1 in
+    let then = and_parts (is_safe_for_workers settings domains part) _ next.1 in
+    let way = and_parts (list_all (is_good_received part) part.received) (are_good_filed settings domains part) then.0 in
+    let last = and_parts (list_all (is_right_sent settings frames part) part.flight) (list_all (is_owned freed) part.rows) then.1 in
     let device = and_parts (list_all (is_good frames part) part.held) _ top.0 in
     let works = and_parts (list_all (is_good_work frames part) part.works) (list_all (is_good_request part) part.requests) device.1 in
     let unit = and_parts (list_all (is_good_arrived part) part.arrived) _ next.0 in
@@ -274,9 +354,14 @@ safe_part frames freed part h =
       in_use = λ translation has. good frames part translation (each_of (is_good_work frames part) part.works works.0 (Use translation) has);
       asked = λ request has k. present part request.pasid request.owner
           (other request.is_doomed _ (each_of (is_good_request part) part.requests works.1 (Some request) has) k);
-      flight = λ one has. right frames part one one.message (each_of (is_right_sent frames part) part.flight last.0 one has);
+      flight = λ one has. right settings frames part one one.message (each_of (is_right_sent settings frames part) part.flight last.0 one has);
       arrived = λ one has. present part one.request.pasid one.owner (each_of (is_good_arrived part) part.arrived unit.0 one has);
       joined = joined part queue.0;
+      received = λ one has. present part one.request.pasid one.owner (each_of (is_good_received part) part.received way.0 (Asked one) has);
+      filed = λ works filed has whole. present part filed.pasid filed.owner
+          (and_parts _ _ (filed_good settings domains part way.1 works filed has whole)).0;
+      served = λ works filed has whole. served domains filed.space
+          (and_parts (is_present part filed.pasid filed.owner) _ (filed_good settings domains part way.1 works filed has whole)).1;
       rows = λ row has. owned freed row (each_of (is_owned freed) part.rows last.1 row has);
       kept = λ translation has. present part translation.pasid translation.owner (each_of (is_good_kept part) part.kept kept.0 translation has);
       kept_entries = λ one has. present part one.pasid one.entry.owner
@@ -284,8 +369,9 @@ safe_part frames freed part h =
       walked = λ one has. not_freed freed one.entry.space (and_parts _ _ (each_of (is_good_entry freed part) part.kept_entries kept.1 one has)).1;
     }
 
-is_safe_part_by : (frames : List Tenure) (freed : List ℕ) (part : Part) → IsSafePart frames freed part → is_safe_part frames freed part ≡ true
-is_safe_part_by frames freed part s =
+is_safe_part_by : (settings : Settings) (frames : List Tenure) (freed domains : List ℕ) (part : Part)
+    → IsSafePart settings frames freed domains part → is_safe_part settings frames freed domains part ≡ true
+is_safe_part_by settings frames freed domains part s =
     and_from (is_safe_device frames part) _
     (and_from (list_all (is_good frames part) part.held) _
     (all_of (is_good frames part) part.held (λ translation has. is_good_by frames part translation (s.held translation has)))
@@ -300,14 +386,21 @@ is_safe_part_by frames freed part s =
     (all_of (is_good_kept part) part.kept (λ one has. is_present_by part one.pasid one.owner (s.kept one has)))
     (all_of (is_good_entry freed part) part.kept_entries (λ one has.
     and_from _ _ (is_present_by part one.pasid one.entry.owner (s.kept_entries one has)) (freed_not freed one.entry.space (s.walked one has)))))))
-    (and_from (list_all (is_right_sent frames part) part.flight) _
-    (all_of (is_right_sent frames part) part.flight (λ one has. is_right_by frames part one one.message (s.flight one has)))
-    (all_of (is_owned freed) part.rows (λ row has. is_owned_by freed row (s.rows row has)))))
+    (and_from (is_safe_for_workers settings domains part) _
+    (and_from (list_all (is_good_received part) part.received) _ (all_of (is_good_received part) part.received (received_by part s.received))
+    (filed_by settings frames freed domains part s))
+    (and_from (list_all (is_right_sent settings frames part) part.flight) _
+    (all_of (is_right_sent settings frames part) part.flight (λ one has. is_right_by settings frames part one one.message (s.flight one has)))
+    (all_of (is_owned freed) part.rows (λ row has. is_owned_by freed row (s.rows row has))))))
 
 pub is_test : IsTest
 is_test now = (
-  λ h. record { parts = λ part has. safe_part now.frames now.freed part (each_of (is_safe_part now.frames now.freed) now.parts h part has) },
-  λ s. all_of (is_safe_part now.frames now.freed) now.parts (λ part has. is_safe_part_by now.frames now.freed part (s.parts part has)),
+  λ h. record {
+    parts = λ part has. safe_part now.settings now.frames now.freed now.domains part
+        (each_of (is_safe_part now.settings now.frames now.freed now.domains) now.parts h part has);
+  },
+  λ s. all_of (is_safe_part now.settings now.frames now.freed now.domains) now.parts
+      (λ part has. is_safe_part_by now.settings now.frames now.freed now.domains part (s.parts part has)),
 )
 
 -- by what the program's test gave

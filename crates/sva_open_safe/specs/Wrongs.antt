@@ -6,6 +6,8 @@ use Rattle.sva_open.specs.Host.{is_joined}
 use Rattle.sva_open.specs.Checks.{is_freed, is_present}
 use Rattle.sva_open.specs.declared.descriptors.Arrived.{Arrived}
 use Rattle.sva_open.specs.declared.descriptors.Filed.{Filed}
+use Rattle.sva_open.specs.declared.descriptors.Received.{Received}
+use Rattle.sva_open.specs.declared.descriptors.Received.TheVariants.{Request as Asked, Drain}
 use Rattle.sva_open.specs.declared.frames.Target.{Target}
 use Rattle.sva_open.specs.declared.frames.Tenure.{Tenure}
 use Rattle.sva_open.specs.declared.frames.Translation.{Translation}
@@ -15,6 +17,7 @@ use Rattle.sva_open.specs.declared.messages.Sent.{Sent}
 use Rattle.sva_open.specs.declared.rows.Entry.{Entry}
 use Rattle.sva_open.specs.declared.rows.KeptEntry.{KeptEntry}
 use Rattle.sva_open.specs.declared.rows.Row.{Row}
+use Rattle.sva_open.specs.declared.settings.Settings.{Settings}
 use Rattle.sva_open.specs.declared.works.Group.{Group}
 use Rattle.sva_open.specs.declared.works.Request.{Request}
 use Rattle.sva_open.specs.declared.works.Work.{Work}
@@ -64,19 +67,23 @@ abbrev pub work_wrong : Sort → Open → (endpoint : ℕ) → Work → Option W
 work_wrong of now endpoint (Use used) = target_wrong of now endpoint thing.Running used.target used.page used.pasid
 work_wrong of now endpoint (Taken itag scope) = None
 
+-- a completion answers a request where no reset came between, and it is of the page that was asked for
+abbrev pub answers : (is_of_time : Bool) → (page : ℕ) → Request → Bool
+answers timely page request = timely && (page == request.page)
+
 -- a translation in flight leads somewhere where its request waits for it, and isn't doomed
-abbrev pub arrives_wrong : Sort → Open → (endpoint : ℕ) → (is_its_own : Bool) → Target → Option (Option Request) → Option Wrong
-arrives_wrong of now endpoint own target None = None
-arrives_wrong of now endpoint own target (Some None) = None
-arrives_wrong of now endpoint own target (Some (Some request)) =
-    if own && not request.is_doomed
+abbrev pub arrives_wrong : Sort → Open → (endpoint : ℕ) → (is_of_time : Bool) → (page : ℕ) → Target → Option (Option Request) → Option Wrong
+arrives_wrong of now endpoint timely page target None = None
+arrives_wrong of now endpoint timely page target (Some None) = None
+arrives_wrong of now endpoint timely page target (Some (Some request)) =
+    if answers timely page request && not request.is_doomed
     then target_wrong of now endpoint thing.Completion target request.page request.pasid
     else None
 
-abbrev pub completion_wrong : Sort → Open → (endpoint : ℕ) → Part → (is_its_own : Bool) → Message → Option Wrong
-completion_wrong of now endpoint part own (message.Completion tag (Some target)) =
-    arrives_wrong of now endpoint own target (slice_get part.requests tag)
-completion_wrong of now endpoint part own _ = None
+abbrev pub completion_wrong : Sort → Open → (endpoint : ℕ) → Part → (is_of_time : Bool) → Message → Option Wrong
+completion_wrong of now endpoint part timely (message.Completion tag page (Some target)) =
+    arrives_wrong of now endpoint timely page target (slice_get part.requests tag)
+completion_wrong of now endpoint part timely _ = None
 
 abbrev pub sent_wrong : Sort → Open → (endpoint : ℕ) → Part → Sent → Option Wrong
 sent_wrong of now endpoint part one = completion_wrong of now endpoint part (one.number == part.time) one.message
@@ -128,6 +135,15 @@ flight_left part endpoint what = first_in (one_left part endpoint what) part.fli
 abbrev pub arrived_left : Part → (endpoint : ℕ) → Arrived → Option Wrong
 arrived_left part endpoint one = left_of part endpoint thing.Queued one.request.pasid one.owner
 
+abbrev pub received_left : Part → (endpoint : ℕ) → Received → Option Wrong
+received_left part endpoint (Asked one) = left_of part endpoint thing.Received one.request.pasid one.owner
+received_left part endpoint (Drain name) = None
+
+-- a whole group that a worker has to serve
+abbrev pub filed_left : Settings → Part → (endpoint : ℕ) → Filed → Option Wrong
+filed_left settings part endpoint filed =
+    if settings.has_workers && filed.is_whole then left_of part endpoint thing.Filed filed.pasid filed.owner else None
+
 abbrev pub is_other : (owner : ℕ) → Option ℕ → Bool
 is_other owner None = false
 is_other owner (Some own) = not (own == owner)
@@ -160,17 +176,20 @@ sent_left endpoint part =
     or_else (flight_left part endpoint thing.Start)
     (or_else (flight_left part endpoint thing.Stop)
     (or_else (flight_left part endpoint thing.PageRequest)
+    (or_else (first_in (received_left part endpoint) part.received)
     (or_else (first_in (arrived_left part endpoint) part.arrived)
-    (or_else (flight_left part endpoint thing.Marker) (flight_left part endpoint thing.Status)))))
+    (or_else (flight_left part endpoint thing.Marker) (flight_left part endpoint thing.Status))))))
 
-abbrev pub host_left : (endpoint : ℕ) → Part → Option Wrong
-host_left endpoint part =
+abbrev pub host_left : Settings → (endpoint : ℕ) → Part → Option Wrong
+host_left settings endpoint part =
     or_else (answer_left endpoint part)
     (or_else (entry_left endpoint part)
-    (or_else (first_in (kept_entry_left part endpoint) part.kept_entries) (first_in (kept_left part endpoint) part.kept)))
+    (or_else (first_in (kept_entry_left part endpoint) part.kept_entries)
+    (or_else (first_in (kept_left part endpoint) part.kept) (first_in (filed_left settings part endpoint) part.filed))))
 
-abbrev pub left : (endpoint : ℕ) → Part → Option Wrong
-left endpoint part = or_else (device_left endpoint part) (or_else (sent_left endpoint part) (host_left endpoint part))
+abbrev pub left : Settings → (endpoint : ℕ) → Part → Option Wrong
+left settings endpoint part =
+    or_else (device_left endpoint part) (or_else (sent_left endpoint part) (host_left settings endpoint part))
 
 abbrev pub is_going : Row → Bool
 is_going row = not (is_off row.state || (row.user == row.owner))
@@ -199,27 +218,38 @@ rows_walked freed endpoint part (Some pasid) = row_walked freed endpoint pasid (
 abbrev pub kept_walked : List ℕ → (endpoint : ℕ) → KeptEntry → Option Wrong
 kept_walked freed endpoint kept = if_so (is_freed freed kept.entry.space) (wrong.Walks endpoint kept.entry.space true kept.pasid)
 
-abbrev pub walks : List ℕ → (endpoint : ℕ) → Part → Option Wrong
-walks freed endpoint part =
-    or_else (rows_walked freed endpoint part (position (is_walked freed) part.rows)) (first_in (kept_walked freed endpoint) part.kept_entries)
+-- by a space whose domain was freed a worker serves no group
+abbrev pub space_served : (domains : List ℕ) → (endpoint pasid : ℕ) → Option ℕ → Option Wrong
+space_served domains endpoint pasid None = None
+space_served domains endpoint pasid (Some space) = if_so (is_freed domains space) (wrong.Serves endpoint space pasid)
+
+abbrev pub filed_served : Settings → (domains : List ℕ) → (endpoint : ℕ) → Filed → Option Wrong
+filed_served settings domains endpoint filed =
+    if settings.has_workers && filed.is_whole then space_served domains endpoint filed.pasid filed.space else None
+
+abbrev pub walks : Settings → (freed domains : List ℕ) → (endpoint : ℕ) → Part → Option Wrong
+walks settings freed domains endpoint part =
+    or_else (rows_walked freed endpoint part (position (is_walked freed) part.rows))
+    (or_else (first_in (kept_walked freed endpoint) part.kept_entries) (first_in (filed_served settings domains endpoint) part.filed))
 
 -- ---- Messages
 
-abbrev pub group_met : (endpoint index : ℕ) → (filed : Bool) → (number : ℕ) → Option (Option Group) → Option Wrong
-group_met endpoint index filed number None = Some (wrong.NoGroup endpoint index)
-group_met endpoint index filed number (Some None) = Some (wrong.NoGroup endpoint index)
-group_met endpoint index filed number (Some (Some group)) =
+-- where the platform allows that a response finds no group, nothing is wrong with one that finds none
+abbrev pub group_met : (allows_none : Bool) → (endpoint index : ℕ) → (filed : Bool) → (number : ℕ) → Option (Option Group) → Option Wrong
+group_met allows endpoint index filed number None = if_so (not allows) (wrong.NoGroup endpoint index)
+group_met allows endpoint index filed number (Some None) = if_so (not allows) (wrong.NoGroup endpoint index)
+group_met allows endpoint index filed number (Some (Some group)) =
     if filed && (number == group.number)
     then if_so (not group.is_finished) (wrong.Unfinished endpoint index)
     else Some (wrong.OtherGroup endpoint index)
 
-abbrev pub response_met : Part → (endpoint number : ℕ) → Message → Option Wrong
-response_met part endpoint number (message.Response index fails filed) =
-    group_met endpoint index filed number (slice_get part.groups index)
-response_met part endpoint number _ = None
+abbrev pub response_met : Settings → Part → (endpoint number : ℕ) → Message → Option Wrong
+response_met settings part endpoint number (message.Response index fails filed) =
+    group_met settings.allows_no_group endpoint index filed number (slice_get part.groups index)
+response_met settings part endpoint number _ = None
 
-abbrev pub one_met : Part → (endpoint : ℕ) → Sent → Option Wrong
-one_met part endpoint one = response_met part endpoint one.number one.message
+abbrev pub one_met : Settings → Part → (endpoint : ℕ) → Sent → Option Wrong
+one_met settings part endpoint one = response_met settings part endpoint one.number one.message
 
 abbrev pub joined_by : (endpoint : ℕ) → Arrived → Filed → Option Wrong
 joined_by endpoint one filed =
@@ -229,13 +259,13 @@ abbrev pub joins : (endpoint : ℕ) → List Filed → Option Arrived → Option
 joins endpoint filed None = None
 joins endpoint filed (Some one) = first_in (joined_by endpoint one) filed
 
-abbrev pub request_met : (endpoint tag : ℕ) → (is_of_time : Bool) → Option (Option Request) → Option Wrong
-request_met endpoint tag timely None = None
-request_met endpoint tag timely (Some None) = None
-request_met endpoint tag timely (Some (Some request)) = if_so (not timely) (wrong.OtherRequest endpoint tag)
+abbrev pub request_met : (endpoint tag : ℕ) → (is_of_time : Bool) → (page : ℕ) → Option (Option Request) → Option Wrong
+request_met endpoint tag timely page None = None
+request_met endpoint tag timely page (Some None) = None
+request_met endpoint tag timely page (Some (Some request)) = if_so (not (answers timely page request)) (wrong.OtherRequest endpoint tag)
 
 abbrev pub completion_met : Part → (endpoint : ℕ) → (is_of_time : Bool) → Message → Option Wrong
-completion_met part endpoint timely (message.Completion tag target) = request_met endpoint tag timely (slice_get part.requests tag)
+completion_met part endpoint timely (message.Completion tag page target) = request_met endpoint tag timely page (slice_get part.requests tag)
 completion_met part endpoint timely _ = None
 
 abbrev pub answer_met : Part → (endpoint : ℕ) → Sent → Option Wrong
@@ -246,10 +276,10 @@ answer_met part endpoint one = completion_met part endpoint (one.number == part.
 abbrev pub wrong_at : Open → Sort → (endpoint : ℕ) → Part → Option Wrong
 wrong_at now sort.Freed endpoint part = frames_wrong sort.Freed now endpoint part
 wrong_at now sort.Frozen endpoint part = frames_wrong sort.Frozen now endpoint part
-wrong_at now sort.Left endpoint part = left endpoint part
+wrong_at now sort.Left endpoint part = left now.settings endpoint part
 wrong_at now sort.Goes endpoint part = goes endpoint part
-wrong_at now sort.Walks endpoint part = walks now.freed endpoint part
-wrong_at now sort.Responses endpoint part = first_in (one_met part endpoint) part.flight
+wrong_at now sort.Walks endpoint part = walks now.settings now.freed now.domains endpoint part
+wrong_at now sort.Responses endpoint part = first_in (one_met now.settings part endpoint) part.flight
 wrong_at now sort.Joins endpoint part = joins endpoint part.filed (slice_get part.arrived 0)
 wrong_at now sort.Requests endpoint part = first_in (answer_met part endpoint) part.flight
 

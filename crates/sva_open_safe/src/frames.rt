@@ -130,21 +130,29 @@ fn work_wrong(sort: Sort, now: &Open, endpoint: usize, work: Work) -> Option<Wro
     }
 }
 
+/// Whether a completion of a page answers a request.
+pub(crate) fn answers(timely: bool, page: u64, request: &Request) -> bool
+    ensures { result ≡ wrongs.answers timely page request.now }
+{
+    timely && page == request.page
+}
+
 fn arrives_wrong(
     sort: Sort,
     now: &Open,
     endpoint: usize,
-    own: bool,
+    timely: bool,
+    page: u64,
     target: Target,
     request: Option<Option<Request>>,
 ) -> Option<Wrong>
-    ensures { result ≡ wrongs.arrives_wrong sort now.now endpoint own target request }
+    ensures { result ≡ wrongs.arrives_wrong sort now.now endpoint timely page target request }
 {
     match request {
         None => None,
         Some(None) => None,
         Some(Some(request)) => {
-            if own && !request.is_doomed {
+            if answers(timely, page, &request) && !request.is_doomed {
                 target_wrong(
                     sort,
                     now,
@@ -167,12 +175,14 @@ fn sent_wrong(sort: Sort, now: &Open, endpoint: usize, part: &Part, sent: Sent) 
     match sent.message {
         Message::Completion {
             tag,
+            page,
             target: Some(target),
         } => arrives_wrong(
             sort,
             now,
             endpoint,
             sent.number == part.time,
+            page,
             target,
             part.requests.get(tag).copied(),
         ),

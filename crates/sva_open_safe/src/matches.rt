@@ -4,10 +4,12 @@ ghost use Rattle.std.specs.Prelude.{◌≡◌, ◌↔◌, ◌&&◌, None, positi
 ghost use Rattle.sva_open.specs.Checks.{is_freed, is_safe};
 ghost use Rattle.sva_open_safe.specs.Wrongs as wrongs;
 
-use crate::frames::{frames_wrong, if_so, or_else};
+use crate::frames::{answers, frames_wrong, if_so, or_else};
 use crate::owners::{goes, left};
 use crate::wrongs::{Sort, Wrong};
-use sva_open::{Arrived, Entry, Filed, Group, KeptEntry, Message, Open, Part, Request, Row, Sent};
+use sva_open::{
+    Arrived, Entry, Filed, Group, KeptEntry, Message, Open, Part, Request, Row, Sent, Settings,
+};
 
 fn is_freed(freed: &[u64], space: u64) -> bool
     ensures { result ≡ is_freed freed.now space }
@@ -78,17 +80,18 @@ fn kept_walked(freed: &[u64], endpoint: usize, kept: KeptEntry) -> Option<Wrong>
 }
 
 fn group_met(
+    allows_none: bool,
     endpoint: usize,
     index: usize,
     filed: bool,
     number: u64,
     group: Option<Option<Group>>,
 ) -> Option<Wrong>
-    ensures { result ≡ wrongs.group_met endpoint index filed number group }
+    ensures { result ≡ wrongs.group_met allows_none endpoint index filed number group }
 {
     match group {
-        None => Some(Wrong::NoGroup { endpoint, index }),
-        Some(None) => Some(Wrong::NoGroup { endpoint, index }),
+        None => if_so(!allows_none, Wrong::NoGroup { endpoint, index }),
+        Some(None) => if_so(!allows_none, Wrong::NoGroup { endpoint, index }),
         Some(Some(group)) => {
             if both(filed, number == group.number) {
                 if_so(!group.is_finished, Wrong::Unfinished { endpoint, index })
@@ -105,11 +108,12 @@ fn both(one: bool, other: bool) -> bool
     one && other
 }
 
-fn one_met(part: &Part, endpoint: usize, sent: Sent) -> Option<Wrong>
-    ensures { result ≡ wrongs.one_met part.now endpoint sent }
+fn one_met(settings: &Settings, part: &Part, endpoint: usize, sent: Sent) -> Option<Wrong>
+    ensures { result ≡ wrongs.one_met settings.now part.now endpoint sent }
 {
     match sent.message {
         Message::Response { index, filed, .. } => group_met(
+            settings.allows_no_group,
             endpoint,
             index,
             filed,
@@ -137,14 +141,18 @@ fn request_met(
     endpoint: usize,
     tag: usize,
     timely: bool,
+    page: u64,
     request: Option<Option<Request>>,
 ) -> Option<Wrong>
-    ensures { result ≡ wrongs.request_met endpoint tag timely request }
+    ensures { result ≡ wrongs.request_met endpoint tag timely page request }
 {
     match request {
         None => None,
         Some(None) => None,
-        Some(Some(_request)) => if_so(!timely, Wrong::OtherRequest { endpoint, tag }),
+        Some(Some(request)) => if_so(
+            !answers(timely, page, &request),
+            Wrong::OtherRequest { endpoint, tag },
+        ),
     }
 }
 
@@ -152,10 +160,11 @@ fn answer_met(part: &Part, endpoint: usize, sent: Sent) -> Option<Wrong>
     ensures { result ≡ wrongs.answer_met part.now endpoint sent }
 {
     match sent.message {
-        Message::Completion { tag, .. } => request_met(
+        Message::Completion { tag, page, .. } => request_met(
             endpoint,
             tag,
             sent.number == part.time,
+            page,
             part.requests.get(tag).copied(),
         ),
         _ => None,
@@ -174,11 +183,60 @@ fn first_walked(freed: &[u64], endpoint: usize, list: &[KeptEntry]) -> Option<Wr
     None
 }
 
-fn first_response(part: &Part, endpoint: usize, list: &[Sent]) -> Option<Wrong>
-    ensures { result ≡ wrongs.first_in (wrongs.one_met part.now endpoint) list.now }
+fn space_served(domains: &[u64], endpoint: usize, pasid: usize, space: Option<u64>) -> Option<Wrong>
+    ensures { result ≡ wrongs.space_served domains.now endpoint pasid space }
+{
+    match space {
+        None => None,
+        Some(space) => if_so(
+            is_freed(domains, space),
+            Wrong::Serves {
+                endpoint,
+                space,
+                pasid,
+            },
+        ),
+    }
+}
+
+/// Of a whole group that a worker has to serve.
+fn filed_served(
+    settings: &Settings,
+    domains: &[u64],
+    endpoint: usize,
+    filed: Filed,
+) -> Option<Wrong>
+    ensures { result ≡ wrongs.filed_served settings.now domains.now endpoint filed }
+{
+    if settings.has_workers && filed.is_whole {
+        space_served(domains, endpoint, filed.pasid, filed.space)
+    } else {
+        None
+    }
+}
+
+fn first_served(
+    settings: &Settings,
+    domains: &[u64],
+    endpoint: usize,
+    list: &[Filed],
+) -> Option<Wrong>
+    ensures { result ≡ wrongs.first_in (wrongs.filed_served settings.now domains.now endpoint) list.now }
 {
     for place in 0..list.len() {
-        match one_met(part, endpoint, list[place]) {
+        match filed_served(settings, domains, endpoint, list[place]) {
+            Some(wrong) => return Some(wrong),
+            None => {}
+        }
+    }
+    None
+}
+
+fn first_response(settings: &Settings, part: &Part, endpoint: usize, list: &[Sent]) -> Option<Wrong>
+    ensures { result ≡ wrongs.first_in (wrongs.one_met settings.now part.now endpoint) list.now }
+{
+    for place in 0..list.len() {
+        match one_met(settings, part, endpoint, list[place]) {
             Some(wrong) => return Some(wrong),
             None => {}
         }
@@ -211,12 +269,20 @@ fn first_joined(endpoint: usize, one: Arrived, list: &[Filed]) -> Option<Wrong>
 }
 
 fn walks(now: &Open, endpoint: usize, part: &Part) -> Option<Wrong>
-    ensures { result ≡ wrongs.walks now.now.freed endpoint part.now }
+    ensures { result ≡ wrongs.walks now.now.settings now.now.freed now.now.domains endpoint part.now }
 {
     let freed = now.freed.as_slice();
     or_else(
         rows_walked(freed, endpoint, part),
-        first_walked(freed, endpoint, part.kept_entries.as_slice()),
+        or_else(
+            first_walked(freed, endpoint, part.kept_entries.as_slice()),
+            first_served(
+                &now.settings,
+                now.domains.as_slice(),
+                endpoint,
+                part.filed.as_slice(),
+            ),
+        ),
     )
 }
 
@@ -236,10 +302,10 @@ fn wrong_at(now: &Open, sort: Sort, endpoint: usize, part: &Part) -> Option<Wron
     match sort {
         Sort::Freed => frames_wrong(Sort::Freed, now, endpoint, part),
         Sort::Frozen => frames_wrong(Sort::Frozen, now, endpoint, part),
-        Sort::Left => left(endpoint, part),
+        Sort::Left => left(&now.settings, endpoint, part),
         Sort::Goes => goes(endpoint, part),
         Sort::Walks => walks(now, endpoint, part),
-        Sort::Responses => first_response(part, endpoint, part.flight.as_slice()),
+        Sort::Responses => first_response(&now.settings, part, endpoint, part.flight.as_slice()),
         Sort::Joins => joins(endpoint, part),
         Sort::Requests => first_answer(part, endpoint, part.flight.as_slice()),
     }

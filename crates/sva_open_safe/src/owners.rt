@@ -5,7 +5,10 @@ ghost use Rattle.sva_open_safe.specs.Wrongs as wrongs;
 
 use crate::frames::{if_so, or_else};
 use crate::wrongs::{Thing, Wrong};
-use sva_open::{Arrived, KeptEntry, Message, Part, Request, Row, Sent, Translation, Work};
+use sva_open::{
+    Arrived, Filed, KeptEntry, Message, Part, Received, Request, Row, Sent, Settings, Translation,
+    Work,
+};
 
 /// What is told of something of an owner of a PASID, if that isn't its present one.
 fn left_of(part: &Part, endpoint: usize, thing: Thing, pasid: usize, owner: u64) -> Option<Wrong>
@@ -103,6 +106,32 @@ fn arrived_left(part: &Part, endpoint: usize, one: Arrived) -> Option<Wrong>
     left_of(part, endpoint, Thing::Queued, one.request.pasid, one.owner)
 }
 
+fn received_left(part: &Part, endpoint: usize, received: Received) -> Option<Wrong>
+    ensures { result ≡ wrongs.received_left part.now endpoint received }
+{
+    match received {
+        Received::Request(one) => left_of(
+            part,
+            endpoint,
+            Thing::Received,
+            one.request.pasid,
+            one.owner,
+        ),
+        Received::Drain { .. } => None,
+    }
+}
+
+/// Of a whole group that a worker has to serve.
+fn filed_left(settings: &Settings, part: &Part, endpoint: usize, filed: Filed) -> Option<Wrong>
+    ensures { result ≡ wrongs.filed_left settings.now part.now endpoint filed }
+{
+    if settings.has_workers && filed.is_whole {
+        left_of(part, endpoint, Thing::Filed, filed.pasid, filed.owner)
+    } else {
+        None
+    }
+}
+
 fn kept_entry_left(part: &Part, endpoint: usize, kept: KeptEntry) -> Option<Wrong>
     ensures { result ≡ wrongs.kept_entry_left part.now endpoint kept }
 {
@@ -162,6 +191,30 @@ fn first_arrived(part: &Part, endpoint: usize, list: &[Arrived]) -> Option<Wrong
 {
     for place in 0..list.len() {
         match arrived_left(part, endpoint, list[place]) {
+            Some(wrong) => return Some(wrong),
+            None => {}
+        }
+    }
+    None
+}
+
+fn first_received(part: &Part, endpoint: usize, list: &[Received]) -> Option<Wrong>
+    ensures { result ≡ wrongs.first_in (wrongs.received_left part.now endpoint) list.now }
+{
+    for place in 0..list.len() {
+        match received_left(part, endpoint, list[place]) {
+            Some(wrong) => return Some(wrong),
+            None => {}
+        }
+    }
+    None
+}
+
+fn first_filed(settings: &Settings, part: &Part, endpoint: usize, list: &[Filed]) -> Option<Wrong>
+    ensures { result ≡ wrongs.first_in (wrongs.filed_left settings.now part.now endpoint) list.now }
+{
+    for place in 0..list.len() {
+        match filed_left(settings, part, endpoint, list[place]) {
             Some(wrong) => return Some(wrong),
             None => {}
         }
@@ -295,10 +348,13 @@ fn sent_left(endpoint: usize, part: &Part) -> Option<Wrong>
             or_else(
                 flight_left(part, endpoint, Thing::PageRequest),
                 or_else(
-                    first_arrived(part, endpoint, part.arrived.as_slice()),
+                    first_received(part, endpoint, part.received.as_slice()),
                     or_else(
-                        flight_left(part, endpoint, Thing::Marker),
-                        flight_left(part, endpoint, Thing::Status),
+                        first_arrived(part, endpoint, part.arrived.as_slice()),
+                        or_else(
+                            flight_left(part, endpoint, Thing::Marker),
+                            flight_left(part, endpoint, Thing::Status),
+                        ),
                     ),
                 ),
             ),
@@ -306,8 +362,8 @@ fn sent_left(endpoint: usize, part: &Part) -> Option<Wrong>
     )
 }
 
-fn host_left(endpoint: usize, part: &Part) -> Option<Wrong>
-    ensures { result ≡ wrongs.host_left endpoint part.now }
+fn host_left(settings: &Settings, endpoint: usize, part: &Part) -> Option<Wrong>
+    ensures { result ≡ wrongs.host_left settings.now endpoint part.now }
 {
     or_else(
         answer_left(endpoint, part),
@@ -315,19 +371,25 @@ fn host_left(endpoint: usize, part: &Part) -> Option<Wrong>
             entry_left(endpoint, part),
             or_else(
                 first_kept_entry(part, endpoint, part.kept_entries.as_slice()),
-                first_kept(part, endpoint, part.kept.as_slice()),
+                or_else(
+                    first_kept(part, endpoint, part.kept.as_slice()),
+                    first_filed(settings, part, endpoint, part.filed.as_slice()),
+                ),
             ),
         ),
     )
 }
 
 /// What is there first of an earlier owner of a PASID.
-pub(crate) fn left(endpoint: usize, part: &Part) -> Option<Wrong>
-    ensures { result ≡ wrongs.left endpoint part.now }
+pub(crate) fn left(settings: &Settings, endpoint: usize, part: &Part) -> Option<Wrong>
+    ensures { result ≡ wrongs.left settings.now endpoint part.now }
 {
     or_else(
         device_left(endpoint, part),
-        or_else(sent_left(endpoint, part), host_left(endpoint, part)),
+        or_else(
+            sent_left(endpoint, part),
+            host_left(settings, endpoint, part),
+        ),
     )
 }
 

@@ -1,13 +1,14 @@
 //! Whether a moment is safe.
 
-ghost use Rattle.std.specs.Prelude.{◌≡◌, ◌↔◌, IsTrue, slice_get};
+ghost use Rattle.std.specs.Prelude.{◌≡◌, ◌↔◌, IsTrue, is_none, slice_get};
 ghost use Rattle.std.specs.List.{list_all, list_any};
 ghost use Rattle.sva_open.specs.Checks as check;
 ghost use Rattle.sva_open.specs.Safe.{IsSafe};
+ghost use Rattle.sva_open.specs.World.{group_at};
 
 use sva_open::{
-    Arrived, Entry, Filed, KeptEntry, Message, Open, Part, Request, Row, Sent, Target, Tenure,
-    Translation, Work,
+    Arrived, Entry, Filed, KeptEntry, Message, Open, Part, Received, Request, Row, Sent, Settings,
+    Target, Tenure, Translation, Work,
 };
 
 /// Whether nobody else has been given the frame since a page led to it so.
@@ -71,14 +72,15 @@ fn is_its_own(
     part: &Part,
     one: &Sent,
     tag: usize,
+    page: u64,
     target: &Option<Target>,
 ) -> bool
-    ensures { result ≡ check.is_its_own frames.now part.now one.now target.now (slice_get part.now.requests tag) }
+    ensures { result ≡ check.is_its_own frames.now part.now one.now page target.now (slice_get part.now.requests tag) }
 {
     match part.requests.get(tag).copied() {
         None => true,
         Some(None) => true,
-        Some(Some(request)) => one.number == part.time
+        Some(Some(request)) => (one.number == part.time && page == request.page)
             && (request.is_doomed || may_be_held(frames, target)),
     }
 }
@@ -94,15 +96,36 @@ fn is_its_end(part: &Part, index: usize, number: u64) -> bool
     }
 }
 
+/// Whether there is no group under an index.
+fn has_no_group(part: &Part, index: usize) -> bool
+    ensures { result ≡ is_none (group_at (slice_get part.now.groups index)) }
+{
+    match part.groups.get(index).copied() {
+        None => true,
+        Some(None) => true,
+        Some(Some(_group)) => false,
+    }
+}
+
+/// Whether a response ends no group, and the platform allows that.
+fn ends_none(settings: &Settings, part: &Part, index: usize) -> bool
+    ensures { result ≡ check.ends_none settings.now part.now index }
+{
+    settings.allows_no_group && has_no_group(part, index)
+}
+
 /// Whether a message in flight would be taken for what it is of.
-fn is_right(frames: &[Tenure], part: &Part, one: &Sent) -> bool
-    ensures { result ≡ check.is_right_sent frames.now part.now one.now }
+fn is_right(settings: &Settings, frames: &[Tenure], part: &Part, one: &Sent) -> bool
+    ensures { result ≡ check.is_right_sent settings.now frames.now part.now one.now }
 {
     match &one.message {
         Message::Start { pasid } => is_present(part, *pasid, one.owner),
         Message::Stop { pasid } => is_present(part, *pasid, one.owner),
-        Message::Completion { tag, target } => is_its_own(frames, part, one, *tag, target),
-        Message::Response { index, filed, .. } => *filed && is_its_end(part, *index, one.number),
+        Message::Completion { tag, page, target } => {
+            is_its_own(frames, part, one, *tag, *page, target)
+        }
+        Message::Response { index, filed, .. } => (*filed && is_its_end(part, *index, one.number))
+            || ends_none(settings, part, *index),
         Message::PageRequest(request) => !part.is_open
             || is_present(part, request.pasid, one.owner),
         Message::Marker { pasid } => !part.is_open || is_present(part, *pasid, one.owner),
@@ -141,6 +164,32 @@ fn is_freed(freed: &[u64], space: u64) -> bool
     ensures { result ≡ check.is_freed freed.now space }
 {
     freed.iter().any(|one| *one == space)
+}
+
+fn is_good_received(part: &Part, received: &Received) -> bool
+    ensures { result ≡ check.is_good_received part.now received.now }
+{
+    match received {
+        Received::Request(one) => is_present(part, one.request.pasid, one.owner),
+        Received::Drain { .. } => true,
+    }
+}
+
+fn is_space_there(domains: &[u64], space: Option<u64>) -> bool
+    ensures { result ≡ check.is_space_there domains.now space }
+{
+    match space {
+        None => true,
+        Some(space) => !is_freed(domains, space),
+    }
+}
+
+/// Whether a whole group is served for its owner, by a space whose domain is there.
+fn is_good_filed(domains: &[u64], part: &Part, filed: &Filed) -> bool
+    ensures { result ≡ check.is_good_filed domains.now part.now filed.now }
+{
+    !filed.is_whole
+        || (is_present(part, filed.pasid, filed.owner) && is_space_there(domains, filed.space))
 }
 
 fn is_good_entry(freed: &[u64], part: &Part, kept: &KeptEntry) -> bool
@@ -192,10 +241,12 @@ fn are_requests_good(part: &Part) -> bool
     part.requests.iter().all(|one| is_good_request(part, one))
 }
 
-fn is_flight_right(frames: &[Tenure], part: &Part) -> bool
-    ensures { result ≡ list_all (check.is_right_sent frames.now part.now) part.now.flight }
+fn is_flight_right(settings: &Settings, frames: &[Tenure], part: &Part) -> bool
+    ensures { result ≡ list_all (check.is_right_sent settings.now frames.now part.now) part.now.flight }
 {
-    part.flight.iter().all(|one| is_right(frames, part, one))
+    part.flight
+        .iter()
+        .all(|one| is_right(settings, frames, part, one))
 }
 
 fn are_arrived_good(part: &Part) -> bool
@@ -204,6 +255,32 @@ fn are_arrived_good(part: &Part) -> bool
     part.arrived
         .iter()
         .all(|one| is_present(part, one.request.pasid, one.owner))
+}
+
+fn are_received_good(part: &Part) -> bool
+    ensures { result ≡ list_all (check.is_good_received part.now) part.now.received }
+{
+    part.received.iter().all(|one| is_good_received(part, one))
+}
+
+fn are_all_filed_good(domains: &[u64], part: &Part) -> bool
+    ensures { result ≡ list_all (check.is_good_filed domains.now part.now) part.now.filed }
+{
+    part.filed
+        .iter()
+        .all(|one| is_good_filed(domains, part, one))
+}
+
+fn are_filed_good(settings: &Settings, domains: &[u64], part: &Part) -> bool
+    ensures { result ≡ check.are_good_filed settings.now domains.now part.now }
+{
+    !settings.has_workers || are_all_filed_good(domains, part)
+}
+
+fn is_safe_for_workers(settings: &Settings, domains: &[u64], part: &Part) -> bool
+    ensures { result ≡ check.is_safe_for_workers settings.now domains.now part.now }
+{
+    are_received_good(part) && are_filed_good(settings, domains, part)
 }
 
 fn is_kept_good(part: &Part) -> bool
@@ -228,12 +305,19 @@ fn are_rows_owned(freed: &[u64], part: &Part) -> bool
     part.rows.iter().all(|row| is_owned(freed, row))
 }
 
-fn is_safe_part(frames: &[Tenure], freed: &[u64], part: &Part) -> bool
-    ensures { result ≡ check.is_safe_part frames.now freed.now part.now }
+fn is_safe_part(
+    settings: &Settings,
+    frames: &[Tenure],
+    freed: &[u64],
+    domains: &[u64],
+    part: &Part,
+) -> bool
+    ensures { result ≡ check.is_safe_part settings.now frames.now freed.now domains.now part.now }
 {
     is_safe_device(frames, part)
         && (is_safe_unit(freed, part)
-            && (is_flight_right(frames, part) && are_rows_owned(freed, part)))
+            && (is_safe_for_workers(settings, domains, part)
+                && (is_flight_right(settings, frames, part) && are_rows_owned(freed, part))))
 }
 
 fn is_safe_device(frames: &[Tenure], part: &Part) -> bool
@@ -249,10 +333,16 @@ fn is_safe_unit(freed: &[u64], part: &Part) -> bool
         && (joins_own_group(part) && (is_kept_good(part) && are_entries_good(freed, part)))
 }
 
-fn are_parts_safe(frames: &[Tenure], freed: &[u64], parts: &[Part]) -> bool
-    ensures { result ≡ list_all (check.is_safe_part frames.now freed.now) parts.now }
+fn are_parts_safe(
+    settings: &Settings,
+    frames: &[Tenure],
+    freed: &[u64],
+    domains: &[u64],
+    parts: &[Part],
+) -> bool
+    ensures { result ≡ list_all (check.is_safe_part settings.now frames.now freed.now domains.now) parts.now }
 {
-    parts.iter().all(|part| is_safe_part(frames, freed, part))
+    parts.iter().all(|part| is_safe_part(settings, frames, freed, domains, part))
 }
 
 /// Whether a moment is safe: no endpoint may still use a frame that has another owner, and nothing of a PASID, and no
@@ -262,8 +352,10 @@ pub fn is_safe(now: &Open) -> bool
     ensures safe { IsTrue result ↔ IsSafe now.now }
 {
     are_parts_safe(
+        &now.settings,
         now.frames.as_slice(),
         now.freed.as_slice(),
+        now.domains.as_slice(),
         now.parts.as_slice(),
     )
 }

@@ -10,6 +10,7 @@ pub enum Thing {
     Start,
     Stop,
     PageRequest,
+    Received,
     Queued,
     Marker,
     Status,
@@ -17,6 +18,7 @@ pub enum Thing {
     Entry,
     KeptEntry,
     Kept,
+    Filed,
 }
 
 /// What is wrong.
@@ -54,6 +56,12 @@ pub enum Wrong {
         endpoint: usize,
         space: u64,
         kept: bool,
+        pasid: usize,
+    },
+    /// A worker may still serve a group by a space whose domain was freed.
+    Serves {
+        endpoint: usize,
+        space: u64,
         pasid: usize,
     },
     /// A response finds no group.

@@ -35,11 +35,11 @@ abbrev pub begins_name : List ℕ → Bool
 begins_name [] = false
 begins_name (byte ∷ _) = is_ascii_lowercase byte
 
--- a letter, a digit or - (45)
+-- a letter, a digit, - (45) or _ (95)
 abbrev pub is_name_byte : ℕ → Bool
-is_name_byte byte = is_ascii_alphanumeric byte || byte == 45
+is_name_byte byte = (is_ascii_alphanumeric byte || byte == 45) || byte == 95
 
--- a name is a small letter, then letters, digits and -, and no word of the format; a vector is such a word
+-- a name is a small letter, then letters, digits, - and _, and no word of the format; a vector is such a word
 abbrev pub is_name : List ℕ → Bool
 is_name word = begins_name word && list_all is_name_byte word && is_err (vector word) && not (is_reserved word)
 

@@ -21,7 +21,7 @@ pub enum Wanted {
     NoLine,
     /// A name that no line has yet.
     NewName,
-    /// A name: a small letter, then letters, digits and `-`, and no word of the format.
+    /// A name: a small letter, then letters, digits, `-` and `_`, and no word of the format.
     Name,
     /// An answer behind `=>`.
     Answer,

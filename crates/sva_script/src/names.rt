@@ -62,25 +62,25 @@ impl Names {
     }
 }
 
-/// May the word be a name: a small letter, then letters, digits and `-`, and no word of the format?
+/// May the word be a name: a small letter, then letters, digits, `-` and `_`, and no word of the format?
 pub fn is_name(word: &[u8]) -> bool
     ensures { result ≡ is_name word.now }
 {
     begins_name(word) && are_name_bytes(word) && vector_in(word).is_err() && !is_reserved(word)
 }
 
-/// Are all bytes letters, digits or `-`?
+/// Are all bytes letters, digits, `-` or `_`?
 fn are_name_bytes(word: &[u8]) -> bool
     ensures { result ≡ list_all is_name_byte word.now }
 {
     word.iter().all(|byte| is_name_byte(*byte))
 }
 
-/// Is the byte a letter, a digit or `-`?
+/// Is the byte a letter, a digit, `-` or `_`?
 fn is_name_byte(byte: u8) -> bool
     ensures { result ≡ is_name_byte byte }
 {
-    byte.is_ascii_alphanumeric() || byte == b'-'
+    byte.is_ascii_alphanumeric() || byte == b'-' || byte == b'_'
 }
 
 /// Does the word begin as names do?

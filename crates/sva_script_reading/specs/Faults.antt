@@ -53,7 +53,7 @@ wanted_text (wanted.Number at) = place_text at
 wanted_text wanted.NoMore = codes "no further word"
 wanted_text wanted.NoLine = codes "no line behind the end"
 wanted_text wanted.NewName = codes "a name that no line has yet"
-wanted_text wanted.Name = codes "a name: a small letter, then letters, digits or -, and no word of the format"
+wanted_text wanted.Name = codes "a name: a small letter, then letters, digits, - or _, and no word of the format"
 wanted_text wanted.Answer = codes "an answer"
 wanted_text wanted.AnswerWord = codes "a word of an answer"
 

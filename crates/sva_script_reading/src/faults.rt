@@ -71,7 +71,7 @@ pub fn wanted_words(wanted: &Wanted) -> &'static str
         Wanted::NoLine => "no line behind the end",
         Wanted::NewName => "a name that no line has yet",
         Wanted::Name => {
-            "a name: a small letter, then letters, digits or -, and no word of the format"
+            "a name: a small letter, then letters, digits, - or _, and no word of the format"
         }
         Wanted::Answer => "an answer",
         Wanted::AnswerWord => "a word of an answer",

@@ -3,14 +3,14 @@
 import pathlib
 
 import search
-from reading import Driver, need
+from reading import CODES, KINDS, Driver, need
 from world import Settings
 
 EXAMPLES = sorted(pathlib.Path(__file__).parents[3].glob('examples/judge/**/*.svd'))
 
-PAGES, PASIDS, SPACES = (16, 17, 18), (1, 1, 1, 2), (0, 0, 0, 1)
-CODES = ('success', 'invalid', 'failure')
-AWAITED = {'wait', 'stopped', 'queue', 'groups', 'reset'}
+PAGES, PASIDS, SPACES = (16, 16, 17, 18, '0x10', '0x11'), (1, 1, 1, 1, 2, 0), (0, 0, 0, 1)
+# by scripts/words --write: act.await
+AWAITED = set("""wait stopped queue groups reset""".split())
 
 
 class Maker:
@@ -32,7 +32,8 @@ class Maker:
         pairs = ('link posted', 'waits plain', 'drain arrived', 'caches on', None)
         found = [f'platform {self.one("vt-d", "vt-d", "free")}'] if self.chance(0.2) else []
         found += [s for s in pairs if s and self.chance(0.35)]
-        return found + ([self.one('stopped status', 'stopped known')] if self.chance(0.5) else [])
+        found += [self.one('stopped status', 'stopped known')] if self.chance(0.5) else []
+        return found + [s for s, p in (('refuses drain', .15), ('allow no-group', .2)) if self.chance(p)]
 
     def devices(self):
         found = []
@@ -40,7 +41,7 @@ class Maker:
             parts = [f'{self.budget()} {what}' for what in ('asks', 'uses', 'faults') if self.chance(0.45)]
             parts += [word for word, p in (('evicts', .12), ('silent', .12), ('lies', .15), ('awaits', .3))
                       if self.chance(p)]
-            parts += [f'pages {self.one(16, 17, 18)}'] if self.chance(0.15) else []
+            parts += [f'pages {self.page()}'] if self.chance(0.15) else []
             if parts:
                 found.append(f'device {e} ' + ' '.join(parts))
         if self.chance(0.5):
@@ -86,10 +87,12 @@ class Maker:
         e, p = self.e(), self.p()
         return self.one(
             self.pte(), self.pte(), f'entry {e} {p} {self.one("none", "none", 0, 1)}', f'start {e} {p}',
-            f'stop {e} {p}',
+            f'stop {e} {p}', f'replace {e} {p} {self.one(0, 1)}', f'skip {e}', f'skip {e}', 'mark',
             f'reset {e}', f'submit {e} {self.descriptors()}', f'submit {e} {self.descriptors()}',
             f'submit {e} {self.descriptors()}', f'await stopped {e} {p}', f'await queue {e}' + self.one('', f' {p}'),
-            f'await groups {e} {p}', f'await reset {e}', f'free {self.rng.randrange(2)}',
+            f'await groups {e}' + self.one('', f' {p}', f' {p}'), f'await reset {e}', f'free {self.rng.randrange(2)}',
+            f'respond all {e} ' + self.one('', f'{p} ') + self.one(*CODES), f'discard {e}' + self.one('', f' {p}'),
+            f'free domain {self.one(0, 1)}',
             f'free {self.rng.randrange(2)}',
             f'freeze {self.rng.randrange(2)}', f'free pasid {p} {e}', f'free space {self.one(0, 1)}', f'serve {e}',
             f'respond {e} {p} {self.one(0, 0, 1)} {self.one(*CODES)}', f'close {e}', f'open {e}',
@@ -98,12 +101,12 @@ class Maker:
     def other(self):
         """One act of an endpoint, a unit or the link."""
         e, p, page = self.e(), self.p(), self.page()
-        kind = self.one('start', 'stop', 'reset', 'completion', 'invalidate', 'response', 'request', 'invalidated',
-                        'page-request', 'marker', 'status', 'reset-done')
+        kind = self.one(*KINDS)
         n = self.one('', '', ' 0', ' 1')
         return self.one(
             f'ask {e} {p} {page}', f'ask {e} {p} {page}', f'use {e} {p} {page}', f'evict {e} {p} {page}', f'end {e}{n}',
-            f'finish {e}{n}', f'quit {e} {p}', f'pump {e}', f'pump {e}', f'forget {e} {p}' + self.one('', f' {page}'),
+            f'finish {e}{n}', f'quit {e} {p}', f'pump {e}', f'pump {e}', f'write {e}',
+            f'forget {e} {p}' + self.one('', f' {page}'),
             f'fault {e} {p} {page} {self.one("r", "w", "rw")} {self.one("new", "new", 0)} {self.one("more", "last")}',
             *[f'deliver {kind} {e}{n}'] * 6)
 
@@ -118,12 +121,39 @@ class Maker:
             self.one(f'free pasid {p} {e}', f'entry {e} {p} 1', 'free space 0')]
         reset = [f'entry {e} {p} none', f'close {e}', f'reset {e}', f'await reset {e}', f'open {e}', f'start {e} {p}']
         page_requests = [f'serve {e}', f'respond {e} {p} 0 {self.one(*CODES)}', f'serve {e}',
-                         f'respond {e} {p} {self.one(0, 1)} success']
+                         self.one(f'respond {e} {p} {self.one(0, 1)} success', f'respond all {e} success')]
         shared = [f'pte 0 {page} {f} r', f'submit {e} range {p} {page} 0 + wait'] + wait + [f'freeze {f}']
         tables = [f'entry {e} {p} none', f'submit {e} entry {p} + iotlb {p} + pasid {p} + wait'] + wait
         tables += ['free space 0']
-        found = self.one(unmap, cached, stop, stop, reset, reset, page_requests, page_requests, shared, tables)
+        found = self.one(unmap, cached, stop, stop, reset, reset, page_requests, page_requests, shared, tables,
+                         self.replaced(e, p, page, f), self.skipped(e, p, page, f), self.skipped(e, p, page, f),
+                         self.drained(e, p), self.drained(e, p), self.unmapped_twice(e, p, page))
         return [x for x in found if self.chance(0.88)]
+
+    def replaced(self, e, p, page, f):
+        """A new table for the same owner, and the old one goes."""
+        flushed = [f'submit {e} entry {p} + iotlb {p} + pasid {p} + wait', f'await wait {e}']
+        return [f'pte 1 {page} 2 w', f'replace {e} {p} 1'] + flushed + [self.one(f'free {f}', 'free space 0')]
+
+    def drained(self, e, p):
+        """An unbinding that drains what the unit has received, ahead of its look at the queue or behind it."""
+        drain = [f'submit {e} wait fence + pasid {p} + wait{self.one("", " drain", " drain")}', f'await wait {e}']
+        look = [f'await queue {e} {p}', f'await groups {e}' + self.one('', f' {p}')]
+        gone = self.one([], ['free domain 0'], [f'discard {e}']) + [self.one(f'free pasid {p} {e}', f'entry {e} {p} 1')]
+        stop = [f'stop {e} {p}', f'await stopped {e} {p}', f'entry {e} {p} none']
+        return stop + self.one(drain + look, look + drain) + gone
+
+    def unmapped_twice(self, e, p, page):
+        """Two batches, of which the later wait alone is awaited."""
+        later = f'submit {e} {self.one("", "entry 1 + ")}wait'
+        first = [f'pte 0 {page} none', f'submit {e} range {p} {page} 0 + wait']
+        return first + [later, f'await wait {e}', f'free {self.rng.randrange(2)}']
+
+    def skipped(self, e, p, page, f):
+        """A descriptor is taken out of the queue: a wait that the unit refuses, or what stands before it."""
+        what = self.one(f'range {p} {page} 0 + wait drain', f'pasid {p} + wait + wait', 'wait drain')
+        waits = [f'submit {e} {what}', f'skip {e}'] + self.one([], [f'skip {e}']) + [f'await wait {e}']
+        return self.one([], [f'pte 0 {page} none']) + waits + [self.one(f'free {f}', f'stop {e} {p}')]
 
     def thread(self):
         lines = self.recipe() if self.chance(0.6) else []
@@ -175,9 +205,17 @@ def make_driver(rng):
     before = m.permitted(m.setup(), m.one(0, 6, 20, 30), lambda: m.other() if m.chance(0.8) else m.host())
     threads = [mend_waits(m.thread()) for _ in range(m.one(1, 1, 1, 1, 2, 2, 3))]
     text = m.head + before + ['race']
+    if len(threads) > 1 and m.chance(0.4):
+        signal(m, *threads[:2])
     for name, lines in zip('abc', threads):
         text += [f'thread {name}'] * (len(threads) > 1 or m.chance(0.3)) + name_one(m, lines, name)
     return '\n'.join(text) + '\n'
+
+
+def signal(m, first, other):
+    """One thread goes on behind a mark of the other, which stands above it."""
+    first.insert(m.rng.randrange(len(first) + 1), 'is_so: mark')
+    other.insert(m.rng.randrange(len(other) + 1), 'await is_so')
 
 
 def name_one(m, lines, name):
@@ -197,7 +235,8 @@ def make_mutant(rng):
     lines = [x for x in lines if x]
     m = Maker(rng)
     m.ends = int(lines[0].split()[1])
-    head, rest = lines[:1], [x for x in lines[1:] if x.split()[0] not in ('platform', *Settings.pairs)]
+    settings = ('platform', *Settings.pairs, *Settings.flags)
+    head, rest = lines[:1], [x for x in lines[1:] if x.split()[0] not in settings]
     old = [x for x in lines[1:] if x not in rest]
     settings = old if m.chance(0.6) else m.settings()
     for _ in range(m.one(0, 1, 1, 2, 3, 4)):
@@ -251,21 +290,48 @@ def kept_valid(lines):
 def act_of_groups(m):
     return m.one(
         f'fault 0 1 16 r new {m.one("more", "last")}', f'fault 0 1 16 r {m.one(0, 0, 1)} {m.one("more", "last")}',
-        'deliver page-request 0' + m.one('', '', ' 1'), 'deliver page-request 0', 'serve 0', 'serve 0',
-        f'respond 0 1 {m.one(0, 0, 1)} {m.one(*CODES)}', 'deliver response 0', 'close 0', 'open 0', 'reset 0',
-        'deliver reset 0', 'deliver reset-done 0', 'start 0 1', 'deliver start 0')
+        'deliver page-request 0' + m.one('', '', ' 1'), 'deliver page-request 0', 'write 0', 'serve 0', 'serve 0',
+        f'respond 0 1 {m.one(0, 0, 1)} {m.one(*CODES)}', 'deliver response 0', 'discard 0', 'close 0', 'open 0',
+        'reset 0',
+        'deliver reset 0', 'deliver reset-done 0', 'start 0 1', 'deliver start 0', 'deliver response 0')
 
 
 def line_of_groups(m):
     return m.one(
-        'serve 0', 'serve 0', f'respond 0 1 {m.one(0, 0, 1)} success', 'await queue 0', 'await groups 0 1',
+        'serve 0', 'serve 0', f'respond 0 1 {m.one(0, 0, 1)} success', 'await queue 0', 'await groups 0 1', 'write 0',
+        'respond all 0 success', 'discard 0', 'await groups 0', 'submit 0 wait drain', 'await wait 0', 'free domain 0',
         f'fault 0 1 16 r new {m.one("more", "last")}', 'deliver response 0', 'close 0', 'open 0', 'reset 0',
         'await reset 0', 'start 0 1', 'stop 0 1', 'await stopped 0 1', 'free pasid 1 0')
+
+
+def make_drained(m):
+    """An unbinding that drains, in some order, and another owner; or a drain beside page requests alone."""
+    is_end = m.chance(0.5)
+    looks = [f'await queue 0{m.one("", " 1")}', f'await groups 0{m.one("", " 1")}']
+    drain = [f'submit 0 wait{m.one(" drain", " drain", " drain", "")}', 'await wait 0']
+    lines = ['stop 0 1', 'await stopped 0 1', 'entry 0 1 none'] + m.one(drain + looks, drain + looks, looks + drain)
+    lines = [x for x in lines + ['free pasid 1 0'] if m.chance(0.95)] if is_end else drain + m.one([], looks)
+    head = ['config 1 4 1', 'link posted', 'drain arrived'] + m.one([], ['waits plain'])
+    head += ['device 0 1 faults pages 16'] + m.one([], ['workers success'])
+    head += ['entry 0 1 0', 'start 0 1', 'deliver start 0']
+    head += [] if is_end else ['fault 0 1 16 r new last', 'deliver page-request 0']
+    return head + ['race'] + mend_waits(lines)
+
+
+def make_filed(m):
+    """A group that was filed, whole or not, and by which it may not be served any more."""
+    head = ['config 1 4 1', 'workers success', 'entry 0 1 0', 'start 0 1', 'deliver start 0']
+    head += [f'fault 0 1 16 r new {m.one("more", "last")}', 'deliver page-request 0', 'serve 0']
+    head += ['stop 0 1', 'deliver stop 0', 'quit 0 1', 'deliver marker 0', 'entry 0 1 none']
+    looks = m.one([], ['await groups 0'], ['await groups 0 1'], ['discard 0'])
+    return head + ['race'] + looks + m.one(['free pasid 1 0'], ['entry 0 1 1'], ['free domain 0'])
 
 
 def make_groups(rng):
     """Page requests, early answers and resets: groups that are gone, and what is left of them."""
     m = Maker(rng)
+    if m.chance(0.3):
+        return '\n'.join(m.one(make_drained, make_drained, make_filed)(m)) + '\n'
     m.ends, p = 1, 1
     m.head = ['config 1 4 1'] + [x for x in m.settings() if 'caches' not in x]
     m.head += [f'device 0 {m.one(0, 1, 1, 2)} faults' + m.one('', '', '', ' silent', ' awaits') + ' pages 16']
@@ -273,7 +339,7 @@ def make_groups(rng):
     before = m.permitted(['start 0 1', 'deliver start 0'], m.one(0, 10, 25, 40), lambda: act_of_groups(m))
     text = m.head + before + ['race']
     for name in 'ab'[:m.one(1, 1, 2)]:
-        text += [f'thread {name}'] + [line_of_groups(m) for _ in range(m.one(1, 2, 3, 4, 5))]
+        text += [f'thread {name}'] + mend_waits([line_of_groups(m) for _ in range(m.one(1, 2, 3, 4, 5))])
     return '\n'.join(text) + '\n'
 
 
@@ -313,10 +379,11 @@ class Lister:
             return ' '.join(str(x) for x in m.rng.choice(acts))
         filed = [(e, g) for e, port in enumerate(w.ports) for g in port.filed]
         if filed and m.chance(0.2):
-            e, (p, i, _, _) = m.rng.choice(filed)
+            e, (p, i, *_) = m.rng.choice(filed)
             return f'respond {e} {p} {i} {m.one(*CODES)}'
         text = m.host() if m.chance(0.7) else m.other()
-        return text if not text.startswith(('free space', 'free pasid', 'close')) or m.chance(0.4) else m.other()
+        is_late = text.startswith(('free space', 'free pasid', 'free domain', 'close'))
+        return text if not is_late or m.chance(0.4) else m.other()
 
 
 def make_long_list(rng):

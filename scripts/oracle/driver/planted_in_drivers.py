@@ -68,6 +68,121 @@ def first_owner_stays(old):
     return set_entry
 
 
+def replaced_by_entry(old):
+    """An entry that is replaced is another owner's where it leads to another space."""
+    return lambda port, p, space: world.set_entry(port, p, space)
+
+
+def skips_what_goes(old):
+    """What is taken out of a queue is what the unit would take."""
+    may = old['skip']
+    return {**old, 'skip': lambda driver, port, device, words, line: may(driver, port, device, words, line)
+            and world.may_pump(port, driver.settings)}
+
+
+def skipped_is_undone(old):
+    """A wait that is taken out of a queue is never done."""
+    def skip(moment, port):
+        port.queue = port.queue[1:]
+    return skip
+
+
+def skipped_is_all(old):
+    """With its head the whole queue goes."""
+    def skip(moment, port):
+        while port.queue:
+            old(moment, port)
+    return skip
+
+
+def refuses_nothing(old):
+    def may_pump(port, settings):
+        kept, settings.said = settings.said, settings.said - {'refuses'}
+        may = old(port, settings)
+        settings.said = kept
+        return may
+    return may_pump
+
+
+def allows_any(old):
+    """Where a response may find no group it may find any."""
+    return lambda group, gid, may_lack: None if may_lack else old(group, gid, may_lack)
+
+
+def allows_none(old):
+    return lambda group, gid, may_lack: old(group, gid, False)
+
+
+def asks_no_mark(old):
+    """A line that submits nothing needn't be taken to be awaited."""
+    def need_of_await(driver, moment, words, line):
+        if line and line.awaited and not line.awaited[1]:
+            return None
+        return old(driver, moment, words, line)
+    return need_of_await
+
+
+def none_without_pasid(old):
+    """Under PASID 0 nothing is ever on."""
+    return lambda port, p: p != 0 and old(port, p)
+
+
+def digits_are_decimal(old):
+    return lambda words: old([x.replace('0x', '') if isinstance(x, str) else x for x in words])
+
+
+def drains_by_word_alone(old):
+    """A wait with `drain` is done once its invalidations are."""
+    return lambda moment, port, wait, drain: old(moment, port, wait, False)
+
+
+def drains_what_comes_later(old):
+    """It is done once nothing at all is left that was received."""
+    def write(moment, port):
+        port.prq, port.received = port.prq + port.received[:1], port.received[1:]
+        if all(len(one) == 1 for one in port.received):
+            moment.undone -= {one[0] for one in port.received}
+            port.received = ()
+    return write
+
+
+def writes_at_once(old):
+    """What comes stands in the queue."""
+    def arrives(moment, port, m, settings):
+        if not port.closed:
+            port.prq += m[1:5],
+    return {**old, 'page-request': arrives}
+
+
+def covers_all_before(old):
+    """A wait covers all that is out, and not its own alone."""
+    def pump(moment, port, settings):
+        port.covered = port.busy
+        old(moment, port, settings)
+    return pump
+
+
+def awaits_each_group(old):
+    def need_of_await(driver, moment, words, line):
+        if not (line and line.awaited) and words[1] == 'groups' and moment.ports[words[2]].filed:
+            return 'await groups'
+        return old(driver, moment, words, line)
+    return need_of_await
+
+
+def answers_what_is_filed(old):
+    """`respond all` answers also what isn't whole."""
+    def respond_all(port, p, failure):
+        port.filed = tuple(g[:3] + (True,) + g[4:] for g in port.filed)
+        old(port, p, failure)
+    return respond_all
+
+
+def without(*texts):
+    """Findings with one of these words are passed over."""
+    return lambda old: lambda moment: [each for each in old(moment) if not any(text in each[1] for text in texts)]
+
+
 def groups_by_index(old):
     """Nothing tells two groups of one index apart."""
     def fault(moment, port, p, group, last):
@@ -126,6 +241,26 @@ OF_DRIVERS = [
     Reading('nobody has to act', search, 'followers', needs_no_duty),
     Reading('no endpoint awaits its groups', world, 'may_quit', quits_at_once),
     Reading('an entry for another space is no new owner', world, 'set_entry', first_owner_stays),
+    Reading('an entry that is replaced is a new owner\'s', world, 'replace',
+            replaced_by_entry),
+    Reading('`skip` takes out only what may go', reading, 'MAY', skips_what_goes),
+    Reading('a wait that is skipped isn\'t done', world, 'skip', skipped_is_undone),
+    Reading('`skip` empties a queue', world, 'skip', skipped_is_all),
+    Reading('no unit refuses a drain', world, 'may_pump', refuses_nothing),
+    Reading('where no group is allowed any group is', search, 'wrong_response', allows_any),
+    Reading('a response always has a group', search, 'wrong_response', allows_none),
+    Reading('a mark needn\'t be taken to be awaited', reading, 'need_of_await', asks_no_mark),
+    Reading('a wait drains nothing that was received', world, 'wait_is_over', drains_by_word_alone),
+    Reading('a drain covers what comes behind it', world, 'write', drains_what_comes_later),
+    Reading('what comes stands in the queue', world, 'ARRIVES', writes_at_once),
+    Reading('a wait covers all before it', world, 'pump', covers_all_before),
+    Reading('a group that isn\'t whole is awaited', reading, 'need_of_await', awaits_each_group),
+    Reading('a group that isn\'t whole is answered with all', world, 'respond_all', answers_what_is_filed),
+    Reading('a worker serves for anybody', search, 'findings', without('filed group of an earlier')),
+    Reading('a worker serves by what is gone', search, 'findings', without('by the domain of')),
+    Reading('what is received may be anybody\'s', search, 'findings', without('that the unit has received')),
+    Reading('PASID 0 is never on', world, 'is_on', none_without_pasid),
+    Reading('hexadecimal pages are decimal', reading, 'numbers', digits_are_decimal),
     Reading('a platform sets nothing', reading, 'set_platform', sets_nothing),
     Reading('each platform was asked for', report, 'not_asked', lambda old: lambda settings: []),
     Reading('no ask by a line is one', report, 'ask_not_made', by_itself_alone),

@@ -2,16 +2,20 @@
 import world as w
 from world import Port, Settings, World
 
-KINDS = ('start', 'stop', 'reset', 'completion', 'invalidate', 'response', 'request', 'invalidated', 'page-request',
-         'marker', 'status', 'reset-done')
-CODES = ('success', 'invalid', 'failure')
+# by scripts/words --write: kind/d
+KINDS = """start stop reset completion invalidate response request invalidated page-request marker status
+    reset-done""".split()
+# by scripts/words --write: place.CODE
+CODES = """success invalid failure""".split()
 NEEDS = {
     'submit': 'submit needs an open unit with room for all descriptors', 'close': 'close needs an open unit',
-    'open': 'open needs a closed unit', 'await wait': 'await needs the wait done',
+    'open': 'open needs a closed unit', 'skip': 'skip needs a descriptor in the queue',
+    'await wait': 'await needs the wait done',
     'await stopped': 'await needs an answer to the stop', 'await reset': 'await needs each reset done',
     'await queue': 'await needs an empty page request queue',
     'await queue P': 'await needs no page request of the PASID in the queue',
-    'await groups': 'await needs each filed group of the PASID answered',
+    'await groups': 'await needs each whole group answered',
+    'write': 'write needs a page request that the unit has received',
     'serve': 'serve needs a page request in the queue', 'lock': 'lock needs a free lock',
     'unlock': 'unlock needs a taken lock',
     'deliver': 'deliver needs such a message in flight, behind none that it may not overtake',
@@ -69,6 +73,8 @@ class Driver:
             set_platform(self.settings, words[1])
         elif first in Settings.pairs:
             setattr(self.settings, first, words[1])
+        elif first in Settings.flags:
+            self.settings.said |= {first}
         elif first == 'race':
             self.raced = True
         elif first == 'workers':
@@ -103,13 +109,13 @@ class Driver:
         return name
 
     def find_awaited(self, line):
-        """Of `await wait E` the last wait that the lines above in this thread submitted; of a name its line."""
+        """Of `await wait E` the last line above in this thread that submitted a wait there; of a name its line."""
         if line.words[0] != 'await' or line.words[1] in ('stopped', 'queue', 'groups', 'reset'):
             return
         if line.words[1] == 'wait':
             above = [x for x in self.by_thread[self.threads.index(line.thread)][:line.index]
                      if x.words[0] == 'submit' and x.words[1] == line.words[2] and waits_of(x)]
-            line.awaited = (above[-1], waits_of(above[-1])[-1:])
+            line.awaited = (above[-1], waits_of(above[-1]))
         else:
             named = next(x for x in self.lines if x.name == line.words[1])
             line.awaited = (named, waits_of(named))
@@ -124,8 +130,9 @@ class Driver:
     def start(self):
         new = World()
         new.ports = [Port(self.devices[e].budget) for e in range(self.ports)]
-        new.pte, new.pos = {}, (0,) * len(self.threads)
+        new.settings, new.pte, new.pos = self.settings, {}, (0,) * len(self.threads)
         new.freed_spaces, new.locks, new.undone = (), frozenset(), frozenset()
+        new.freed_domains, new.has_workers = (), self.workers is not None
         return new
 
 
@@ -142,7 +149,7 @@ def numbers(words):
 def role(words):
     if words[0] == 'deliver':
         return 'link'
-    if words[0] in ('pump', 'forget'):
+    if words[0] in ('pump', 'write', 'forget'):
         return f'unit {words[1]}'
     if words[0] in ('ask', 'use', 'evict', 'end', 'finish', 'quit', 'fault'):
         return f'endpoint {words[1]}'
@@ -188,6 +195,8 @@ MAY = {
     'submit': lambda d, port, device, x, line: not port.closed and len(port.queue) + len(descriptors(line)) <= w.PLACES,
     'close': lambda d, port, device, x, line: not port.closed,
     'open': lambda d, port, device, x, line: port.closed,
+    'skip': lambda d, port, device, x, line: bool(port.queue),
+    'write': lambda d, port, device, x, line: bool(port.received) and len(port.received[0]) > 1,
     'serve': lambda d, port, device, x, line: bool(port.prq),
     'pump': lambda d, port, device, x, line: w.may_pump(port, d.settings),
     'ask': lambda d, port, device, x, line: w.is_on(port, x[2]),
@@ -206,8 +215,10 @@ def need(driver, world, words, line=None):
         return need_of_await(driver, world, words, line)
     if verb in ('lock', 'unlock'):
         return verb if (words[1] in world.locks) == (verb == 'lock') else None
+    if verb not in MAY or verb == 'respond':
+        return None
     e = words[2] if verb == 'deliver' else words[1]
-    if verb not in MAY or MAY[verb](driver, world.ports[e], driver.devices[e], words, line):
+    if MAY[verb](driver, world.ports[e], driver.devices[e], words, line):
         return None
     if verb == 'fault':
         return 'fault new' if words[5] == 'new' else 'fault G'
@@ -228,7 +239,7 @@ def need_of_await(driver, world, words, line):
     elif what == 'queue':
         ok = not port.prq
     elif what == 'groups':
-        ok = not any(g[0] == words[3] for g in port.filed)
+        ok = not any(g[3] and w.is_meant(g, optional(words, 3, None)) for g in port.filed)
     else:
         ok = port.resets == 0
     return None if ok else 'await ' + what
@@ -237,6 +248,8 @@ def need_of_await(driver, world, words, line):
 def do(driver, world, words, line=None):
     """Does a permitted act in place."""
     verb = words[0]
+    if verb == 'mark':
+        return
     if verb == 'pte':
         where = words[1], words[2]
         world.pte = w.without(world.pte, where)
@@ -248,6 +261,8 @@ def do(driver, world, words, line=None):
         w.disown(world.ports[words[3]], words[2])
     elif verb == 'free' and words[1] == 'space':
         world.freed_spaces += words[2],
+    elif verb == 'free' and words[1] == 'domain':
+        world.freed_domains += words[2],
     elif verb == 'free' or verb == 'freeze':
         w.mark(world, words[1], 2 if verb == 'free' else 3)
     elif verb == 'await':
@@ -256,6 +271,8 @@ def do(driver, world, words, line=None):
     elif verb == 'deliver':
         port = world.ports[words[2]]
         w.deliver(world, port, w.place(port, words[1], optional(words, 3)), driver.settings)
+    elif verb == 'respond' and words[1] == 'all':
+        w.respond_all(world.ports[words[2]], words[3] if len(words) > 4 else None, words[-1] == 'failure')
     else:
         do_at(driver, world, world.ports[words[1]], words, line)
 
@@ -264,6 +281,8 @@ def do_at(driver, world, port, words, line):
     verb, p = words[0], words[2] if len(words) > 2 else None
     if verb == 'entry':
         w.set_entry(port, p, None if words[3] == 'none' else words[3])
+    elif verb == 'replace':
+        w.replace(port, p, words[3])
     elif verb in ('start', 'stop', 'reset'):
         port.link += (verb, p),
         port.resets += verb == 'reset'
@@ -272,17 +291,21 @@ def do_at(driver, world, port, words, line):
         port.queue += tuple(descriptors(line))
         world.undone = world.undone | set(waits_of(line))
     elif verb == 'close':
-        port.closed, port.prq, port.filed = True, (), ()
+        w.close(port)
     elif verb == 'open':
-        waits = {d[3] for d in port.queue if d[0] == 'wait'} | {x[0] for x in port.plain}
-        world.undone = world.undone - waits
-        port.closed, port.queue, port.plain, port.busy = False, (), (), frozenset()
+        w.reopen(world, port)
     elif verb == 'serve':
         w.serve(port)
+    elif verb == 'write':
+        w.write(world, port)
+    elif verb == 'discard':
+        w.discard(port, p)
     elif verb == 'respond':
         w.respond(port, p, words[3], words[4] == 'failure')
     elif verb == 'pump':
         w.pump(world, port, driver.settings)
+    elif verb == 'skip':
+        w.skip(world, port)
     elif verb == 'forget':
         if len(words) > 3:
             port.kept = w.without(port.kept, (p, words[3]))

@@ -14,7 +14,8 @@ def below_safe(driver, shown):
     """Where `shown` is what the moments showed, all together."""
     found = [within(driver, e) for e in sorted(driver.devices)]
     s = driver.settings
-    found += [f'with link {s.link}, waits {s.waits}, drain {s.drain}, caches {s.caches}, stopped {s.stopped}']
+    found += [f'with link {s.link}, waits {s.waits}, drain {s.drain}, caches {s.caches}, stopped {s.stopped}'
+              + ', refuses drain' * ('refuses' in s.said) + ', allow no-group' * ('allow' in s.said)]
     others = not_asked(s)
     found += ['not asked: ' + ', '.join(others)] if others else []
     found += [line for e in sorted(driver.devices) for line in ask_not_made(driver, e)]
@@ -53,7 +54,7 @@ def nevers(driver, shown):
             if may and (what, e) not in shown:
                 found.append(f'never: endpoint {e} {text}')
     for line in driver.lines:
-        verb, frame = line.words[:2]
+        verb, frame = (line.words + [None])[:2]
         is_behind = line not in driver.by_thread[0]
         if is_behind and verb in ('free', 'freeze') and isinstance(frame, int) and ('frame', frame) not in shown:
             does = 'gives away' if verb == 'free' else 'freezes'

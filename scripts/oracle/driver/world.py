@@ -16,8 +16,10 @@ class Settings:
     pairs = {'link': ('free', 'posted'), 'waits': ('fence', 'plain'), 'drain': ('empty', 'arrived'),
              'caches': ('off', 'on'), 'stopped': ('marker', 'status', 'known')}
     platforms = {'vt-d': ('posted', 'plain', 'arrived', 'on'), 'free': ('free', 'fence', 'empty', 'off')}
+    flags = {'refuses': 'drain', 'allow': 'no-group'}   # "two settings are no pair"
 
     def __init__(self):
+        self.said = frozenset()                 # which of the flags are said, by their first words
         for name, words in self.pairs.items():
             setattr(self, name, words[0])
 
@@ -30,8 +32,10 @@ class Port:
         self.entry, self.last = {}, {}          # PASID -> space: in memory; where each led last since it was freed
         self.answers, self.resets = frozenset(), 0   # PASIDs of which an answer to a stop has come; resets not done
         self.remains = ()                       # what the event has left of an earlier owner: (PASID, what)
-        self.closed, self.queue, self.busy, self.plain = False, (), frozenset(), ()
-        self.prq, self.filed = (), ()           # (PASID, index, group, last); (PASID, index, group, whole)
+        self.closed, self.queue, self.busy = False, (), frozenset()
+        self.plain, self.covered = (), frozenset()   # (wait, ITags, drain); the ITags behind the last such wait
+        self.received = ()                      # (PASID, index, group, last), or (wait,) that drains what stands before
+        self.prq, self.filed = (), ()           # (PASID, index, group, last); (PASID, index, group, whole, space)
         self.kept_entry, self.kept = {}, {}
         self.on, self.held, self.tags = {}, {}, {}   # tags: tag -> (PASID, page, doomed)
         self.uses, self.taken = (), ()          # (slot, PASID, page, translation); (ITag, PASID, scope, slots noted)
@@ -155,10 +159,30 @@ def invalidated_arrives(world, port, m, settings):
 
 
 def free_itags(world, port, itags):
-    """A wait that has left the queue "is done when the ITags that were busy then are free"."""
-    port.busy -= itags
-    world.undone -= {wait for wait, left in port.plain if left <= itags}
-    port.plain = tuple((wait, left - itags) for wait, left in port.plain if not left <= itags)
+    """A wait "covers what stands behind the wait before it, and is done when the invalidations among these are"."""
+    port.busy, port.covered = port.busy - itags, port.covered - itags
+    waiting, port.plain = port.plain, ()
+    for wait, left, drain in waiting:
+        if left <= itags:
+            wait_is_over(world, port, wait, drain)
+        else:
+            port.plain += (wait, left - itags, drain),
+
+
+def wait_is_over(world, port, wait, drain):
+    """"A wait with `drain` is done once its invalidations are, and all is written that had been received by then"."""
+    if drain and any(len(one) > 1 for one in port.received):
+        port.received += (wait,),
+    else:
+        world.undone -= {wait}
+
+
+def write(world, port):
+    """The oldest page request that was received; the waits right behind it drained nothing else."""
+    port.prq, port.received = port.prq + port.received[:1], port.received[1:]
+    while port.received and len(port.received[0]) == 1:
+        world.undone -= {port.received[0][0]}
+        port.received = port.received[1:]
 
 
 def start_arrives(world, port, m, settings):
@@ -195,7 +219,11 @@ def response_arrives(world, port, m, settings):
 
 
 def page_request_arrives(world, port, m, settings):
-    if not port.closed:
+    if port.closed:
+        return
+    if settings.drain == 'arrived':
+        port.received += m[1:5],
+    else:
         port.prq += m[1:5],
 
 
@@ -214,7 +242,8 @@ ARRIVES = {'request': request_arrives, 'completion': completion_arrives, 'invali
 
 def may_pump(port, settings):
     """"A descriptor may go where an ITag is free for its invalidation; a fence, where all before it is done; and
-    one with `drain`, where `drain empty` holds, once the page request queue is empty."""
+    one with `drain`, where `drain empty` holds, once the page request queue is empty, and where `refuses drain` holds,
+    never."""
     if port.closed or not port.queue:
         return False
     head = port.queue[0]
@@ -222,6 +251,8 @@ def may_pump(port, settings):
         return len(port.busy) < ITAGS
     if head[0] != 'wait':
         return True
+    if head[1] and 'refuses' in settings.said:
+        return False
     if (settings.waits == 'fence' or head[2]) and port.busy:
         return False
     return not (head[1] and settings.drain == 'empty' and port.prq)
@@ -231,15 +262,23 @@ def pump(world, port, settings):
     head, port.queue = port.queue[0], port.queue[1:]
     if head[0] in ('range', 'pasid'):
         itag = lowest(port.busy)
-        port.busy |= {itag}
+        port.busy, port.covered = port.busy | {itag}, port.covered | {itag}
         port.link += ('invalidate', itag, head[1], head[2]),
     elif head[0] == 'iotlb':
         port.kept = {(p, page): tr for (p, page), tr in port.kept.items() if p != head[1] or not covers(head[2], page)}
     elif head[0] == 'entry':
         port.kept_entry = without(port.kept_entry, head[1])
-    elif port.busy:
-        port.plain += (head[3], port.busy),
+    elif port.covered:
+        port.plain, port.covered = port.plain + ((head[3], port.covered, head[1]),), frozenset()
     else:
+        wait_is_over(world, port, head[3], head[1])
+
+
+def skip(world, port):
+    """"Takes the head out .., whatever it is. What it asked for is never done; a wait that is taken out counts as
+    done."""
+    head, port.queue = port.queue[0], port.queue[1:]
+    if head[0] == 'wait':
         world.undone -= {head[3]}
 
 
@@ -254,10 +293,12 @@ def disown(port, p, new_space=None):
         ('running use', any(u[1] == p for u in port.uses)),
         ('request that is out', any(q == p and not doomed for q, _, doomed in port.tags.values())),
         ('start in flight', 'start' in flying), ('stop in flight', 'stop' in flying),
+        ('page request that the unit has received', any(len(r) > 1 and r[0] == p for r in port.received)),
         ('page request in the queue', any(r[0] == p for r in port.prq)),
         ('status in flight', 'status' in flying),
         ('entry', p in port.entry and new_space is None),
         ('kept entry', p in port.kept_entry), ('kept translation', any(q == p for q, _ in port.kept)),
+        ('filed group', any(g[0] == p and g[3] for g in port.filed)),
         ('on', p in port.on)) if there]
     port.remains = tuple((p, word) for word in port.remains)
     port.link = tuple(m[:-1] + (True,) if m[0] in ('page-request', 'marker') and m[1] == p else m for m in port.link)
@@ -274,6 +315,11 @@ def set_entry(port, p, space):
     port.entry, port.last = put(port.entry, p, space), put(port.last, p, space)
 
 
+def replace(port, p, space):
+    """"The PASID table entry leads to the space, for the owner that P has, whatever it led to before"."""
+    port.entry, port.last = put(port.entry, p, space), put(port.last, p, space)
+
+
 def mark(world, frame, which):
     """`free` (2) and `freeze` (3): whatever leads to the frame now led to it before."""
     def marked(tr):
@@ -286,15 +332,45 @@ def mark(world, frame, which):
         port.link = tuple(m[:4] + (marked(m[4]), m[5]) if m[0] == 'completion' else m for m in port.link)
 
 
+def reopen(world, port):
+    """"The invalidation queue is empty, all ITags are free, all waits are done"."""
+    world.undone -= {d[3] for d in port.queue if d[0] == 'wait'} | {x[0] for x in port.plain + port.received}
+    port.closed, port.queue, port.plain, port.received = False, (), (), ()
+    port.busy, port.covered = frozenset(), frozenset()
+
+
+def close(port):
+    """Nothing is received, queued or filed any more; a wait that drained what had been received stays undone."""
+    port.closed, port.prq, port.filed = True, (), ()
+    port.received = tuple(one for one in port.received if len(one) == 1)
+
+
 def serve(port):
-    """Files the oldest page request in its group: one of its PASID and index that isn't whole yet, or a new one."""
+    """Files the oldest page request in its group: one of its PASID and index that isn't whole yet, or a new one. The
+    group is "of the space that its PASID had when its last page request was filed"."""
     p, i, gid, last = port.prq[0]
     port.prq = port.prq[1:]
-    for n, (q, j, other, whole) in enumerate(port.filed):
+    for n, (q, j, other, whole, _) in enumerate(port.filed):
         if (q, j) == (p, i) and not whole:
-            port.filed = port.filed[:n] + ((p, i, other, last),) + port.filed[n + 1:]
+            port.filed = port.filed[:n] + ((p, i, other, last, port.last.get(p)),) + port.filed[n + 1:]
             return
-    port.filed += (p, i, gid, last),
+    port.filed += (p, i, gid, last, port.last.get(p)),
+
+
+def is_meant(group, p):
+    return p is None or group[0] == p
+
+
+def respond_all(port, p, failure):
+    """"Answers each whole group (of P) that is filed, the oldest first, by one event."""
+    for q, i, gid, whole, _ in port.filed:
+        if whole and is_meant((q,), p):
+            port.link += ('response', q, i, gid, failure),
+    port.filed = tuple(g for g in port.filed if not (g[3] and is_meant(g, p)))
+
+
+def discard(port, p):
+    port.filed = tuple(g for g in port.filed if g[3] or not is_meant(g, p))
 
 
 def respond(port, p, i, failure):

@@ -5,24 +5,26 @@ It takes right texts alone: which lines are wrong is not its subject.
 
 import re
 
-KINDS = ("start stop reset completion invalidate response request invalidated page-request marker "
-         "reset-done").split()
+# by scripts/words --write: kind/s
+KINDS = """start stop reset completion invalidate response request invalidated page-request marker
+    reset-done""".split()
 # the place of each word of a step: S, B, P, F, U, G, M and V (a vector) may be names
 PLACES = {
     "space": "", "drop": "S", "map": "S page w", "unmap": "S page n", "unmapr": "S page n", "bind": "E S",
     "unbind": "B", "advance": "B", "pump": "E", "serve": "E", "reset": "E", "take": "n", "answer": "n w",
     "ask": "E P page", "use": "E P page w", "end": "E U", "evict": "E P page", "fault": "E P page w G w",
     "finish": "E V n", "quit": "E P", "deliver": "M", "look": "F", "bearer": "P"}
-ENDPOINT_STEPS = ("ask", "use", "end", "evict", "fault", "finish", "quit")
+# by scripts/words --write: step@endpoint
+ENDPOINT_STEPS = """ask use end evict fault finish quit""".split()
 # by the last word before it, the place of a name in an answer
 BEFORE = {"space": "S", "bearer": "S", "frame": "F", "free": "F", "withheld": "F", "binding": "B", "pasid": "P",
           "use": "U", "group": "G", "itag": "T", "tag": "T"}
-# no name is one of these
-ANSWER_WORDS = set("""space gone frame free withheld range binding pasid stopping quiet draining invalidating released
-    idle itag blocked wait done empty job part resetting group pages success invalid failure dropped tag use ended dead
-    evicted sent marker started reset none full held taken answered stale completion freed queued marked mapped bearer
-    bindings refused""".split())
-NAME = re.compile(r"([a-z][A-Za-z0-9-]*)(?:\.([0-9]+))?")
+# no name is one of these; by scripts/words --write: answer + answer.* + refused
+ANSWER_WORDS = set("""space gone frame free withheld range binding stopping draining invalidating quiet
+    released idle itag blocked wait empty part job resetting success invalid failure dropped tag use
+    ended dead evicted group sent marker mapped started reset none full held taken answered stale
+    completion freed queued marked bearer pasid done pages bindings refused""".split())
+NAME = re.compile(r"([a-z][A-Za-z0-9_-]*)(?:\.([0-9]+))?")
 
 
 class Name:

@@ -1,10 +1,12 @@
 use Rattle.std.proofs.Common.{◌≡◌, ◌∙◌, ap, arith, length, map, vec_len}
+use Rattle.sva_open.specs.World.{opened}
+use Rattle.sva_open.specs.declared.settings.Settings.{Settings}
 use Rattle.sva_driver_words.specs.Awaits.{line_seen}
 use Rattle.sva_driver_texts.specs.Devices.{device_seen}
 use Rattle.sva_driver_texts.specs.Readings.{Reading}
 use Rattle.sva_driver_texts.specs.Pasids.{pasids_of}
 use Rattle.sva_driver_texts.specs.Plans.{planned_from}
-use Rattle.sva_driver_texts.specs.Texts.{done_of, told_of}
+use Rattle.sva_driver_texts.specs.Texts.{conduct_of, done_of, told_of, with_workers}
 use Rattle.sva_driver_texts.proofs.Openings.{as_many, by_view, map_twice, start_by}
 use Rattle.sva_driver_texts.proofs.opening.opening_of.Goals as goal
 
@@ -16,9 +18,11 @@ returns-clause-driver c =
     let locks : vec_len c.reading.inside.locks ≡ length c.reading.inside.locks.items = omega (arith, c.reading.inside.locks.ok.0) in
     by_view c.args.config.now _ c.args.reading _ c.reading.view_is
     (record {
-      start = start_by c.args.config.now c.reading.inside.settings _ own (pasids_of (map line_seen lines)) c.pasids_of-pasids.result
+      start = start_by c.args.config.now c.with_workers-settings.result _ own (pasids_of (map line_seen lines)) c.pasids_of-pasids.result
           c.in_ok-start.start c.in_ok-start.ensures c.as_slice-own.ensures.value
-          (c.pasids_of-pasids.ensures ∙ (λ i. pasids_of (map line_seen (acts i))));
+          (c.pasids_of-pasids.ensures ∙ (λ i. pasids_of (map line_seen (acts i))))
+          ∙ ap (λ (settings : Settings). opened settings (map conduct_of (map device_seen own)) (pasids_of (map line_seen lines)) c.args.config.now.frames)
+          (c.with_workers-settings.ensures ∙ ap (with_workers c.reading.inside.settings) c.workers_or-workers.ensures);
       lines = c.in_ok-lines.ensures.lines ∙ map_twice done_of line_seen lines;
       taken = as_many line_seen lines _ _ c.in_ok-taken.ensures (ap length acts);
       locked = as_many (λ lock. lock.items) c.reading.inside.locks.items _ _ c.in_ok-locked.ensures (c.len.ensures ∙ locks);

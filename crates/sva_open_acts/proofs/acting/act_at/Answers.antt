@@ -15,6 +15,7 @@ returns c =
       mappings = c.now.inside.mappings.items;
       frames = c.now.inside.frames.items;
       freed = c.now.inside.freed.items;
+      domains = c.now.inside.domains.items;
       parts = c.now.inside.parts.items;
     } in
     let step =

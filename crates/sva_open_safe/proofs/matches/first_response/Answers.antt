@@ -7,17 +7,18 @@ pub returns-in-Some : goal.returns-in-Some
 returns-in-Some c =
     let inside : c.loop-place.place < length c.args.list.now = search rules in
     sym
-    (in_first (wrongs.one_met c.args.part.now c.args.endpoint) c.args.list.now c.loop-place.place _ c.in-Some.wrong inside
+    (in_first (wrongs.one_met c.args.settings.now c.args.part.now c.args.endpoint) c.args.list.now c.loop-place.place _ c.in-Some.wrong inside
     (sym c.one_met.ensures ∙ c.in-Some.is))
     ∙ c.loop-place.invariant
 
 pub loop-place-preserved : goal.loop-place-preserved
 loop-place-preserved c =
     let inside : c.loop-place.place < length c.args.list.now = search rules in
-    sym (in_later (wrongs.one_met c.args.part.now c.args.endpoint) c.args.list.now c.loop-place.place _ inside (sym c.one_met.ensures ∙ c.in-None.is))
+    sym (in_later (wrongs.one_met c.args.settings.now c.args.part.now c.args.endpoint) c.args.list.now c.loop-place.place _ inside
+    (sym c.one_met.ensures ∙ c.in-None.is))
     ∙ c.loop-place.invariant
 
 pub returns : goal.returns
 returns c =
     let past : length c.args.list.now ≤ c.loop-place.place = search rules in
-    sym (in_none (wrongs.one_met c.args.part.now c.args.endpoint) c.args.list.now c.loop-place.place past) ∙ c.loop-place.invariant
+    sym (in_none (wrongs.one_met c.args.settings.now c.args.part.now c.args.endpoint) c.args.list.now c.loop-place.place past) ∙ c.loop-place.invariant

@@ -5,4 +5,4 @@ use Rattle.sva_open_safe.proofs.matches.first_response.Given as goal
 -- the first of those that are left is the first of all
 abbrev pub invariant-loop-place : goal.invariant-loop-place
 invariant-loop-place l =
-    wrongs.first_in (wrongs.one_met l.part l.endpoint) (drop l.place l.list) ≡ wrongs.first_in (wrongs.one_met l.part l.endpoint) l.list
+    wrongs.first_in (wrongs.one_met l.settings l.part l.endpoint) (drop l.place l.list) ≡ wrongs.first_in (wrongs.one_met l.settings l.part l.endpoint) l.list

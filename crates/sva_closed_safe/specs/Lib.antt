@@ -1,3 +1,0 @@
-pub mod AsOpen
-pub mod Beside
-pub mod Shown

@@ -1,0 +1,374 @@
+-- Nor has a line of a text that was read, or its thread; so what is told of an event has none.
+use Rattle.std.proofs.Common.{◌≡◌, ◌∙◌, ap, refl, subst, sym, ℕ, zero, suc, ◌+◌, ◌==◌, ◌||◌, Bool, true, false, List, [], ◌∷◌, ◌++◌}
+use Rattle.std.proofs.Common.{codes, decimal, drop, take, Option, Some, None, Result, Ok, Err}
+use Rattle.std.proofs.lemmas.Option.{same_Some}
+use Rattle.std.specs.List.{enumerate_from, list_any, onto_first, position}
+use Rattle.std.specs.Str.{bytes_eq}
+use Rattle.std.specs.Prelude.{◌&&◌, flat_map, if◌then◌else◌, length, map, nat_lt, slice_get, slice_set}
+use Rattle.sva_step.specs.declared.limits.Config.{Config}
+use Rattle.sva_grammar.specs.Configs.{is_fit}
+use Rattle.sva_grammar.specs.Grammar.{◌>>=◌, is_too_large, lines_of, words_of}
+use Rattle.sva_script.specs.Lines.{Parts, begins_comment, is_arrow, name_before, parts_by, parts_of, said, said_alone, script_words, split_at}
+use Rattle.sva_script.specs.Names.{Known}
+use Rattle.sva_script_reading.specs.Begins.{Line, config_at, config_in, config_with, joined_words, lines_from}
+use Rattle.sva_script_reading.specs.Faults.{Fault}
+use Rattle.sva_race_texts.specs.Limits.{limits_text}
+use Rattle.sva_race_texts.specs.Words.{word_at}
+use Rattle.sva_open.specs.World.{Part}
+use Rattle.sva_open.specs.declared.acts.LocalAct.{LocalAct}
+use Rattle.sva_judge.specs.Choices.{act_of}
+use Rattle.sva_judge.specs.Spots.{Spot}
+use Rattle.sva_judge.specs.declared.choices.Doing.{Doing}
+use Rattle.sva_judge.specs.declared.choices.Doing.TheVariants as doing
+use Rattle.sva_driver_words.specs.Awaits.{LineSaid}
+use Rattle.sva_driver_words.specs.Faults.{wrong_at}
+use Rattle.sva_driver_words.specs.Fields.{has_word, says}
+use Rattle.sva_driver_words.specs.Says.{is_act}
+use Rattle.sva_driver_words.specs.declared.faults.DriverWanted.TheVariants as wanted
+use Rattle.sva_driver_words.specs.declared.faults.DriverWrong.{DriverWrong}
+use Rattle.sva_driver_texts.specs.Readings.{Reading, act_line, behind, behind_lines, behind_words, device_line, headed, heading_line, is_misspelt}
+use Rattle.sva_driver_texts.specs.Readings.{line_by, nothing, other_before, other_behind, other_line, race_line, role_of, set_line}
+use Rattle.sva_driver_texts.specs.Readings.{is_of_endpoint, is_of_unit, is_told, is_word, thread_of, told_by, told_by_parts, workers_line}
+use Rattle.sva_driver_texts.specs.Devices.{DeviceSaid, setting_line}
+use Rattle.sva_driver_texts.specs.Texts.{DriverRead, IsRead, LineTold, driver_behind, driver_of, driver_read, if_right, told_of, told_seen}
+use Rattle.sva_driver_texts.specs.Texts.{too_large}
+use Rattle.sva_driver_texts.specs.declared.kept.Read.{Read}
+use Rattle.sva_driver_texts.specs.declared.kept.Said.{Said}
+use Rattle.sva_driver_texts.specs.declared.kept.Text.{Text}
+use Rattle.sva_open.specs.declared.drivers.Line.{Line as Kept}
+use Rattle.sva_driver_reports.specs.Witness.{EventSaid, act_event, event_by, line_event, threaded}
+use Rattle.sva_driver_reports.specs.Witnesses.{IsOneLine}
+use Rattle.sva_driver_reports.proofs.OneLines.{act_one, both, decimal_one, either, none_of, who_one}
+
+-- ---- Lines and words of a text
+
+abbrev AreOneLines : List (List ℕ) → Type 0
+AreOneLines [] = Unit {0}
+AreOneLines (line ∷ lines) = IsOneLine line × AreOneLines lines
+
+onto_one : (byte : ℕ) (lines : List (List ℕ)) → (byte == 10) ≡ false → AreOneLines lines → AreOneLines (onto_first byte lines)
+onto_one byte [] other h = (ap (λ t. t || false) other, tt)
+onto_one byte (line ∷ lines) other h = (ap (λ t. t || list_any (λ b. b == 10) line) other ∙ h.0, h.1)
+
+lines_one : (text : List ℕ) → AreOneLines (lines_of text)
+lines_one [] = tt
+lines_one (byte ∷ text) = by_byte (byte == 10) refl (lines_one text)
+  where
+    by_byte : (test : Bool) → (byte == 10) ≡ test → AreOneLines (lines_of text)
+        → AreOneLines (if test then [] ∷ lines_of text else onto_first byte (lines_of text))
+    by_byte true is h = (refl, h)
+    by_byte false is h = onto_one byte (lines_of text) is h
+
+words_one : (line : List ℕ) → IsOneLine line → AreOneLines (words_of line)
+words_one [] h = (refl, tt)
+words_one (byte ∷ line) h =
+    let parts = none_of (byte == 10) (list_any (λ b. b == 10) line) h in
+    by_byte (byte == 32) parts.0 (words_one line parts.1)
+  where
+    by_byte : (test : Bool) → (byte == 10) ≡ false → AreOneLines (words_of line)
+        → AreOneLines (if test then [] ∷ words_of line else onto_first byte (words_of line))
+    by_byte true other h = (refl, h)
+    by_byte false other h = onto_one byte (words_of line) other h
+
+alone_one : (word : List ℕ) (rest : List (List ℕ)) → IsOneLine word → AreOneLines rest → AreOneLines (said_alone word ++ rest)
+alone_one [] rest word h = h
+alone_one (byte ∷ bytes) rest word h = (word, h)
+
+said_one : (words : List (List ℕ)) → AreOneLines words → AreOneLines (said words)
+unfolding said
+said_one [] h = tt
+said_one (word ∷ words) h = by_test (begins_comment word) (said_one words h.1)
+  where
+    by_test : (test : Bool) → AreOneLines (said words) → AreOneLines (if test then [] else said_alone word ++ said words)
+    by_test true rest = tt
+    by_test false rest = alone_one word (said words) h.0 rest
+
+take_one : (count : ℕ) (words : List (List ℕ)) → AreOneLines words → AreOneLines (take count words)
+take_one zero words h = tt
+take_one (suc count) [] h = tt
+take_one (suc count) (word ∷ words) h = (h.0, take_one count words h.1)
+
+drop_one : (count : ℕ) (words : List (List ℕ)) → AreOneLines words → AreOneLines (drop count words)
+drop_one zero words h = h
+drop_one (suc count) [] h = tt
+drop_one (suc count) (word ∷ words) h = drop_one count words h.1
+
+split_one : (name : Option (List ℕ)) (words : List (List ℕ)) (arrow : Option ℕ) → AreOneLines words → AreOneLines (split_at name words arrow).step
+split_one name words None h = h
+split_one name words (Some arrow) h = take_one arrow words h
+
+named_one : (words : List (List ℕ)) (name : Option (List ℕ)) → AreOneLines words → AreOneLines (parts_by words name).step
+named_one words None h = split_one None words (position is_arrow words) h
+named_one words (Some name) h = split_one (Some name) (drop 1 words) (position is_arrow (drop 1 words)) (drop_one 1 words h)
+
+parts_one : (words : List (List ℕ)) → AreOneLines words → AreOneLines (parts_of words).step
+parts_one [] h = split_one None [] (position is_arrow []) tt
+parts_one (word ∷ words) h = named_one (word ∷ words) (name_before word) h
+
+joined_one : (words : List (List ℕ)) → AreOneLines words → IsOneLine (joined_words words)
+joined_one [] h = refl
+joined_one (word ∷ words) h = both word (flat_map (λ next. 32 ∷ next) words) h.0 (more words h.1)
+  where
+    more : (words : List (List ℕ)) → AreOneLines words → IsOneLine (flat_map (λ next. 32 ∷ next) words)
+    more [] h = refl
+    more (word ∷ words) h = both (32 ∷ word) (flat_map (λ next. 32 ∷ next) words) h.0 (more words h.1)
+
+word_one : (at : ℕ) (words : List (List ℕ)) → AreOneLines words → IsOneLine (word_at at words)
+word_one zero [] h = refl
+word_one (suc at) [] h = refl
+word_one zero (word ∷ words) h = h.0
+word_one (suc at) (word ∷ words) h = word_one at words h.1
+
+-- ---- Whose a line is
+
+role_one : (word first : List ℕ) → IsOneLine first → IsOneLine (role_of word first)
+role_one word first h =
+    either (is_of_endpoint word) (codes "endpoint " ++ first)
+    (if is_of_unit word then codes "unit " ++ first else if bytes_eq word (codes "deliver") then codes "link" else codes "host")
+    (both (codes "endpoint ") first refl h)
+    (either (is_of_unit word) (codes "unit " ++ first) (if bytes_eq word (codes "deliver") then codes "link" else codes "host")
+    (both (codes "unit ") first refl h) (either (bytes_eq word (codes "deliver")) (codes "link") (codes "host") refl refl))
+
+headed_one : (heading : List ℕ) (words : List (List ℕ)) → IsOneLine heading → AreOneLines words → IsOneLine (headed heading words)
+headed_one [] words h all = role_one (word_at 0 words) (word_at 1 words) (word_one 1 words all)
+headed_one (byte ∷ heading) words h all = h
+
+-- ---- What is read, line by line
+
+abbrev AreTidy : List LineSaid → Type 0
+AreTidy [] = Unit {0}
+AreTidy (line ∷ lines) = IsOneLine line.thread × IsOneLine line.text × AreTidy lines
+
+tidy_more : (lines : List LineSaid) (line : LineSaid) → AreTidy lines → IsOneLine line.thread → IsOneLine line.text → AreTidy (lines ++ line ∷ [])
+tidy_more [] line h thread text = (thread, text, tt)
+tidy_more (first ∷ lines) line h thread text = (h.0, h.1, tidy_more lines line h.2 thread text)
+
+abbrev Good : Reading → Type 0
+Good reading = AreTidy reading.lines × IsOneLine reading.heading
+
+-- where a line is read, what was read with it is good
+IsGood : Result Reading DriverWrong → Type 0
+IsGood (Ok reading) = Good reading
+IsGood (Err wrong) = Unit {0}
+
+right : (reading : Reading) → Good reading → IsGood (Ok reading)
+unfolding IsGood
+right reading h = h
+
+wrong : (it : DriverWrong) → IsGood (Err it)
+unfolding IsGood
+wrong it = tt
+
+bound : {A : Type 0} (first : Result A DriverWrong) (next : A → Result Reading DriverWrong) → ((a : A) → IsGood (next a)) → IsGood (first >>= next)
+unfolding IsGood
+bound (Ok a) next h = h a
+bound (Err it) next h = tt
+
+one_of : (test : Bool) (one other : Result Reading DriverWrong) → IsGood one → IsGood other → IsGood (if test then one else other)
+one_of true one other a b = a
+one_of false one other a b = b
+
+thread_good : (reading : Reading) (words : List (List ℕ)) → Good reading → AreOneLines words → IsOneLine (thread_of reading words)
+thread_good reading words good all = either reading.is_race (headed reading.heading words) [] (headed_one reading.heading words good.1 all) refl
+
+act_good : (config : Config) (reading : Reading) (number : ℕ) (parts : Parts) (thread : List ℕ) → Good reading → AreOneLines parts.step → IsOneLine thread
+    → IsGood (act_line config reading number parts thread)
+act_good config reading number parts thread good all one =
+    bound _ _ (λ saying. right _ (tidy_more reading.lines _ good.0 one (joined_one parts.step all), good.1))
+
+set_good : (reading : Reading) (words : List (List ℕ)) → Good reading → IsGood (set_line reading words)
+set_good reading words good =
+    let read : Result Reading DriverWrong = setting_line reading.settings words
+    >>= λ settings. Ok (record reading { settings = settings; set = reading.set ++ word_at 0 words ∷ [] }) in
+    let ahead : Result Reading DriverWrong =
+    if says 0 (codes "platform") words && nat_lt 0 (length reading.set) then wrong_at 0 wanted.Ahead else read in
+    let once : Result Reading DriverWrong = if list_any (is_word (word_at 0 words)) reading.set then wrong_at 0 wanted.OneLine else ahead in
+    one_of (nat_lt 0 (length reading.lines)) (wrong_at 0 wanted.Earlier) once (wrong (record { at = 0; wanted = wanted.Earlier }))
+    (one_of (list_any (is_word (word_at 0 words)) reading.set) (wrong_at 0 wanted.OneLine) ahead (wrong (record { at = 0; wanted = wanted.OneLine }))
+    (one_of (says 0 (codes "platform") words && nat_lt 0 (length reading.set)) (wrong_at 0 wanted.Ahead) read
+    (wrong (record { at = 0; wanted = wanted.Ahead }))
+    (bound (setting_line reading.settings words) (λ settings. Ok (record reading { settings = settings; set = reading.set ++ word_at 0 words ∷ [] }))
+    (λ settings. right (record reading { settings = settings; set = reading.set ++ word_at 0 words ∷ [] }) good))))
+
+workers_good : (reading : Reading) (words : List (List ℕ)) → Good reading → IsGood (workers_line reading words)
+workers_good reading words good = one_of _ _ _ (wrong _) (bound _ _ (λ workers. right _ good))
+
+told_good : (reading : Reading) (endpoint : ℕ) (words : List (List ℕ)) (device : Option DeviceSaid) → Good reading
+    → IsGood (told_by reading endpoint words device)
+told_good reading endpoint words device good =
+    let read : Result Reading DriverWrong = told_by_parts words
+    >>= λ told. Ok (record reading { devices = slice_set reading.devices endpoint told }) in
+    one_of (is_told device) (wrong_at 1 wanted.OneLine) (if has_word 2 words then read else wrong_at 2 wanted.Part)
+    (wrong (record { at = 1; wanted = wanted.OneLine }))
+    (one_of (has_word 2 words) read (wrong_at 2 wanted.Part)
+    (bound (told_by_parts words) (λ told. Ok (record reading { devices = slice_set reading.devices endpoint told }))
+    (λ told. right (record reading { devices = slice_set reading.devices endpoint told }) good))
+    (wrong (record { at = 2; wanted = wanted.Part })))
+
+device_good : (config : Config) (reading : Reading) (words : List (List ℕ)) → Good reading → IsGood (device_line config reading words)
+device_good config reading words good =
+    bound _ _ (λ endpoint. told_good reading endpoint words (slice_get reading.devices endpoint) good)
+
+race_good : (reading : Reading) (words : List (List ℕ)) → Good reading → IsGood (race_line reading words)
+race_good reading words good = one_of _ _ _ (wrong _) (bound _ _ (λ done. right _ good))
+
+heading_good : (reading : Reading) (words : List (List ℕ)) → Good reading → AreOneLines words → IsGood (heading_line reading words)
+heading_good reading words good all = one_of _ _ _ (wrong _) (bound _ _ (λ done. right _ (good.0, word_one 1 words all)))
+
+before_good : (reading : Reading) (words : List (List ℕ)) → Good reading → IsGood (other_before reading words)
+before_good reading words good = one_of _ _ _ (set_good reading words good) (wrong _)
+
+behind_good : (reading : Reading) (words : List (List ℕ)) → Good reading → AreOneLines words → IsGood (other_behind reading words)
+behind_good reading words good all = one_of _ _ _ (heading_good reading words good all) (wrong _)
+
+other_good : (config : Config) (reading : Reading) (words : List (List ℕ)) → Good reading → AreOneLines words → IsGood (other_line config reading words)
+other_good config reading words good all =
+    one_of _ _ _ (workers_good reading words good) (one_of _ _ _ (device_good config reading words good)
+    (one_of _ _ _ (race_good reading words good)
+    (one_of _ _ _ (behind_good reading words good all) (before_good reading words good))))
+
+line_good : (config : Config) (reading : Reading) (number : ℕ) (words : List (List ℕ)) → Good reading → AreOneLines words
+    → IsGood (line_by config reading number words (parts_of words))
+line_good config reading number words good all =
+    one_of (is_act (word_at 0 (parts_of words).step)) _ _
+    (act_good config reading number (parts_of words) (thread_of reading (parts_of words).step) good (parts_one words all)
+    (thread_good reading (parts_of words).step good (parts_one words all)))
+    (one_of (is_misspelt (parts_of words)) _ _ (wrong _) (bound _ _ (λ done. other_good config reading words good all)))
+
+after_good : (reading : Reading) (known : Known) (line : ℕ) (words : List (List ℕ)) (read : Result Reading DriverWrong) → Good reading → IsGood read
+    → Good (behind reading known line words read)
+unfolding IsGood
+after_good reading known line words (Ok read) good h = h
+after_good reading known line words (Err it) good h = good
+
+words_good : (config : Config) (known : Known) (reading : Reading) (line : ℕ) (words : List (List ℕ)) → Good reading → AreOneLines words
+    → Good (behind_words config known reading line words)
+words_good config known reading line [] good all = good
+words_good config known reading line (word ∷ words) good all =
+    after_good reading known line (word ∷ words) (line_by config reading line (word ∷ words) (parts_of (word ∷ words))) good
+    (line_good config reading line (word ∷ words) good all)
+
+-- ---- All lines
+
+abbrev AreLines : List Line → Type 0
+AreLines [] = Unit {0}
+AreLines (line ∷ lines) = IsOneLine line.1 × AreLines lines
+
+numbered_one : (first : ℕ) (lines : List (List ℕ)) → AreOneLines lines → AreLines (enumerate_from first lines)
+numbered_one first [] h = tt
+numbered_one first (line ∷ lines) h = (h.0, numbered_one (first + 1) lines h.1)
+
+lines_good : (config : Config) (known : Known) (reading : Reading) (lines : List Line) → Good reading → AreLines lines
+    → Good (behind_lines config known reading lines)
+unfolding behind_lines
+lines_good config known reading [] good all = good
+lines_good config known reading (line ∷ lines) good all =
+    lines_good config known (behind_words config known reading line.0 (script_words line.1)) lines
+    (words_good config known reading line.0 (script_words line.1) good (said_one (words_of line.1) (words_one line.1 all.0))) all.1
+
+-- those behind the config are some of all
+abbrev AreLeft : Result (Config × List Line) Fault → Type 0
+AreLeft (Ok found) = AreLines found.1
+AreLeft (Err fault) = Unit {0}
+
+with_config : (lines : List Line) (config : Result Config Fault) → AreLines lines → AreLeft (config_with lines config)
+with_config lines (Ok config) h = h
+with_config lines (Err fault) h = tt
+
+at_config : (line : Line) (lines : List Line) (later : Result (Config × List Line) Fault) (words : List (List ℕ)) → AreLines lines → AreLeft later
+    → AreLeft (config_at line lines later words)
+at_config line lines later [] h rest = rest
+at_config line lines later (word ∷ words) h rest = with_config lines _ h
+
+left_good : (before : ℕ) (lines : List Line) → AreLines lines → AreLeft (config_in before lines)
+unfolding config_in
+left_good before [] h = tt
+left_good before (line ∷ lines) h = at_config line lines (config_in line.0 lines) (script_words line.1) h.1 (left_good line.0 lines h.1)
+
+-- ---- What is read of a text
+
+abbrev IsGoodRead : Result DriverRead (List ℕ) → Type 0
+IsGoodRead (Ok read) = AreTidy read.reading.lines
+IsGoodRead (Err said) = Unit {0}
+
+right_read : (read : DriverRead) (said : List ℕ) → AreTidy read.reading.lines → IsGoodRead (if_right read said)
+right_read read [] h = h
+right_read read (byte ∷ said) h = tt
+
+one_read : (test : Bool) (one other : Result DriverRead (List ℕ)) → IsGoodRead one → IsGoodRead other → IsGoodRead (if test then one else other)
+one_read true one other a b = a
+one_read false one other a b = b
+
+behind_read : (all : List Line) (found : Result (Config × List Line) Fault) → AreLeft found → IsGoodRead (driver_behind all found)
+behind_read all (Err fault) h = tt
+behind_read all (Ok (config, lines)) h =
+    let read = driver_read config all lines in
+    one_read (is_fit config) (if_right read read.reading.said) (Err (limits_text config all))
+    (right_read read read.reading.said (lines_good config read.known (nothing config) lines (tt, refl) h).0) tt
+
+text_good : (text : List ℕ) → IsGoodRead (driver_of text)
+text_good text =
+    let lines = numbered_one 1 (lines_of text) (lines_one text) in
+    one_read (is_too_large text) (Err too_large) (driver_behind (lines_from 1 text) (config_in 0 (lines_from 1 text))) tt
+    (behind_read (lines_from 1 text) (config_in 0 (lines_from 1 text)) (left_good 0 (lines_from 1 text) lines))
+
+-- ---- What is told of a line
+
+abbrev AreToldWell : List LineTold → Type 0
+AreToldWell [] = Unit {0}
+AreToldWell (line ∷ lines) = IsOneLine line.thread × IsOneLine line.text × AreToldWell lines
+
+told_well : (lines : List LineSaid) → AreTidy lines → AreToldWell (map told_of lines)
+told_well [] h = tt
+told_well (line ∷ lines) h = (h.0, h.1, told_well lines h.2)
+
+at_place : (saids : List Said) (place : ℕ) (it : Said) → AreToldWell (map told_seen saids) → slice_get saids place ≡ Some it
+    → IsOneLine it.thread.items × IsOneLine it.text.items
+at_place [] place it h is = absurd (cc is)
+at_place (said ∷ saids) zero it h is = subst (λ (it : Said). IsOneLine it.thread.items × IsOneLine it.text.items) (same_Some said it is) (h.0, h.1)
+at_place (said ∷ saids) (suc place) it h is = at_place saids place it h.2 is
+
+-- the words and the thread of each line of a text that was read
+pub AreWhole : List Said → Type 0
+AreWhole saids = (place : ℕ) (it : Said) → slice_get saids place ≡ Some it → IsOneLine it.thread.items × IsOneLine it.text.items
+
+pub are_whole : (text : List ℕ) (from : DriverRead) (read : Read) → driver_of text ≡ Ok from → IsRead from read → AreWhole read.said.items
+unfolding AreWhole
+are_whole text from read is reads = λ place it stands.
+    at_place read.said.items place it
+    (subst AreToldWell (sym reads.said) (told_well from.reading.lines (subst IsGoodRead is (text_good text)))) stands
+
+-- ---- An event
+
+abbrev IsWhole : Option EventSaid → Type 0
+IsWhole None = Unit {0}
+IsWhole (Some event) = IsOneLine event.who × IsOneLine event.text
+
+threaded_one : (thread : List ℕ) → IsOneLine thread → IsOneLine (threaded thread)
+threaded_one [] h = refl
+threaded_one (byte ∷ thread) h = both (byte ∷ thread) (codes ", ") h refl
+
+line_whole : (saids : List Said) (place : ℕ) (line : Option Kept) (told : Option Said) → AreWhole saids → slice_get saids place ≡ told
+    → IsWhole (line_event line told)
+unfolding AreWhole
+line_whole saids place None told whole is = tt
+line_whole saids place (Some line) None whole is = tt
+line_whole saids place (Some line) (Some it) whole is =
+    let one = whole place it is in
+    let thread = threaded it.thread.items in (
+      both (thread ++ codes "line ") (decimal line.number) (both thread (codes "line ") (threaded_one it.thread.items one.0) refl) (decimal_one line.number),
+      one.1,
+    )
+
+act_whole : (own : Doing) (at : ℕ) (part : Option Part) (its : Option LocalAct) → IsWhole (act_event own at part its)
+act_whole own at None its = tt
+act_whole own at (Some part) None = tt
+act_whole own at (Some part) (Some its) = (who_one own at, act_one part at its)
+
+pub event_whole : (text : Text) (spot : Spot) (own : Doing) (at number : ℕ) (event : EventSaid) → AreWhole text.said.items
+    → event_by text spot own at number ≡ Some event → IsOneLine event.who × IsOneLine event.text
+event_whole text spot own at number event whole is = subst IsWhole is (by_own own)
+  where
+    by_own : (it : Doing) → IsWhole (event_by text spot it at number)
+    by_own doing.Line = line_whole text.said.items number (slice_get text.driver.lines.items number) (slice_get text.said.items number) whole refl
+    by_own it = act_whole it at (slice_get spot.world.parts at) (act_of text.driver spot it at number)

@@ -1,0 +1,94 @@
+-- What is told of a driver that is unsafe is so: a list of events that leads there, each with its line, and what is wrong at its end.
+use Rattle.std.specs.Prelude.{◌≡◌, ◌⊎◌, ◌<◌, ◌≤◌, ◌==◌, ℕ, Bool, true, false, List, [], ◌∷◌, ◌++◌, codes, flat_map, length}
+use Rattle.std.specs.Prelude.{replicate, slice_get, Some, Ok}
+use Rattle.std.specs.List.{list_any}
+use Rattle.sva_grammar.specs.Replies.{ended}
+use Rattle.sva_open.specs.declared.drivers.Driver.{Driver}
+use Rattle.sva_open.specs.declared.drivers.Line.{Line}
+use Rattle.sva_open_safe.specs.Wrongs.{first_wrong}
+use Rattle.sva_open_safe.specs.declared.wrongs.Wrong.{Wrong}
+use Rattle.sva_judge.specs.Choices.{next_in}
+use Rattle.sva_judge.specs.Spots.{Spot, start_of}
+use Rattle.sva_judge.specs.Verdicts.{IsLeak}
+use Rattle.sva_judge.specs.declared.choices.Choice.{Choice}
+use Rattle.sva_driver_texts.specs.Texts.{DriverRead, IsRead, IsText, behind_first, driver_of, line_choice}
+use Rattle.sva_driver_texts.specs.declared.kept.Read.{Read}
+use Rattle.sva_driver_texts.specs.declared.kept.Text.{Text}
+use Rattle.sva_driver_reports.specs.Findings.{wrong_text}
+use Rattle.sva_driver_reports.specs.Judged.{IsTextJudged, IsTextRun, unsafe_at}
+use Rattle.sva_driver_reports.specs.Reports.{events_count}
+use Rattle.sva_driver_reports.specs.Witness.{EventSaid, event_of, front_text}
+use Rattle.sva_driver_reports.specs.declared.reports.Ruling.TheVariants as ruling
+
+-- ---- A witness
+
+-- an event that waits and does nothing else is a comment; behind all others stands, after some blanks, who acts
+abbrev pub IsLineBy : (waits : Bool) → EventSaid → (line : List ℕ) → Type 0
+IsLineBy true event line = line ≡ codes "# " ++ event.who ++ codes ": " ++ event.text
+IsLineBy false event line = (blanks : ℕ) × (line ≡ event.text ++ replicate blanks 32 ++ codes " # " ++ event.who)
+
+-- no line end (10) is in it
+abbrev pub IsOneLine : List ℕ → Type 0
+IsOneLine line = list_any (λ byte. byte == 10) line ≡ false
+
+-- the line tells of the choice what it is at this spot
+pub record TellsChoice (text : Text) (spot : Spot) (choice : Choice) (line : List ℕ) : Type 0 where
+  pub event : EventSaid
+  pub is : event_of text spot choice ≡ Some event
+  pub told : IsLineBy event.waits event line
+  pub whole : IsOneLine line
+
+-- A line for each choice, in order: each choice is permitted at the spot to which those before it lead, its line tells what it is
+-- there, and all of them lead to the last spot.
+abbrev pub AreTold : Text → Spot → List Choice → (lines : List (List ℕ)) → (last : Spot) → Type 0
+AreTold text spot [] [] last = spot ≡ last
+AreTold text spot (choice ∷ choices) (line ∷ lines) last =
+    TellsChoice text spot choice line × ((next : Spot) × (next_in text.driver spot choice ≡ Some next) × AreTold text next choices lines last)
+AreTold text spot choices lines last = ⊥
+
+-- The first line says how many events there are, and what is wrong behind them; then comes the front, and then a line for each event,
+-- and no more. No list of fewer events leads to a moment that isn't safe.
+pub record HasWitness (text : Text) (out : List ℕ) : Type 0 where
+  pub choices : List Choice
+  pub shortest : (other : List Choice) → IsLeak text.driver other → length choices ≤ length other
+  pub lines : List (List ℕ)
+  pub last : Spot
+  pub told : AreTold text (start_of text.driver) choices lines last
+  pub found : Wrong
+  pub wrong : first_wrong last.world ≡ Some found
+  pub report : out
+      ≡ codes "unsafe in " ++ events_count (length lines) ++ codes ": " ++ wrong_text found
+      ++ 10 ∷ (front_text text ++ flat_map ended lines)
+
+-- ---- A line behind which something is wrong
+
+-- The first of so many lines that is such: those before it lead to nothing wrong, it is permitted there, and what is wrong behind it is
+-- told with its number, and nothing else.
+pub record HasLeak (driver : Driver) (count : ℕ) (out : List ℕ) : Type 0 where
+  pub place : ℕ
+  pub among : place < count
+  pub line : Line
+  pub stands : slice_get driver.lines.items place ≡ Some line
+  pub before : Spot
+  pub first : behind_first driver place ≡ Ok before
+  pub spot : Spot
+  pub leads : next_in driver before (line_choice place) ≡ Some spot
+  pub found : Wrong
+  pub wrong : first_wrong spot.world ≡ Some found
+  pub report : out ≡ unsafe_at line.number found
+
+-- ---- The laws
+
+-- a driver is read of the text, and of that it is so
+abbrev pub HasRead : (text : List ℕ) → (IsSo : Read → Type 0) → Type 0
+HasRead text IsSo = (from : DriverRead) × (read : Read) × (driver_of text ≡ Ok from) × IsRead from read × IsSo read
+
+-- a text that is judged as unsafe is told as unsafe at a line before `race`, or has a witness behind these
+abbrev pub WitnessesAreTold : Type 0
+WitnessesAreTold = (text : List ℕ) (most : ℕ) (out : List ℕ) → IsTextJudged text most (Some ruling.Unsafe) out
+    → HasRead text (λ (read : Read). HasLeak read.opening read.before out ⊎ ((behind : Text) × IsText read behind × HasWitness behind out))
+
+-- and one whose lines are taken one after another, at one of all its lines
+abbrev pub LeaksAreTold : Type 0
+LeaksAreTold = (text out : List ℕ) → IsTextRun text (Some ruling.Unsafe) out
+    → HasRead text (λ (read : Read). HasLeak read.opening (length read.opening.lines.items) out)

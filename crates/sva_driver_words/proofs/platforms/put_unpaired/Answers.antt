@@ -1,0 +1,15 @@
+use Rattle.std.proofs.Common.{append_assoc}
+use Rattle.sva_driver_words.proofs.platforms.put_unpaired.Goals as goal
+
+pub returns : goal.returns
+returns c =
+    simp (
+      c.in_ok-extend_from_slice-3.ensures.items,
+      c.in_ok-extend_from_slice-2.ensures.items,
+      c.as_bytes-2.ensures.value,
+      c.one_of-allowed.ensures,
+      c.in_ok-extend_from_slice.ensures.items,
+      c.as_bytes.ensures.value,
+      c.one_of-refused.ensures,
+      append_assoc,
+    )

@@ -1,0 +1,7 @@
+use Rattle.std.proofs.Common.{rules}
+use Rattle.std.proofs.lemmas.Fn.{filter_same}
+use Rattle.sva_open.specs.Host.{isnt_partial_under}
+use Rattle.sva_open_acts.proofs.serving.drop_partial.Goals as goal
+
+pub returns : goal.returns
+returns c = filter_same _ (isnt_partial_under c.args.pasid) _ (λ one keep f' called. (search rules, search rules)) _ _ c.retain.ensures.filtered

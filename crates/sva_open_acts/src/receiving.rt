@@ -1,0 +1,58 @@
+//! What a unit has received: page requests, and the waits that drain them.
+
+ghost use Rattle.std.specs.Prelude.{◌≡◌, IfOk, drop, position, slice_get};
+ghost use Rattle.std.specs.List.{list_any};
+ghost use Rattle.sva_search.specs.Rules.{IsStep};
+ghost use Rattle.sva_open.specs.Units as unit;
+
+use std::alloc::AllocError;
+use sva_open::{Part, Received, drop_at, drop_first};
+
+/// A wait whose invalidations are done is done, or stands behind the page requests that it drains.
+pub(crate) fn wait(part: &mut Part, name: usize, drain: bool) -> Result<(), AllocError>
+    ensures { IfOk result (λ _. part.new ≡ unit.waited part.old name drain) }
+{
+    if drain && has_request(part.received.as_slice()) {
+        part.received.push(Received::Drain { name })?;
+    }
+    Ok(())
+}
+
+/// Writes the oldest page request into the page request queue.
+pub(crate) fn write(part: &mut Part) -> Result<bool, AllocError>
+    ensures { IfOk result (λ done.
+        IsStep (unit.write part.old (slice_get part.old.received 0)) done part.old part.new) }
+{
+    match part.received.get(0).copied() {
+        Some(Received::Request(one)) => {
+            drop_at(&mut part.received, 0);
+            drop_drains(&mut part.received);
+            part.arrived.push(one)?;
+            Ok(true)
+        }
+        Some(Received::Drain { .. }) => Ok(false),
+        None => Ok(false),
+    }
+}
+
+fn has_request(received: &[Received]) -> bool
+    ensures { result ≡ list_any unit.is_received received.now }
+{
+    received.iter().any(|one| one.is_request())
+}
+
+fn first_request(received: &[Received]) -> Option<usize>
+    ensures { result ≡ position unit.is_received received.now }
+{
+    received.iter().position(|one| one.is_request())
+}
+
+/// Takes out the waits that are done.
+fn drop_drains(received: &mut Vec<Received>)
+    ensures { received.new.items ≡ unit.without_drains received.old.items }
+{
+    match first_request(received.as_slice()) {
+        None => received.clear(),
+        Some(place) => drop_first(received, place),
+    }
+}

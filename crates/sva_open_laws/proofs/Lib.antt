@@ -1,0 +1,15 @@
+pub mod Enough
+pub mod Filters
+pub mod FreshNumbers
+pub mod Gathered
+pub mod PageActs
+pub mod PageAlone
+pub mod PageLinks
+pub mod PageLists
+pub mod PagePlaces
+pub mod PageRuns
+pub mod PageSafety
+pub mod PageWorlds
+pub mod Safety
+pub mod Shown
+pub mod Usable

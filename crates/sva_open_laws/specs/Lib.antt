@@ -1,0 +1,6 @@
+pub mod AsOpen
+pub mod Beside
+pub mod Fresh
+pub mod PageRows
+pub mod Pages
+pub mod Shown

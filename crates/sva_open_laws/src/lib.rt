@@ -1,0 +1,31 @@
+//! Laws of the open world. This project's own world, seen as an open one, is safe as other hosts are judged; the open
+//! world stands apart by pages; and numbers of groups are fresh.
+#![tactic(auto)]
+
+mod fresh;
+mod pages;
+
+ghost use Rattle.sva_open_laws.specs.AsOpen.{ClosedIsSafe};
+ghost use Rattle.sva_open_laws.specs.Beside.{RunsBeside};
+ghost use Rattle.sva_open_laws.specs.Shown.{ClosedIsShown, SafeSaysEnough};
+
+pub use fresh::numbers_are_fresh;
+pub use pages::{pages_stand_alone, rows_of_pages};
+
+/// After every list of steps the world, seen as an open one, is safe. And it is seen whole: all of which its safety
+/// speaks is shown, and a translation is current exactly where it leads to its frame by the last mapping of it and the
+/// frame isn't free. So of a world that is seen whole, whatever led to it, to be safe says that no endpoint may use what
+/// isn't its binding's any more, and that nothing else that is there of a PASID, nor a message in flight, would be taken
+/// for what it isn't of.
+pub fn closed_is_safe()
+    ensures safe { ClosedIsSafe }
+    ensures shown { ClosedIsShown }
+    ensures enough { SafeSaysEnough }
+{}
+
+/// A run of both worlds side by side: behind a mapping that is asked for, behind its unmapping and the invalidation that
+/// is sent, behind the answer that frees the frame, and behind a second mapping of the frame, the acts of the open world
+/// leave what the steps of the closed one do.
+pub fn runs_beside()
+    ensures { RunsBeside }
+{}

@@ -1,0 +1,8 @@
+use Rattle.std.proofs.Common.{◌≡◌, drop}
+use Rattle.sva_open_safe.specs.Wrongs as wrongs
+use Rattle.sva_open_safe.proofs.owners.first_received.Given as goal
+
+-- the first of those that are left is the first of all
+abbrev pub invariant-loop-place : goal.invariant-loop-place
+invariant-loop-place l =
+    wrongs.first_in (wrongs.received_left l.part l.endpoint) (drop l.place l.list) ≡ wrongs.first_in (wrongs.received_left l.part l.endpoint) l.list

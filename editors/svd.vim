@@ -1,4 +1,4 @@
-" Vim syntax of svahost's drivers, *.svd (docs/FORMAT.md, section 15).
+" Vim syntax of svahost's drivers, *.svd (docs/DRIVERS.md, section 15).
 " Put it into ~/.vim/syntax/, and this line into ~/.vim/filetype.vim:
 "     autocmd BufNewFile,BufRead *.svd setfiletype svd
 if exists('b:current_syntax')
@@ -11,9 +11,14 @@ syntax iskeyword @,48-57,-,_
 syntax match svdComment /\%(^\|\s\)\@1<=#.*$/
 syntax match svdName /^\s*\zs\l[[:alnum:]_-]*:\ze\s/
 " by scripts/words --write: act
-syntax match svdAct /\%(^\s*\|^\s*\l[[:alnum:]_-]*:\s\+\)\@<=\%(pte\|entry\|replace\|start\|stop\|reset\|submit\|await\|free\|freeze\|serve\|respond\|discard\|close\|open\|skip\|lock\|unlock\|mark\|deliver\|pump\|write\|forget\|end\|finish\|quit\|fault\|ask\|use\|evict\)\ze\%(\s\|$\)/
-" by scripts/words --write: heading/d + setting
+syntax match svdAct /\%(^\s*\|^\s*\l[[:alnum:]_-]*:\s\+\)\@<=\%(pte\|entry\|replace\|start\|stop\|reset\|submit\|await\|free\|freeze\|serve\|respond\|discard\|close\|open\|skip\|lock\|unlock\|mark\|set\|clear\|if\|deliver\|pump\|write\|forget\|end\|finish\|quit\|fault\|ask\|use\|evict\)\ze\%(\s\|$\)/
+" by scripts/words --write: heading/d - 'else' - 'end' + setting
 syntax match svdLine /^\s*\zs\%(config\|race\|thread\|workers\|device\|platform\|link\|waits\|drain\|caches\|stopped\|refuses\|allow\)\ze\%(\s\|$\)/
+" by scripts/words --write: act.if + condition
+syntax match svdKind /\%(\<if\s\+\|\<if\s\+not\s\+\)\@20<=\%(not\|present\|stopped\|filed\|queued\)\ze\s/
+" the words of blocks: `end` with an endpoint behind it is an act
+" by scripts/words --write: heading/d - 'config' - 'race' - 'thread' - 'workers' - 'device'
+syntax match svdBlock /^\s*\zs\%(else\|end\)\ze\s*\%(#\|$\)/
 " by scripts/words --write: setting | setting.*
 syntax match svdWord /\%(^\s*\%(platform\|link\|waits\|drain\|caches\|stopped\|refuses\|allow\)\s\+\)\@<=\%(free\|vt-d\|posted\|fence\|plain\|empty\|arrived\|off\|on\|marker\|status\|known\|drain\|no-group\)\ze\%(\s\|$\)/
 " by scripts/words --write: part/d
@@ -36,6 +41,7 @@ highlight default link svdComment Comment
 highlight default link svdName Identifier
 highlight default link svdAct Statement
 highlight default link svdLine PreProc
+highlight default link svdBlock Conditional
 highlight default link svdWord Constant
 highlight default link svdKind Type
 highlight default link svdNumber Number

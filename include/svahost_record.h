@@ -2,7 +2,7 @@
  * svahost_record.h: a test of a driver writes down what the driver does, as a text for `svahost judge`.
  *
  * A unit test of a driver (KUnit, QEMU's, one in user space) calls these functions where its stubs stand for hardware
- * and memory. Each act of the driver becomes a line of a driver text (docs/FORMAT.md, section 15), with a comment
+ * and memory. Each act of the driver becomes a line of a driver text (docs/DRIVERS.md, section 15), with a comment
  * `# at FILE:LINE`. `svahost judge` then tries what device, link and unit may do beside these lines, in each order:
  *
  *     static struct svahost_record_item items[512];
@@ -67,7 +67,7 @@
  * `lock` are pointers by which the test tells these apart, and what they point to is never looked at; `pasid` is the
  * driver's PASID, 0 to 2^20 - 1; `page` the number of a page of 4096 bytes, that is its address divided by 4096, 0 to
  * 2^36 - 1; `frame` any number that tells frames apart, as a page frame number. What an act means is said in
- * docs/FORMAT.md, section 15.
+ * docs/DRIVERS.md, section 15.
  */
 #ifndef SVAHOST_RECORD_H
 #define SVAHOST_RECORD_H

@@ -248,6 +248,7 @@ def planted():
     for script in ("refused-memory", "cuts"):
         told = re.findall(r'^    (?:    )?"([^"]+)": (?:lambda|refused|behind_a_refusal|unrefused|unmet)\b', text_of(f"{ROOT}/scripts/{script}"), re.M)
         found[script] = list(dict.fromkeys(told))
+    found["released"] = re.findall(r"^ .*\bplants '([^']+)'", text_of(f"{ROOT}/scripts/released"), re.M)
     found["embedded"] = re.findall(r"^#(?:el)?if PLANT == \d+ /\* (.+) \*/$", text_of(f"{ROOT}/scripts/embedded.c"), re.M)
     return found
 

@@ -285,6 +285,10 @@ without a PASID; pages may be hexadecimal:
     skip E                 the head of the invalidation queue is taken out, whatever it is
     lock L, unlock L       a lock that threads share
     mark                   nothing; as `NAME: mark` another thread awaits it by `await NAME`
+    if [not] CONDITION     a look, by which the thread goes on, up to `else` or `end`: at a flag, which
+                           is its name, or at `present E P`, an entry that leads to a space; `stopped E P`,
+                           an answer to a stop; `filed E [P]`, a group; `queued E [P]`, a page request
+    set NAME, clear NAME   the flag is set, or clear as at first
 
 Settings stand above the first act: `link free` or `posted`, `waits fence` or `plain`, `drain empty` or
 `arrived`, `caches off` or `on`, `stopped marker`, `status` or `known`; and before these `platform vt-d`,

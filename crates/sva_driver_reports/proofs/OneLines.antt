@@ -1,4 +1,4 @@
--- What is told of an act that comes by itself has no line end in it.
+-- What is told of an act that comes by itself, and of what a line finds, has no line end in it.
 use Rattle.std.proofs.Common.{◌≡◌, ◌∙◌, ap, arith, cond, refl, ℕ, zero, suc, ◌+◌, ◌/◌, ◌%◌, ◌==◌, ◌||◌, Bool, true, false, List, [], ◌∷◌, ◌++◌}
 use Rattle.std.proofs.Common.{codes, decimal, Option, Some, None}
 use Rattle.std.proofs.lemmas.Bool.Decides.{nat_tests}
@@ -15,12 +15,16 @@ use Rattle.sva_open.specs.declared.naming.Kind.{Kind}
 use Rattle.sva_open.specs.declared.naming.Kind.TheVariants as kind
 use Rattle.sva_open.specs.declared.rows.KeptEntry.{KeptEntry}
 use Rattle.sva_open.specs.declared.works.Group.{Group}
+use Rattle.sva_open.specs.declared.drivers.Saying.{Saying}
+use Rattle.sva_open.specs.declared.drivers.Saying.TheVariants as saying
 use Rattle.sva_open.specs.Finding.{is_taken, is_use, kind_of}
+use Rattle.sva_judge.specs.Choices.{is_found}
+use Rattle.sva_judge.specs.Spots.{Spot}
 use Rattle.sva_judge.specs.declared.choices.Doing.{Doing}
 use Rattle.sva_judge.specs.declared.choices.Doing.TheVariants as doing
 use Rattle.sva_driver_words.specs.Pieces.{access_text, and_number, and_older, code_text, kind_text, last_text, with_endpoint, with_page, with_pasid}
 use Rattle.sva_driver_reports.specs.Events.{delivered_text, entry_forgotten, local_text, more_request, older_messages, page_forgotten}
-use Rattle.sva_driver_reports.specs.Witness.{who_text}
+use Rattle.sva_driver_reports.specs.Witness.{answer_of, answer_text, who_text}
 use Rattle.sva_driver_reports.specs.Witnesses.{IsOneLine}
 
 -- ---- Pieces
@@ -167,3 +171,13 @@ who_one doing.Serve at = refl
 who_one doing.Answer at = refl
 who_one doing.Fail at = refl
 who_one _ at = endpoint_one (codes "endpoint") at refl
+
+-- ---- What a line finds
+
+found_one : (found : Bool) → IsOneLine (answer_text found)
+found_one true = refl
+found_one false = refl
+
+pub answer_one : (spot : Spot) (says : Saying) → IsOneLine (answer_of spot says)
+answer_one spot (saying.Looks its so) = found_one (is_found spot its so)
+answer_one spot _ = refl

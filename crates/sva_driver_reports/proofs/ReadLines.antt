@@ -23,10 +23,11 @@ use Rattle.sva_judge.specs.declared.choices.Doing.TheVariants as doing
 use Rattle.sva_driver_words.specs.Awaits.{LineSaid}
 use Rattle.sva_driver_words.specs.Faults.{wrong_at}
 use Rattle.sva_driver_words.specs.Fields.{has_word, says}
-use Rattle.sva_driver_words.specs.Says.{is_act}
 use Rattle.sva_driver_words.specs.declared.faults.DriverWanted.TheVariants as wanted
 use Rattle.sva_driver_words.specs.declared.faults.DriverWrong.{DriverWrong}
-use Rattle.sva_driver_texts.specs.Readings.{Reading, act_line, behind, behind_lines, behind_words, device_line, headed, heading_line, is_misspelt}
+use Rattle.sva_driver_texts.specs.Blocks.{BlockSaid, branched}
+use Rattle.sva_driver_texts.specs.Readings.{Reading, act_line, begins_branch, behind, behind_lines, behind_words, branch_line, device_line, headed}
+use Rattle.sva_driver_texts.specs.Readings.{heading_line, is_misspelt, is_of_act}
 use Rattle.sva_driver_texts.specs.Readings.{line_by, nothing, other_before, other_behind, other_line, race_line, role_of, set_line}
 use Rattle.sva_driver_texts.specs.Readings.{is_of_endpoint, is_of_unit, is_told, is_word, thread_of, told_by, told_by_parts, workers_line}
 use Rattle.sva_driver_texts.specs.Devices.{DeviceSaid, setting_line}
@@ -36,9 +37,9 @@ use Rattle.sva_driver_texts.specs.declared.kept.Read.{Read}
 use Rattle.sva_driver_texts.specs.declared.kept.Said.{Said}
 use Rattle.sva_driver_texts.specs.declared.kept.Text.{Text}
 use Rattle.sva_open.specs.declared.drivers.Line.{Line as Kept}
-use Rattle.sva_driver_reports.specs.Witness.{EventSaid, act_event, event_by, line_event, threaded}
+use Rattle.sva_driver_reports.specs.Witness.{EventSaid, act_event, answer_of, event_by, line_event, threaded}
 use Rattle.sva_driver_reports.specs.Witnesses.{IsOneLine}
-use Rattle.sva_driver_reports.proofs.OneLines.{act_one, both, decimal_one, either, none_of, who_one}
+use Rattle.sva_driver_reports.proofs.OneLines.{act_one, answer_one, both, decimal_one, either, none_of, who_one}
 
 -- ---- Lines and words of a text
 
@@ -215,6 +216,12 @@ race_good reading words good = one_of _ _ _ (wrong _) (bound _ _ (λ done. right
 heading_good : (reading : Reading) (words : List (List ℕ)) → Good reading → AreOneLines words → IsGood (heading_line reading words)
 heading_good reading words good all = one_of _ _ _ (wrong _) (bound _ _ (λ done. right _ (good.0, word_one 1 words all)))
 
+branch_good : (reading : Reading) (words : List (List ℕ)) → Good reading → IsGood (branch_line reading words)
+branch_good reading words good =
+    let thread = thread_of reading (codes "if" ∷ []) in
+    bound _ _ (λ done. bound (branched reading.blocks thread (word_at 0 words)) (λ (blocks : List BlockSaid). Ok (record reading { blocks = blocks }))
+    (λ (blocks : List BlockSaid). right (record reading { blocks = blocks }) good))
+
 before_good : (reading : Reading) (words : List (List ℕ)) → Good reading → IsGood (other_before reading words)
 before_good reading words good = one_of _ _ _ (set_good reading words good) (wrong _)
 
@@ -223,14 +230,15 @@ behind_good reading words good all = one_of _ _ _ (heading_good reading words go
 
 other_good : (config : Config) (reading : Reading) (words : List (List ℕ)) → Good reading → AreOneLines words → IsGood (other_line config reading words)
 other_good config reading words good all =
-    one_of _ _ _ (workers_good reading words good) (one_of _ _ _ (device_good config reading words good)
+    one_of (begins_branch (word_at 0 words)) _ _ (branch_good reading words good)
+    (one_of _ _ _ (workers_good reading words good) (one_of _ _ _ (device_good config reading words good)
     (one_of _ _ _ (race_good reading words good)
-    (one_of _ _ _ (behind_good reading words good all) (before_good reading words good))))
+    (one_of _ _ _ (behind_good reading words good all) (before_good reading words good)))))
 
 line_good : (config : Config) (reading : Reading) (number : ℕ) (words : List (List ℕ)) → Good reading → AreOneLines words
     → IsGood (line_by config reading number words (parts_of words))
 line_good config reading number words good all =
-    one_of (is_act (word_at 0 (parts_of words).step)) _ _
+    one_of (is_of_act (parts_of words)) _ _
     (act_good config reading number (parts_of words) (thread_of reading (parts_of words).step) good (parts_one words all)
     (thread_good reading (parts_of words).step good (parts_one words all)))
     (one_of (is_misspelt (parts_of words)) _ _ (wrong _) (bound _ _ (λ done. other_good config reading words good all)))
@@ -348,16 +356,16 @@ threaded_one : (thread : List ℕ) → IsOneLine thread → IsOneLine (threaded 
 threaded_one [] h = refl
 threaded_one (byte ∷ thread) h = both (byte ∷ thread) (codes ", ") h refl
 
-line_whole : (saids : List Said) (place : ℕ) (line : Option Kept) (told : Option Said) → AreWhole saids → slice_get saids place ≡ told
-    → IsWhole (line_event line told)
+line_whole : (spot : Spot) (saids : List Said) (place : ℕ) (line : Option Kept) (told : Option Said) → AreWhole saids → slice_get saids place ≡ told
+    → IsWhole (line_event spot line told)
 unfolding AreWhole
-line_whole saids place None told whole is = tt
-line_whole saids place (Some line) None whole is = tt
-line_whole saids place (Some line) (Some it) whole is =
+line_whole spot saids place None told whole is = tt
+line_whole spot saids place (Some line) None whole is = tt
+line_whole spot saids place (Some line) (Some it) whole is =
     let one = whole place it is in
     let thread = threaded it.thread.items in (
       both (thread ++ codes "line ") (decimal line.number) (both thread (codes "line ") (threaded_one it.thread.items one.0) refl) (decimal_one line.number),
-      one.1,
+      both it.text.items (answer_of spot line.saying) one.1 (answer_one spot line.saying),
     )
 
 act_whole : (own : Doing) (at : ℕ) (part : Option Part) (its : Option LocalAct) → IsWhole (act_event own at part its)
@@ -370,5 +378,5 @@ pub event_whole : (text : Text) (spot : Spot) (own : Doing) (at number : ℕ) (e
 event_whole text spot own at number event whole is = subst IsWhole is (by_own own)
   where
     by_own : (it : Doing) → IsWhole (event_by text spot it at number)
-    by_own doing.Line = line_whole text.said.items number (slice_get text.driver.lines.items number) (slice_get text.said.items number) whole refl
+    by_own doing.Line = line_whole spot text.said.items number (slice_get text.driver.lines.items number) (slice_get text.said.items number) whole refl
     by_own it = act_whole it at (slice_get spot.world.parts at) (act_of text.driver spot it at number)

@@ -2,8 +2,10 @@
 use Rattle.std.proofs.Common.{◌≡◌, ◌∙◌, ◌<◌, ◌≤◌, ◌+◌, ap, append-nil, append_assoc, add-one, refl}
 use Rattle.std.proofs.Common.{sym, ℕ, suc, List, [], ◌∷◌, ◌++◌, Bool, length, get_or, drop}
 use Rattle.std.proofs.Common.{Option, Some, None, true, false}
-use Rattle.std.specs.Prelude.{if◌then◌else◌, replicate, slice_get}
+use Rattle.std.specs.Option.{unwrap_or}
+use Rattle.std.specs.Prelude.{if◌then◌else◌, is_some, replicate, slice_get}
 use Rattle.std.proofs.lemmas.List.{drop_all, drop_more, replicate_more}
+use Rattle.sva_search.specs.Rules.{IsStep}
 use Rattle.sva_open.specs.World.{Part}
 use Rattle.sva_open.specs.declared.rows.Row.{Row}
 use Rattle.sva_open.specs.declared.works.Group.{Group}
@@ -16,7 +18,7 @@ use Rattle.sva_driver_reports.specs.Limits.{ask_text, asks_from}
 use Rattle.sva_driver_reports.specs.Nevers.{never_text, nevers_from}
 use Rattle.sva_driver_reports.specs.Reports.{budgets_from, group_text, groups_from, marked_text, part_text, parts_from, rows_from, stopping_text}
 use Rattle.sva_driver_reports.specs.Reports.{other_text, others_from, waiting_place, waits_by}
-use Rattle.sva_driver_reports.specs.Witness.{EventSaid, before_text, befores, conduct_text, conducts_from, wider}
+use Rattle.sva_driver_reports.specs.Witness.{EventSaid, before_text, befores, behind_place, conduct_text, conducts_from, spot_before, wider}
 use Rattle.sva_driver_reports.specs.Witness.{width_from}
 
 -- ---- A piece, and what follows it
@@ -177,22 +179,40 @@ module _ (has_caches : Bool) (lines : List Line) where
 
 -- ---- The lines before `race`
 
-pub none_before : (text : Text) → befores text 0 ≡ []
-unfolding befores
-none_before text = refl
+-- what was written of so many, and where they lead
+pub record Fronted (text : Text) (first out : List ℕ) (spot : Spot) (place : ℕ) : Type 0 where
+  pub told : out ≡ first ++ befores text place
+  pub leads : spot ≡ spot_before text place
 
-one_before : (text : Text) (place : ℕ)
-    → befores text (suc place) ≡ befores text place ++ before_text (slice_get text.driver.lines.items place) (slice_get text.said.items place)
+pub none_before : (text : Text) (out : List ℕ) (spot : Spot) → spot ≡ text.opened → Fronted text out out spot 0
+unfolding befores spot_before
+none_before text out spot is = record { told = sym (append-nil out); leads = is }
+
+one_before : (text : Text) (place : ℕ) → befores text (suc place) ≡ befores text place ++ before_text text (spot_before text place) place
 unfolding befores
 one_before text place = refl
 
-pub next_before : (text : Text) (place : ℕ) (first out new : List ℕ) → out ≡ first ++ befores text place
-    → new ≡ out ++ before_text (slice_get text.driver.lines.items place) (slice_get text.said.items place)
-    → new ≡ first ++ befores text (place + 1)
-next_before text place first out new so_far is =
-    let piece = before_text (slice_get text.driver.lines.items place) (slice_get text.said.items place) in
-    is ∙ ap (λ l. l ++ piece) so_far ∙ append_assoc first (befores text place) piece
-    ∙ sym (ap (λ l. first ++ l) (ap (befores text) (add-one place) ∙ one_before text place))
+one_behind : (text : Text) (place : ℕ) → spot_before text (suc place) ≡ behind_place text (spot_before text place) place
+unfolding spot_before
+one_behind text place = refl
+
+pub next_before : (text : Text) (place : ℕ) (first out new : List ℕ) (spot next : Spot) → Fronted text first out spot place
+    → new ≡ out ++ before_text text spot place → next ≡ behind_place text spot place → Fronted text first new next (place + 1)
+next_before text place first out new spot next so_far is leads =
+    let piece = before_text text (spot_before text place) place in
+    record {
+      told = is ∙ ap (λ s. out ++ before_text text s place) so_far.leads ∙ ap (λ l. l ++ piece) so_far.told
+          ∙ append_assoc first (befores text place) piece
+          ∙ sym (ap (λ l. first ++ l) (ap (befores text) (add-one place) ∙ one_before text place));
+      leads = leads ∙ ap (λ s. behind_place text s place) so_far.leads
+          ∙ sym (ap (spot_before text) (add-one place) ∙ one_behind text place);
+    }
+
+-- a line that is taken, or not
+pub stepped : (led : Option Spot) (taken : Bool) (before new : Spot) → IsStep led taken before new
+    → (taken ≡ is_some led) × (new ≡ unwrap_or led before)
+stepped None taken before new h = h
+stepped (Some next) taken before new h = h
 
 -- ---- The line that waits
 

@@ -30,7 +30,8 @@ use Rattle.sva_judge.specs.declared.choices.Doing.TheVariants as doing
 use Rattle.sva_judge.specs.declared.verdicts.Verdict.{Verdict}
 use Rattle.sva_judge.specs.declared.verdicts.Verdict.TheVariants as verdict
 use Rattle.sva_driver_texts.specs.Texts.{DriverRead, IsRead, IsText, ReadsDriver, ReadsText, StandsAt, StandsBy, behind_first, behind_next, by_next}
-use Rattle.sva_driver_texts.specs.Texts.{done_of, done_seen, driver_of, line_choice, number_of, told_of, told_seen, unless_wrong}
+use Rattle.sva_driver_texts.specs.Texts.{done_of, done_seen, driver_of, is_left_out, line_choice, number_of, told_of, told_seen}
+use Rattle.sva_driver_texts.specs.Texts.{unless_wrong}
 use Rattle.sva_driver_texts.specs.declared.kept.Begun.{Begun}
 use Rattle.sva_driver_texts.specs.declared.kept.Begun.TheVariants as begun
 use Rattle.sva_driver_texts.specs.declared.kept.Halt.{Halt}
@@ -43,8 +44,9 @@ use Rattle.sva_driver_reports.specs.Findings.{wrong_text}
 use Rattle.sva_driver_reports.specs.Judged.{IsRanBy, IsTold, IsToldBy, ran_to, unsafe_at}
 use Rattle.sva_driver_reports.specs.Nevers.{is_tried}
 use Rattle.sva_driver_reports.specs.Reports.{behind, events_by, events_count, finding_text, report_text, ruling_of}
-use Rattle.sva_driver_reports.specs.Witness.{EventSaid, act_event, doing_line, event_by, event_line, event_of, events_from, front_text}
-use Rattle.sva_driver_reports.specs.Witness.{last_spot, line_event, line_who, spot_behind, waiting_line, waits, who_text, width_from, with_event}
+use Rattle.sva_driver_reports.specs.Witness.{EventSaid, act_event, answer_of, comment_line, doing_line, event_by, event_line, event_of}
+use Rattle.sva_driver_reports.specs.Witness.{events_from, front_text, is_comment, last_spot, line_event, line_who, spot_behind, who_text}
+use Rattle.sva_driver_reports.specs.Witness.{width_from, with_event}
 use Rattle.sva_driver_reports.proofs.OneLines.{blanks_one, both}
 use Rattle.sva_driver_reports.proofs.ReadLines.{AreWhole, are_whole, event_whole}
 use Rattle.sva_driver_reports.specs.Witnesses.{AreTold, HasLeak, HasRead, HasWitness, IsLineBy, IsOneLine, LeaksAreTold, WitnessesAreTold}
@@ -100,8 +102,12 @@ module _ (text : Text) (many : length text.said.items ≡ length text.driver.lin
   line_said at number is =
       let line = line_there spot number (slice_get text.driver.lines.items number) new is in
       let said = beside text.said.items text.driver.lines.items number line.0 many line.1 in (
-        record { text = said.0.text.items; who = line_who said.0.thread.items line.0.number; waits = waits line.0.saying },
-        ap (λ l. line_event l (slice_get text.said.items number)) line.1 ∙ ap (line_event (Some line.0)) said.1,
+        record {
+          text = said.0.text.items ++ answer_of spot line.0.saying;
+          who = line_who said.0.thread.items line.0.number;
+          is_comment = is_comment line.0.saying;
+        },
+        ap (λ l. line_event spot l (slice_get text.said.items number)) line.1 ∙ ap (line_event spot (Some line.0)) said.1,
       )
 
   act_said : (own : Doing) (at number : ℕ) → behind_own spot own at (slice_get spot.left at) (act_of text.driver spot own at number) ≡ Some new
@@ -110,7 +116,7 @@ module _ (text : Text) (many : length text.said.items ≡ length text.driver.lin
   act_said own at number is =
       let its = act_there spot own at (slice_get spot.left at) (act_of text.driver spot own at number) new is in
       let part = part_there text.driver own number (slice_get text.driver.devices.items at) (slice_get spot.world.parts at) its.0 its.1 in (
-        record { text = local_text part.0 at its.0; who = who_text own at; waits = false },
+        record { text = local_text part.0 at its.0; who = who_text own at; is_comment = false },
         ap (λ p. act_event own at p (act_of text.driver spot own at number)) part.1 ∙ ap (act_event own at (Some part.0)) its.1,
       )
 
@@ -126,16 +132,17 @@ module _ (text : Text) (many : length text.said.items ≡ length text.driver.lin
 
 -- ---- Its line
 
-line_of : (waits : Bool) (width : ℕ) → EventSaid → List ℕ
+line_of : (comment : Bool) (width : ℕ) → EventSaid → List ℕ
 line_of true width event = codes "# " ++ event.who ++ codes ": " ++ event.text
 line_of false width event = event.text ++ replicate (width - length event.text) 32 ++ codes " # " ++ event.who
 
-line_by : (waits : Bool) (width : ℕ) (event : EventSaid) → IsLineBy waits event (line_of waits width event)
+line_by : (comment : Bool) (width : ℕ) (event : EventSaid) → IsLineBy comment event (line_of comment width event)
 unfolding line_of
 line_by true width event = refl
 line_by false width event = (width - length event.text, refl)
 
-line_whole : (waits : Bool) (width : ℕ) (event : EventSaid) → IsOneLine event.who → IsOneLine event.text → IsOneLine (line_of waits width event)
+line_whole : (comment : Bool) (width : ℕ) (event : EventSaid) → IsOneLine event.who → IsOneLine event.text
+    → IsOneLine (line_of comment width event)
 unfolding line_of
 line_whole true width event who text =
     both (codes "# " ++ event.who ++ codes ": ") event.text (both (codes "# " ++ event.who) (codes ": ") (both (codes "# ") event.who refl who) refl) text
@@ -144,8 +151,8 @@ line_whole false width event who text =
     both (event.text ++ blanks ++ codes " # ") event.who
     (both (event.text ++ blanks) (codes " # ") (both event.text blanks text (blanks_one (width - length event.text))) refl) who
 
-ended_by : (waits : Bool) (width : ℕ) (event : EventSaid)
-    → (if waits then waiting_line event else doing_line width event) ≡ ended (line_of waits width event)
+ended_by : (comment : Bool) (width : ℕ) (event : EventSaid)
+    → (if comment then comment_line event else doing_line width event) ≡ ended (line_of comment width event)
 unfolding line_of
 ended_by true width event = refl
 ended_by false width event = refl
@@ -172,15 +179,15 @@ one_more : (text : Text) (width : ℕ) (spot next last : Spot) (choice : Choice)
     → Walked text width next choices last → Walked text width spot (choice ∷ choices) last
 unfolding events_from last_spot
 one_more text width spot next last choice choices event is one leads rest = record {
-  lines = line_of event.waits width event ∷ rest.lines;
+  lines = line_of event.is_comment width event ∷ rest.lines;
   told = (
-    record { event = event; is = is; told = line_by event.waits width event; whole = line_whole event.waits width event one.0 one.1 },
+    record { event = event; is = is; told = line_by event.is_comment width event; whole = line_whole event.is_comment width event one.0 one.1 },
     (next, leads, rest.told),
   );
   says = ap (λ it. flat_map (event_line width) (with_event it (next_in text.driver spot choice) (λ next. events_from text next choices))) is
       ∙ ap (λ it. flat_map (event_line width) (with_event (Some event) it (λ next. events_from text next choices))) leads
-      ∙ ap (λ l. l ++ flat_map (event_line width) (events_from text next choices)) (ended_by event.waits width event)
-      ∙ ap (λ l. ended (line_of event.waits width event) ++ l) rest.says;
+      ∙ ap (λ l. l ++ flat_map (event_line width) (events_from text next choices)) (ended_by event.is_comment width event)
+      ∙ ap (λ l. ended (line_of event.is_comment width event) ++ l) rest.says;
   leads = ap (λ it. spot_behind spot it (next_in text.driver spot choice) (λ next. last_spot text next choices)) is
       ∙ ap (λ it. spot_behind spot (Some event) it (λ next. last_spot text next choices)) leads ∙ rest.leads;
   many = ap suc rest.many;
@@ -290,6 +297,15 @@ module _ (driver : Driver) (number : ℕ) (found : Wrong) where
   at_next place before first None leads is = absurd (cc is)
   at_next place before first (Some spot) leads is = at_spot place before spot first leads (first_wrong spot.world) refl is
 
+  unless_left : (place : ℕ) (before : Spot) → behind_first driver place ≡ Ok before → (left : Bool)
+      → ◌≡◌ {A = Result Spot Halt}
+      (if left then Ok before
+      else by_next place (number_of (slice_get driver.lines.items place)) (next_in driver before (line_choice place)))
+      (Err (halt.Leaks number found))
+      → HasLeak driver (suc place) (unsafe_at number found)
+  unless_left place before first true is = absurd (cc is)
+  unless_left place before first false is = at_next place before first (next_in driver before (line_choice place)) refl is
+
   later : (place : ℕ) → HasLeak driver place (unsafe_at number found) → HasLeak driver (suc place) (unsafe_at number found)
   later place h = record {
     place = h.place;
@@ -308,7 +324,7 @@ module _ (driver : Driver) (number : ℕ) (found : Wrong) where
   at_line : (place : ℕ) (led : Result Spot Halt) → behind_first driver place ≡ led → (led >>= behind_next driver place) ≡ Err (halt.Leaks number found)
       → (behind_first driver place ≡ Err (halt.Leaks number found) → HasLeak driver place (unsafe_at number found))
       → HasLeak driver (suc place) (unsafe_at number found)
-  at_line place (Ok before) first is rest = at_next place before first (next_in driver before (line_choice place)) refl is
+  at_line place (Ok before) first is rest = unless_left place before first (is_left_out before place (slice_get driver.lines.items place)) is
   at_line place (Err stop) first is rest = later place (rest (first ∙ is))
 
   leak_told : (count : ℕ) → behind_first driver count ≡ Err (halt.Leaks number found) → HasLeak driver count (unsafe_at number found)

@@ -1,5 +1,6 @@
 -- What comes of a text that is judged, and of one whose lines are taken one after another.
-use Rattle.std.specs.Prelude.{◌≡◌, ℕ, Bool, true, false, List, [], ◌∷◌, ◌++◌, codes, decimal, length, Option, Some, None, Result, Ok, Err}
+use Rattle.std.specs.Prelude.{◌≡◌, ℕ, Bool, true, false, List, [], ◌∷◌, ◌++◌, codes, count_by, decimal, length}
+use Rattle.std.specs.Prelude.{Option, Some, None, Result, Ok, Err}
 use Rattle.std.specs.Io.KnownBytes.{Appends}
 use Rattle.sva_streams.specs.declared.streams.DriveFault.{DriveFault}
 use Rattle.sva_streams.specs.declared.streams.DriveFault.TheVariants.{Write}
@@ -68,11 +69,15 @@ refused_run read place = record { said = None; text = refused_at read place }
 abbrev pub unsafe_run : (number : ℕ) → Wrong → Ran
 unsafe_run number found = record { said = Some ruling.Unsafe; text = unsafe_at number found }
 
-abbrev pub right_run : Read → Ran
-right_run read = record { said = Some ruling.Right; text = nothing_wrong (length read.opening.lines.items) read.is_race }
+-- one that its thread has gone past isn't counted
+abbrev pub count_taken : (taken : List Bool) → ℕ
+count_taken taken = count_by (λ one. one) taken
+
+abbrev pub right_run : Read → Spot → Ran
+right_run read spot = record { said = Some ruling.Right; text = nothing_wrong (count_taken spot.taken) read.is_race }
 
 abbrev pub ran_to : Read → Result Spot Halt → Ran
-ran_to read (Ok spot) = right_run read
+ran_to read (Ok spot) = right_run read spot
 ran_to read (Err (halt.Refused place)) = refused_run read place
 ran_to read (Err (halt.Leaks number found)) = unsafe_run number found
 

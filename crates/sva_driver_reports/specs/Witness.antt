@@ -1,6 +1,7 @@
 -- A witness as a driver without `race`: its front, and a line for each event, with who acts.
 use Rattle.std.specs.Prelude.{ℕ, zero, suc, ◌+◌, ◌-◌, nat_lt, ◌&&◌, not, if◌then◌else◌, Bool, true, false, List, [], ◌∷◌, ◌++◌, codes, decimal, flat_map}
-use Rattle.std.specs.Prelude.{◌||◌, length, replicate, slice_get, Option, Some, None}
+use Rattle.std.specs.Prelude.{◌||◌, length, replicate, slice_get, Option, Some, None, is_some}
+use Rattle.std.specs.Option.{unwrap_or}
 use Rattle.sva_step.specs.declared.limits.Config.{Config}
 use Rattle.sva_open.specs.World.{Part}
 use Rattle.sva_open.specs.declared.acts.Act.TheVariants as act
@@ -18,8 +19,9 @@ use Rattle.sva_open.specs.declared.drivers.Line.{Line}
 use Rattle.sva_open.specs.declared.drivers.Saying.{Saying}
 use Rattle.sva_open.specs.declared.drivers.Saying.TheVariants as saying
 use Rattle.sva_open.specs.declared.drivers.Workers.{Workers}
-use Rattle.sva_judge.specs.Choices.{act_of, next_in}
+use Rattle.sva_judge.specs.Choices.{act_of, is_found, next_in}
 use Rattle.sva_judge.specs.Spots.{Spot}
+use Rattle.sva_driver_texts.specs.Texts.{line_choice}
 use Rattle.sva_driver_texts.specs.declared.kept.Said.{Said}
 use Rattle.sva_driver_texts.specs.declared.kept.Text.{Text}
 use Rattle.sva_driver_words.specs.Pieces.{and_number, with_endpoint}
@@ -36,11 +38,22 @@ is_wait (local.AwaitGroups pasid) = true
 is_wait local.AwaitResets = true
 is_wait _ = false
 
-abbrev pub waits : Saying → Bool
-waits (saying.AwaitsLine line) = true
-waits (saying.AwaitsWaits endpoint line) = true
-waits (saying.Does (act.At endpoint its)) = is_wait its
-waits _ = false
+-- a line that waits or looks, and does nothing else, stands as a comment
+abbrev pub is_comment : Saying → Bool
+is_comment (saying.AwaitsLine line) = true
+is_comment (saying.AwaitsWaits endpoint line) = true
+is_comment (saying.Looks condition so) = true
+is_comment (saying.Does (act.At endpoint its)) = is_wait its
+is_comment _ = false
+
+-- what a line that looks finds: is the branch behind it gone?
+abbrev pub answer_text : (is_found : Bool) → List ℕ
+answer_text true = codes ": yes"
+answer_text false = codes ": no"
+
+abbrev pub answer_of : Spot → Saying → List ℕ
+answer_of spot (saying.Looks condition so) = answer_text (is_found spot condition so)
+answer_of spot _ = []
 
 -- before `race` a line has no thread
 abbrev pub threaded : (thread : List ℕ) → List ℕ
@@ -52,16 +65,21 @@ line_who thread number = threaded thread ++ codes "line " ++ decimal number
 
 -- ---- Events
 
--- its line, who acts, and whether it waits and does nothing else
+-- its line, with what it finds; who acts; and whether it stands as a comment
 pub record EventSaid : Type 0 where
   pub text : List ℕ
   pub who : List ℕ
-  pub waits : Bool
+  pub is_comment : Bool
 
-abbrev pub line_event : Option Line → Option Said → Option EventSaid
-line_event (Some line) (Some said) =
-    Some (record { text = said.text.items; who = line_who said.thread.items line.number; waits = waits line.saying })
-line_event line said = None
+abbrev pub line_event : Spot → Option Line → Option Said → Option EventSaid
+line_event spot (Some line) (Some said) =
+    Some
+    (record {
+      text = said.text.items ++ answer_of spot line.saying;
+      who = line_who said.thread.items line.number;
+      is_comment = is_comment line.saying;
+    })
+line_event spot line said = None
 
 abbrev pub who_text : Doing → (at : ℕ) → List ℕ
 who_text doing.Line at = []
@@ -76,7 +94,7 @@ who_text doing.Fail at = codes "worker"
 who_text other at = with_endpoint (codes "endpoint") at
 
 abbrev pub act_event : Doing → (at : ℕ) → Option Part → Option LocalAct → Option EventSaid
-act_event own at (Some part) (Some its) = Some (record { text = local_text part at its; who = who_text own at; waits = false })
+act_event own at (Some part) (Some its) = Some (record { text = local_text part at its; who = who_text own at; is_comment = false })
 act_event own at part its = None
 
 abbrev pub own_by : Text → Spot → Doing → (at number : ℕ) → Option EventSaid
@@ -86,7 +104,7 @@ abbrev pub own_event : Text → Spot → Choice → Option EventSaid
 own_event text spot choice = own_by text spot choice.doing choice.at choice.number
 
 abbrev pub event_by : Text → Spot → Doing → (at number : ℕ) → Option EventSaid
-event_by text spot doing.Line at number = line_event (slice_get text.driver.lines.items number) (slice_get text.said.items number)
+event_by text spot doing.Line at number = line_event spot (slice_get text.driver.lines.items number) (slice_get text.said.items number)
 event_by text spot own at number = own_by text spot own at number
 
 abbrev pub event_of : Text → Spot → Choice → Option EventSaid
@@ -117,7 +135,7 @@ last_spot text spot (choice ∷ choices) =
 -- ---- Their lines: who acts begins in one column
 
 abbrev pub wider : (width : ℕ) → EventSaid → ℕ
-wider width event = if not event.waits && nat_lt width (length event.text) then length event.text else width
+wider width event = if not event.is_comment && nat_lt width (length event.text) then length event.text else width
 
 unfoldable pub width_from : (width : ℕ) → List EventSaid → ℕ
 width_from width [] = width
@@ -126,14 +144,14 @@ width_from width (event ∷ events) = width_from (wider width event) events
 abbrev pub padded : (width : ℕ) → List ℕ → List ℕ
 padded width text = text ++ replicate (width - length text) 32
 
-abbrev pub waiting_line : EventSaid → List ℕ
-waiting_line event = codes "# " ++ event.who ++ codes ": " ++ event.text ++ 10 ∷ []
+abbrev pub comment_line : EventSaid → List ℕ
+comment_line event = codes "# " ++ event.who ++ codes ": " ++ event.text ++ 10 ∷ []
 
 abbrev pub doing_line : (width : ℕ) → EventSaid → List ℕ
 doing_line width event = padded width event.text ++ codes " # " ++ event.who ++ 10 ∷ []
 
 abbrev pub event_line : (width : ℕ) → EventSaid → List ℕ
-event_line width event = if event.waits then waiting_line event else doing_line width event
+event_line width event = if event.is_comment then comment_line event else doing_line width event
 
 abbrev pub events_text : List EventSaid → List ℕ
 events_text events = flat_map (event_line (width_from 0 events)) events
@@ -191,17 +209,31 @@ unfoldable pub conducts_from : (endpoint : ℕ) → List Part → List ℕ
 conducts_from endpoint [] = []
 conducts_from endpoint (part ∷ parts) = conduct_text endpoint part ++ conducts_from (endpoint + 1) parts
 
--- a line before `race`
-abbrev pub before_text : Option Line → Option Said → List ℕ
-before_text (Some line) (Some said) =
-    said_if (waits line.saying) (codes "# " ++ line_who said.thread.items line.number ++ codes ": ") ++ said.text.items ++ 10 ∷ []
-before_text line said = []
+-- where a line leads that is taken in order: nowhere, where its thread has gone past it
+abbrev pub behind_place : Text → Spot → (place : ℕ) → Spot
+behind_place text spot place = unwrap_or (next_in text.driver spot (line_choice place)) spot
+
+-- where those before a place lead
+unfoldable pub spot_before : Text → (place : ℕ) → Spot
+spot_before text zero = text.opened
+spot_before text (suc place) = behind_place text (spot_before text place) place
+
+-- a line before `race`, where it was taken
+abbrev pub front_line : EventSaid → List ℕ
+front_line event = if event.is_comment then comment_line event else event.text ++ 10 ∷ []
+
+abbrev pub told_if : (taken : Bool) → Option EventSaid → List ℕ
+told_if true (Some event) = front_line event
+told_if taken event = []
+
+abbrev pub before_text : Text → Spot → (place : ℕ) → List ℕ
+before_text text spot place =
+    told_if (is_some (next_in text.driver spot (line_choice place))) (event_of text spot (line_choice place))
 
 -- so many of them
 unfoldable pub befores : Text → (count : ℕ) → List ℕ
 befores text zero = []
-befores text (suc place) =
-    befores text place ++ before_text (slice_get text.driver.lines.items place) (slice_get text.said.items place)
+befores text (suc place) = befores text place ++ before_text text (spot_before text place) place
 
 abbrev pub config_text : Config → List ℕ
 config_text config = codes "config" ++ and_number config.endpoints ++ and_number config.frames ++ and_number config.workers ++ 10 ∷ []

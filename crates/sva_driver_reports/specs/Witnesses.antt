@@ -22,8 +22,8 @@ use Rattle.sva_driver_reports.specs.declared.reports.Ruling.TheVariants as rulin
 
 -- ---- A witness
 
--- an event that waits and does nothing else is a comment; behind all others stands, after some blanks, who acts
-abbrev pub IsLineBy : (waits : Bool) → EventSaid → (line : List ℕ) → Type 0
+-- an event that waits or looks, and does nothing else, is a comment; behind all others stands, after some blanks, who acts
+abbrev pub IsLineBy : (is_comment : Bool) → EventSaid → (line : List ℕ) → Type 0
 IsLineBy true event line = line ≡ codes "# " ++ event.who ++ codes ": " ++ event.text
 IsLineBy false event line = (blanks : ℕ) × (line ≡ event.text ++ replicate blanks 32 ++ codes " # " ++ event.who)
 
@@ -35,7 +35,7 @@ IsOneLine line = list_any (λ byte. byte == 10) line ≡ false
 pub record TellsChoice (text : Text) (spot : Spot) (choice : Choice) (line : List ℕ) : Type 0 where
   pub event : EventSaid
   pub is : event_of text spot choice ≡ Some event
-  pub told : IsLineBy event.waits event line
+  pub told : IsLineBy event.is_comment event line
   pub whole : IsOneLine line
 
 -- A line for each choice, in order: each choice is permitted at the spot to which those before it lead, its line tells what it is

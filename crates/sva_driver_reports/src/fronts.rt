@@ -1,14 +1,15 @@
 //! The front of a witness: its config, its settings, how workers answer, what endpoints are like, and the lines before
 //! `race`.
 
-ghost use Rattle.std.specs.Prelude.{◌≡◌, ◌++◌, OnOk, Some, slice_get};
+ghost use Rattle.std.specs.Prelude.{◌≡◌, ◌++◌, OnOk};
 ghost use Rattle.sva_driver_reports.specs.Witness as witness;
 
-use crate::witness::{put_line_who, waits};
-use std::alloc::AllocError;
-use sva_driver_texts::{Said, Text};
+use crate::witness::{Event, event_of, put_front_line};
+use std::alloc::{AllocError, Global};
+use sva_driver_texts::Text;
 use sva_driver_words::{put_endpoint, put_one};
-use sva_open::{Line, Link, Part, Settings, Stopped, Workers};
+use sva_judge::{Choice, Doing, Spot, take};
+use sva_open::{Link, Part, Settings, Stopped, Workers};
 use sva_step::Config;
 
 /// Appends a text, where it is so.
@@ -122,40 +123,45 @@ fn put_conducts(out: &mut Vec<u8>, parts: &[Part]) -> Result<(), AllocError>
     Ok(())
 }
 
-/// Appends a line before `race`.
-fn put_before(out: &mut Vec<u8>, line: &Line, said: &Said) -> Result<(), AllocError>
-    ensures { OnOk result (out.new.items
-        ≡ out.old.items ++ witness.before_text (Some line.now) (Some said.now)) }
+/// Appends the event of a line, if there is one and it was taken.
+fn put_taken(out: &mut Vec<u8>, event: Option<Event>, taken: bool) -> Result<(), AllocError>
+    ensures { OnOk result (out.new.items ≡ out.old.items ++ witness.told_if taken event) }
 {
-    if waits(&line.saying) {
-        out.extend_from_slice(b"# ")?;
-        put_line_who(out, said.thread.as_slice(), line.number)?;
-        out.extend_from_slice(b": ")?;
+    match event {
+        Some(event) if taken => put_front_line(out, &event),
+        _ => Ok(()),
     }
-    out.extend_from_slice(said.text.as_slice())?;
-    out.extend_from_slice(b"\n")
 }
 
-/// Appends the line at a place before `race`.
-fn put_before_at(out: &mut Vec<u8>, text: &Text, place: usize) -> Result<(), AllocError>
-    ensures { OnOk result (out.new.items ≡ out.old.items
-        ++ witness.before_text (slice_get text.now.driver.lines.items place) (slice_get text.now.said.items place)) }
+/// Takes the line at a place before `race`, if its thread hasn't gone past it, and appends it then.
+fn put_before(
+    alloc: Global,
+    out: &mut Vec<u8>,
+    text: &Text,
+    spot: &mut Spot,
+    place: usize,
+) -> Result<(), AllocError>
+    ensures text { OnOk result (out.new.items ≡ out.old.items ++ witness.before_text text.now spot.old place) }
+    ensures spot { OnOk result (spot.new ≡ witness.behind_place text.now spot.old place) }
 {
-    let Some(line) = text.driver.lines.get(place) else {
-        return Ok(());
+    let choice = Choice {
+        doing: Doing::Line,
+        at: 0,
+        number: place,
     };
-    let Some(said) = text.said.get(place) else {
-        return Ok(());
-    };
-    put_before(out, line, said)
+    let event = event_of(alloc, text, spot, choice)?;
+    let taken = take(&text.driver, spot, choice)?;
+    put_taken(out, event, taken)?;
+    Ok(())
 }
 
 /// Appends the lines before `race`.
-fn put_befores(out: &mut Vec<u8>, text: &Text) -> Result<(), AllocError>
+fn put_befores(alloc: Global, out: &mut Vec<u8>, text: &Text) -> Result<(), AllocError>
     ensures { OnOk result (out.new.items ≡ out.old.items ++ witness.befores text.now text.now.before) }
 {
+    let mut spot = text.opened.copy(alloc)?;
     for place in 0..text.before {
-        put_before_at(out, text, place)?;
+        put_before(alloc, out, text, &mut spot, place)?;
     }
     Ok(())
 }
@@ -171,13 +177,13 @@ fn put_config(out: &mut Vec<u8>, config: &Config) -> Result<(), AllocError>
 }
 
 /// Appends what stands before the events.
-pub(crate) fn put_front(out: &mut Vec<u8>, text: &Text) -> Result<(), AllocError>
+pub(crate) fn put_front(alloc: Global, out: &mut Vec<u8>, text: &Text) -> Result<(), AllocError>
     ensures { OnOk result (out.new.items ≡ out.old.items ++ witness.front_text text.now) }
 {
     put_config(out, &text.config)?;
     put_settings(out, &text.driver.start.settings)?;
     put_workers(out, text.driver.workers)?;
     put_conducts(out, text.driver.start.parts.as_slice())?;
-    put_befores(out, text)?;
+    put_befores(alloc, out, text)?;
     out.extend_from_slice(b"# race\n")
 }

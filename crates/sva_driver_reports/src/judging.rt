@@ -27,6 +27,7 @@ fn verdict_on<P: Watch>(
     let Text {
         config,
         driver,
+        opened,
         before,
         said,
     } = text;
@@ -37,6 +38,7 @@ fn verdict_on<P: Watch>(
         Text {
             config,
             driver,
+            opened,
             before,
             said,
         },
@@ -124,6 +126,13 @@ fn unsearched_text(is_race: bool) -> &'static str
     }
 }
 
+/// How many lines were taken.
+fn count_taken(taken: &[bool]) -> usize
+    ensures { result ≡ judged.count_taken taken.now }
+{
+    taken.iter().filter(|one| **one).count()
+}
+
 /// Takes the lines one after another, up to the first behind which something is wrong.
 fn run_lines(alloc: Global, read: &Read, out: &mut Vec<u8>) -> Result<Option<Ruling>, AllocError>
     ensures said { IfOk result (λ said. said ≡ (judged.ran_of read.now).said) }
@@ -131,8 +140,9 @@ fn run_lines(alloc: Global, read: &Read, out: &mut Vec<u8>) -> Result<Option<Rul
 {
     let count = read.opening.lines.len();
     match take_lines(alloc, &read.opening, count)? {
-        Ok(_spot) => {
-            put_nothing_wrong(out, count, read.is_race)?;
+        Ok(spot) => {
+            let taken = count_taken(spot.taken.as_slice());
+            put_nothing_wrong(out, taken, read.is_race)?;
             Ok(Some(Ruling::Right))
         }
         Err(Halt::Refused { place }) => {
@@ -143,8 +153,9 @@ fn run_lines(alloc: Global, read: &Read, out: &mut Vec<u8>) -> Result<Option<Rul
     }
 }
 
-/// Reads a driver, and takes its lines one after another, in the order in which they stand. Where lines are wrong, or
-/// one isn't permitted where it stands, that is written alone, and `None` given.
+/// Reads a driver, and takes its lines one after another, in the order in which they stand. Those are left out that
+/// their thread has gone past. Where lines are wrong, or one isn't permitted where it stands, that is written alone,
+/// and `None` given.
 pub fn run_text(alloc: Global, text: &[u8], out: &mut Vec<u8>) -> Result<Option<Ruling>, AllocError>
     requires { out.old.items ≡ [] }
     ensures { IfOk result (λ said. judged.IsTextRun text.now said out.new.items) }

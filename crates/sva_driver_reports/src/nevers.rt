@@ -113,7 +113,9 @@ fn does(endpoint: usize, fact: Fact, saying: &Saying) -> bool
         Saying::AwaitsLine { .. }
         | Saying::AwaitsWaits { .. }
         | Saying::Locks { .. }
-        | Saying::Unlocks { .. } => false,
+        | Saying::Unlocks { .. }
+        | Saying::Sets { .. }
+        | Saying::Looks { .. } => false,
     }
 }
 

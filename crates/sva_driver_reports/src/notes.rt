@@ -235,12 +235,9 @@ pub(crate) fn put_state(out: &mut Vec<u8>, spot: &Spot) -> Result<(), AllocError
 fn is_next(spot: &Spot, place: usize, line: &Line) -> bool
     ensures { result ≡ choices.is_next spot.now place line.now }
 {
-    if spot.taken.get(place).copied().unwrap_or(true) {
-        return false;
-    }
-    match line.after {
-        None => true,
-        Some(after) => spot.taken.get(after).copied().unwrap_or(true),
+    match spot.at.get(line.thread) {
+        Some(Some(next)) => *next == place,
+        _ => false,
     }
 }
 

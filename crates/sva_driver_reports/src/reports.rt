@@ -65,10 +65,15 @@ fn witness_of(
 }
 
 /// Appends a witness as a driver without `race`.
-fn put_witness(out: &mut Vec<u8>, text: &Text, events: &[Event]) -> Result<(), AllocError>
+fn put_witness(
+    alloc: Global,
+    out: &mut Vec<u8>,
+    text: &Text,
+    events: &[Event],
+) -> Result<(), AllocError>
     ensures { OnOk result (out.new.items ≡ out.old.items ++ reports.witness_by text.now events.now) }
 {
-    put_front(out, text)?;
+    put_front(alloc, out, text)?;
     put_events(out, events)
 }
 
@@ -86,7 +91,7 @@ fn put_unsafe(
     out.extend_from_slice(b": ")?;
     put_finding(out, &spot)?;
     out.extend_from_slice(b"\n")?;
-    put_witness(out, text, events.as_slice())?;
+    put_witness(alloc, out, text, events.as_slice())?;
     Ok(())
 }
 
@@ -107,7 +112,7 @@ fn put_stuck(
     put_others(out, text, &spot)?;
     put_state(out, &spot)?;
     put_budgets(out, b"# ", text)?;
-    put_witness(out, text, events.as_slice())?;
+    put_witness(alloc, out, text, events.as_slice())?;
     Ok(())
 }
 

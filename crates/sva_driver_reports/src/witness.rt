@@ -8,19 +8,19 @@ use std::alloc::{AllocError, Global};
 use std::marker::Model;
 use sva_driver_texts::{Said, Text};
 use sva_driver_words::put_endpoint;
-use sva_judge::{Choice, Doing, Spot, act_of, take};
+use sva_judge::{Choice, Doing, Spot, act_of, is_found, take};
 use sva_open::{Act, Line, LocalAct, Part, Saying};
 use sva_script_reading::put_number;
 
 /// An event.
 #[derive(Drop)]
 pub struct Event {
-    /// Its line.
+    /// Its line, with what it finds where it looks.
     text: Vec<u8>,
     /// Who acts.
     who: Vec<u8>,
-    /// Whether it waits and does nothing else.
-    waits: bool,
+    /// Whether it stands as a comment.
+    is_comment: bool,
 }
 
 impl Model for Event {
@@ -31,7 +31,7 @@ impl Model for Event {
     ghost view = { λ event. record {
       text = event.text.items;
       who = event.who.items;
-      waits = event.waits;
+      is_comment = event.is_comment;
     } };
 }
 
@@ -49,12 +49,12 @@ fn is_wait(act: &LocalAct) -> bool
     )
 }
 
-/// Whether a line waits and does nothing else.
-pub(crate) fn waits(saying: &Saying) -> bool
-    ensures { result ≡ witness.waits saying.now }
+/// Whether a line stands as a comment: it waits or looks, and does nothing else.
+fn is_comment(saying: &Saying) -> bool
+    ensures { result ≡ witness.is_comment saying.now }
 {
     match saying {
-        Saying::AwaitsLine { .. } | Saying::AwaitsWaits { .. } => true,
+        Saying::AwaitsLine { .. } | Saying::AwaitsWaits { .. } | Saying::Looks { .. } => true,
         Saying::Does { act } => match act {
             Act::At { act, .. } => is_wait(act),
             Act::Mark
@@ -65,7 +65,35 @@ pub(crate) fn waits(saying: &Saying) -> bool
             | Act::FreeSpace { .. }
             | Act::FreeDomain { .. } => false,
         },
-        Saying::Names { .. } | Saying::Locks { .. } | Saying::Unlocks { .. } => false,
+        Saying::Names { .. }
+        | Saying::Locks { .. }
+        | Saying::Unlocks { .. }
+        | Saying::Sets { .. } => false,
+    }
+}
+
+fn answer_text(is_found: bool) -> &'static str
+    ensures { result.now ≡ witness.answer_text is_found }
+{
+    if is_found { ": yes" } else { ": no" }
+}
+
+/// Appends what a line finds, if it looks.
+fn put_answer(out: &mut Vec<u8>, spot: &Spot, saying: &Saying) -> Result<(), AllocError>
+    ensures { OnOk result (out.new.items ≡ out.old.items ++ witness.answer_of spot.now saying.now) }
+{
+    match saying {
+        Saying::Looks { condition, so } => {
+            let is_found = is_found(spot, *condition, *so);
+            out.extend_from_slice(answer_text(is_found).as_bytes())
+        }
+        Saying::Does { .. }
+        | Saying::Names { .. }
+        | Saying::AwaitsLine { .. }
+        | Saying::AwaitsWaits { .. }
+        | Saying::Locks { .. }
+        | Saying::Unlocks { .. }
+        | Saying::Sets { .. } => Ok(()),
     }
 }
 
@@ -92,22 +120,29 @@ pub(crate) fn put_line_who(out: &mut Vec<u8>, thread: &[u8], number: u64) -> Res
 }
 
 /// The event of a line.
-fn line_event(alloc: Global, line: &Line, said: &Said) -> Result<Event, AllocError>
-    ensures { IfOk result (λ event. Some event ≡ witness.line_event (Some line.now) (Some said.now)) }
+fn line_event(alloc: Global, spot: &Spot, line: &Line, said: &Said) -> Result<Event, AllocError>
+    ensures { IfOk result (λ event. Some event ≡ witness.line_event spot.now (Some line.now) (Some said.now)) }
 {
+    let mut text = Vec::from_slice(alloc, said.text.as_slice())?;
+    put_answer(&mut text, spot, &line.saying)?;
     let mut who = Vec::new(alloc);
     put_line_who(&mut who, said.thread.as_slice(), line.number)?;
     Ok(Event {
-        text: Vec::from_slice(alloc, said.text.as_slice())?,
+        text,
         who,
-        waits: waits(&line.saying),
+        is_comment: is_comment(&line.saying),
     })
 }
 
 /// The event of the line at a place.
-fn event_at(alloc: Global, text: &Text, place: usize) -> Result<Option<Event>, AllocError>
-    ensures { IfOk result (λ event. event ≡ witness.line_event (slice_get text.now.driver.lines.items place)
-        (slice_get text.now.said.items place)) }
+fn event_at(
+    alloc: Global,
+    text: &Text,
+    spot: &Spot,
+    place: usize,
+) -> Result<Option<Event>, AllocError>
+    ensures { IfOk result (λ event. event ≡ witness.line_event spot.now
+        (slice_get text.now.driver.lines.items place) (slice_get text.now.said.items place)) }
 {
     let Some(line) = text.driver.lines.get(place) else {
         return Ok(None);
@@ -115,7 +150,7 @@ fn event_at(alloc: Global, text: &Text, place: usize) -> Result<Option<Event>, A
     let Some(said) = text.said.get(place) else {
         return Ok(None);
     };
-    Ok(Some(line_event(alloc, line, said)?))
+    Ok(Some(line_event(alloc, spot, line, said)?))
 }
 
 /// Appends who does what comes by itself.
@@ -158,7 +193,7 @@ fn act_event(
     Ok(Event {
         text,
         who,
-        waits: false,
+        is_comment: false,
     })
 }
 
@@ -182,7 +217,7 @@ fn own_event(
 }
 
 /// The event of a choice.
-fn event_of(
+pub(crate) fn event_of(
     alloc: Global,
     text: &Text,
     spot: &Spot,
@@ -191,7 +226,7 @@ fn event_of(
     ensures { IfOk result (λ event. event ≡ witness.event_of text.now spot.now choice) }
 {
     match choice.doing {
-        Doing::Line => event_at(alloc, text, choice.number),
+        Doing::Line => event_at(alloc, text, spot, choice.number),
         _ => own_event(alloc, text, spot, choice),
     }
 }
@@ -225,7 +260,7 @@ pub(crate) fn events_of(
 fn wider(width: usize, event: &Event) -> usize
     ensures { result ≡ witness.wider width event.now }
 {
-    if !event.waits && width < event.text.len() {
+    if !event.is_comment && width < event.text.len() {
         event.text.len()
     } else {
         width
@@ -253,9 +288,9 @@ fn put_blanks(out: &mut Vec<u8>, count: usize) -> Result<(), AllocError>
     Ok(())
 }
 
-/// Appends a comment of an event that waits.
-fn put_waiting(out: &mut Vec<u8>, event: &Event) -> Result<(), AllocError>
-    ensures { OnOk result (out.new.items ≡ out.old.items ++ witness.waiting_line event.now) }
+/// Appends an event as a comment.
+fn put_comment(out: &mut Vec<u8>, event: &Event) -> Result<(), AllocError>
+    ensures { OnOk result (out.new.items ≡ out.old.items ++ witness.comment_line event.now) }
 {
     out.extend_from_slice(b"# ")?;
     out.extend_from_slice(event.who.as_slice())?;
@@ -278,10 +313,21 @@ fn put_doing(out: &mut Vec<u8>, event: &Event, width: usize) -> Result<(), Alloc
 fn put_event(out: &mut Vec<u8>, event: &Event, width: usize) -> Result<(), AllocError>
     ensures { OnOk result (out.new.items ≡ out.old.items ++ witness.event_line width event.now) }
 {
-    if event.waits {
-        return put_waiting(out, event);
+    if event.is_comment {
+        return put_comment(out, event);
     }
     put_doing(out, event, width)
+}
+
+/// Appends the event of a line before `race`.
+pub(crate) fn put_front_line(out: &mut Vec<u8>, event: &Event) -> Result<(), AllocError>
+    ensures { OnOk result (out.new.items ≡ out.old.items ++ witness.front_line event.now) }
+{
+    if event.is_comment {
+        return put_comment(out, event);
+    }
+    out.extend_from_slice(event.text.as_slice())?;
+    out.extend_from_slice(b"\n")
 }
 
 /// Appends all events.

@@ -7,6 +7,11 @@ use Rattle.std.specs.List.{list_any}
 use Rattle.std.specs.Str.{bytes_eq}
 use Rattle.sva_race_texts.proofs.PieceLemmas.{any_seen}
 
+-- what is seen of what is seen
+pub map_twice : {A B C : Type 0} (g : B → C) (f : A → B) (xs : List A) → map (λ x. g (f x)) xs ≡ map g (map f xs)
+map_twice g f [] = refl
+map_twice g f (x ∷ xs) = ap (λ rest. g (f x) ∷ rest) (map_twice g f xs)
+
 -- what is put at a place, and what isn't
 pub put_seen : {A B : Type 0} (f : A → B) (items new : List A) (place : ℕ) (one : A) (told : B) → new ≡ slice_set items place one → f one ≡ told
     → map f new ≡ slice_set (map f items) place told

@@ -6,6 +6,8 @@ pub mod Runs
 pub mod Takings
 pub mod Firsts
 pub mod Lists
+pub mod OpenBlocks
 pub mod Openings
 pub mod Stands
 pub mod Wholes
+pub mod WayLemmas

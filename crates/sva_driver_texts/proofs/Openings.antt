@@ -1,5 +1,5 @@
 -- The driver before its first line, by what calls make of what was read.
-use Rattle.std.proofs.Common.{◌≡◌, ◌∙◌, ap, refl, subst, sym, ℕ, Bool, false, List, [], ◌∷◌, length, map, replicate}
+use Rattle.std.proofs.Common.{◌≡◌, ◌∙◌, ap, subst, sym, ℕ, Bool, false, List, length, map, replicate}
 use Rattle.std.proofs.lemmas.List.{length-map}
 use Rattle.sva_step.specs.declared.limits.Config.{Config}
 use Rattle.sva_open.specs.World.{Open, opened}
@@ -10,10 +10,7 @@ use Rattle.sva_driver_texts.specs.declared.kept_of_endpoints.DeviceRead.{DeviceR
 use Rattle.sva_driver_texts.specs.Devices.{device_seen}
 use Rattle.sva_driver_texts.specs.Readings.{Reading}
 use Rattle.sva_driver_texts.specs.Texts.{IsOpening, conduct_of}
-
-pub map_twice : {A B C : Type 0} (g : B → C) (f : A → B) (xs : List A) → map (λ x. g (f x)) xs ≡ map g (map f xs)
-map_twice g f [] = refl
-map_twice g f (x ∷ xs) = ap (λ rest. g (f x) ∷ rest) (map_twice g f xs)
+use Rattle.sva_driver_texts.proofs.Anys.{map_twice}
 
 -- the world, by the conduct of endpoints, and by how many PASIDs they have
 pub start_by : (config : Config) (settings : Settings) (own devices : List DeviceRead) (pasids some : ℕ) (now : Open)

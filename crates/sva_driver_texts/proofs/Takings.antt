@@ -1,5 +1,5 @@
 -- What a call makes of a line, by what it is read as.
-use Rattle.std.proofs.Common.{◌≡◌, ◌∙◌, ap, refl, sym, subst, ℕ, List, [], ◌∷◌, ◌++◌, true, false, not, cond, Option, None}
+use Rattle.std.proofs.Common.{◌≡◌, ◌∙◌, ap, refl, sym, subst, ℕ, List, [], ◌∷◌, ◌++◌, true, false, not, cond}
 use Rattle.std.specs.Prelude.{◌&&◌, Result, Ok, Err, slice_get, slice_set}
 use Rattle.std.specs.List.{list_any}
 use Rattle.std.specs.Str.{bytes_eq}
@@ -14,13 +14,14 @@ use Rattle.sva_driver_words.specs.declared.faults.DriverStop.{DriverStop}
 use Rattle.sva_driver_words.specs.declared.faults.DriverStop.TheVariants as stop
 use Rattle.sva_driver_words.specs.declared.faults.DriverWanted.TheVariants as wanted
 use Rattle.sva_driver_words.specs.declared.faults.DriverWrong.{DriverWrong}
-use Rattle.sva_driver_words.specs.Awaits.{last_from}
+use Rattle.sva_driver_words.specs.declared.kept.Under.{Under}
 use Rattle.sva_driver_words.specs.Says.{is_lock_word}
 use Rattle.sva_driver_words.specs.Sayings.{SayingSaid}
 use Rattle.sva_driver_words.specs.Taking.{Fails}
+use Rattle.sva_driver_texts.specs.Blocks.{under_of}
 use Rattle.sva_driver_texts.specs.Devices.{DeviceSaid}
 use Rattle.sva_driver_texts.specs.Readings.{Reading, Takes, act_line, act_said, device_line, is_told, name_judged, name_of, saying_in}
-use Rattle.sva_driver_texts.specs.Readings.{is_of_thread, told_by, told_by_parts, unanswered, with_line, with_lock_of}
+use Rattle.sva_driver_texts.specs.Readings.{told_by, told_by_parts, unanswered, with_block_of, with_flag_of, with_line, with_lock_of}
 
 -- ---- What fails
 
@@ -122,16 +123,20 @@ module _ (config : Config) (reading : Reading) (words : List (List ℕ)) where
 
 -- ---- A line that is added
 
-pub add_is : (old mid new : Reading) (number : ℕ) (after : Option ℕ) (name own thread text : List ℕ) (words : List (List ℕ)) (saying : SayingSaid)
-    → after ≡ last_from (is_of_thread thread) 0 None old.lines → own ≡ name → text ≡ joined_words words → mid ≡ with_lock_of old words
-    → new ≡ record mid {
-      lines = mid.lines ++ (record { number = number; after = after; name = own; thread = thread; text = text; saying = saying }) ∷ [];
+pub add_is : (old locked flagged opened new : Reading) (number : ℕ) (under : List Under) (name own thread text : List ℕ)
+    (words : List (List ℕ)) (saying : SayingSaid)
+    → under ≡ under_of thread old.blocks → own ≡ name → text ≡ joined_words words → locked ≡ with_lock_of old words
+    → flagged ≡ with_flag_of locked words → opened ≡ with_block_of flagged thread number words
+    → new ≡ record opened {
+      lines = opened.lines ++ (record { number = number; under = under; name = own; thread = thread; text = text; saying = saying }) ∷ [];
     }
     → new ≡ with_line old number name thread words saying
-add_is old mid new number after name own thread text words saying behind named written locked is =
-    is ∙ (λ i. record (locked i) {
-      lines = (locked i).lines
-          ++ (record { number = number; after = behind i; name = named i; thread = thread; text = written i; saying = saying }) ∷ [];
+add_is old locked flagged opened new number under name own thread text words saying stands named written one two three is =
+    let noted : opened ≡ with_block_of (with_flag_of (with_lock_of old words) words) thread number words =
+    three ∙ ap (λ reading. with_block_of reading thread number words) (two ∙ ap (λ reading. with_flag_of reading words) one) in
+    is ∙ (λ i. record (noted i) {
+      lines = (noted i).lines
+          ++ (record { number = number; under = stands i; name = named i; thread = thread; text = written i; saying = saying }) ∷ [];
     })
 
 pub lock_added : (old new : Reading) (words : List (List ℕ))

@@ -14,7 +14,7 @@ use Rattle.sva_driver_texts.specs.declared.kept.Read.{Read}
 use Rattle.sva_driver_texts.specs.Texts.{IsRead, DriverRead, ReadsText, if_right, driver_behind, driver_of, driver_read, driver_with, right_or_said}
 use Rattle.sva_driver_texts.specs.Texts.{too_large}
 use Rattle.sva_race_texts.specs.Texts.{names_from}
-use Rattle.sva_driver_texts.specs.Readings.{Reading, behind_lines, nothing}
+use Rattle.sva_driver_texts.specs.Readings.{Reading, behind_all, nothing}
 use Rattle.sva_script.specs.Names.{Known}
 
 -- ---- A driver is one where nothing is said of its lines
@@ -47,13 +47,13 @@ with_fit config all lines read found new fit is reads =
 
 -- what was read, call by call
 pub driver_is : (config : Config) (all lines : List Line) (names : Known) (next : ℕ) (first last : Reading) → names ≡ names_from [] all
-    → next ≡ length all + 1 → first ≡ nothing config → last ≡ behind_lines config names first lines
+    → next ≡ length all + 1 → first ≡ nothing config → last ≡ behind_all config names first lines
     → record { config = config; known = names; next = next; reading = last } ≡ driver_read config all lines
 driver_is config all lines names next first last named counted start is = λ i. record {
   config = config;
   known = named i;
   next = counted i;
-  reading = (is ∙ (λ j. behind_lines config (named j) (start j) lines)) i;
+  reading = (is ∙ (λ j. behind_all config (named j) (start j) lines)) i;
 }
 
 -- ---- The whole

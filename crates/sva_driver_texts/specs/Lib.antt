@@ -1,7 +1,9 @@
 pub mod Devices
+pub mod Blocks
 pub mod Readings
 pub mod Needs
 pub mod Plans
+pub mod Ways
 pub mod Texts
 pub mod Pasids
 pub mod Budgets

@@ -60,7 +60,7 @@ need_named (named.More pasid index page write last) = need.Unfinished
 need_named (named.ForgetEntry pasid) = need.KeptEntry
 need_named (named.Forget pasid page) = need.KeptTranslation
 
--- a line above was taken already
+-- a line above was taken already, and one that sets a flag or looks is always permitted
 abbrev pub need_of : Saying → Need
 need_of (saying.Does its) = need_of_act its
 need_of (saying.Names endpoint its) = need_named its
@@ -68,3 +68,5 @@ need_of (saying.AwaitsLine line) = need.Nothing
 need_of (saying.AwaitsWaits endpoint line) = need.Done
 need_of (saying.Locks lock) = need.FreeLock
 need_of (saying.Unlocks lock) = need.TakenLock
+need_of (saying.Sets flag on) = need.Nothing
+need_of (saying.Looks condition so) = need.Nothing

@@ -3,9 +3,11 @@ use Rattle.std.specs.Prelude.{ℕ, suc, nat_lt, if◌then◌else◌, List, [], �
 use Rattle.sva_open.specs.declared.acts.Act.TheVariants as act
 use Rattle.sva_open.specs.declared.acts.LocalAct.{LocalAct}
 use Rattle.sva_open.specs.declared.acts.LocalAct.TheVariants as local
+use Rattle.sva_open.specs.declared.drivers.Condition.{Condition}
+use Rattle.sva_open.specs.declared.drivers.Condition.TheVariants as condition
 use Rattle.sva_driver_words.specs.Awaits.{LineSaid}
 use Rattle.sva_driver_words.specs.Sayings.{SayingSaid}
-use Rattle.sva_driver_words.specs.Sayings.SayingSaid.{DoesSaid}
+use Rattle.sva_driver_words.specs.Sayings.SayingSaid.{DoesSaid, LooksSaid}
 
 abbrev pub or_zero : Option ℕ → ℕ
 or_zero None = 0
@@ -32,8 +34,17 @@ pasid_of (local.Fault pasid page write last) = pasid
 pasid_of (local.Quit pasid) = pasid
 pasid_of _ = 0
 
+-- the same of what a line looks at
+abbrev pub pasid_looked_at : Condition → ℕ
+pasid_looked_at (condition.Flag flag) = 0
+pasid_looked_at (condition.Present endpoint pasid) = pasid
+pasid_looked_at (condition.Stopped endpoint pasid) = pasid
+pasid_looked_at (condition.Filed endpoint pasid) = or_zero pasid
+pasid_looked_at (condition.Queued endpoint pasid) = or_zero pasid
+
 abbrev pub pasid_at : SayingSaid → ℕ
 pasid_at (DoesSaid (act.At endpoint its)) = pasid_of its
+pasid_at (LooksSaid its so) = pasid_looked_at its
 pasid_at _ = 0
 
 -- the higher one of two

@@ -14,16 +14,18 @@ use Rattle.sva_open.specs.declared.settings.Settings.{Settings}
 use Rattle.sva_open.specs.declared.drivers.Workers.{Workers}
 use Rattle.sva_race_texts.specs.Words.{word_at}
 use Rattle.sva_race_texts.specs.declared.faults.RaceWanted.TheVariants as race
-use Rattle.sva_driver_words.specs.Awaits.{LineSaid, is_named, last_from}
+use Rattle.sva_driver_words.specs.Awaits.{LineSaid, is_named}
+use Rattle.sva_driver_texts.specs.Blocks.{BlockSaid, branched, open_texts, under_of, with_block}
 use Rattle.sva_driver_texts.specs.Devices.{DeviceSaid, is_setting, parts_from, setting_line, unsaid, untold, workers_of}
 use Rattle.sva_driver_words.specs.Faults.{fault_text, wrong_at, no_more, placed}
 use Rattle.sva_driver_words.specs.Fields.{endpoint_at, has_word, says}
 use Rattle.sva_driver_words.specs.Sayings.{SayingSaid}
-use Rattle.sva_driver_words.specs.Says.{is_act, saying_by, with_lock}
+use Rattle.sva_driver_words.specs.Says.{is_act, saying_by, with_flag, with_lock}
 use Rattle.sva_driver_words.specs.declared.faults.DriverWanted.TheVariants as wanted
 use Rattle.sva_driver_words.specs.declared.faults.DriverStop.{DriverStop}
 use Rattle.sva_driver_words.specs.declared.faults.DriverStop.TheVariants as stop
 use Rattle.sva_driver_words.specs.declared.faults.DriverWrong.{DriverWrong}
+use Rattle.sva_driver_words.specs.declared.kept.Under.{Under}
 
 pub record Reading : Type 0 where
   -- the thread of the heading above; empty where there is none
@@ -35,6 +37,10 @@ pub record Reading : Type 0 where
   pub before : ℕ
   -- the locks that they name
   pub locks : List (List ℕ)
+  -- the flags that they name
+  pub flags : List (List ℕ)
+  -- the blocks that are open, the outermost of a thread first
+  pub blocks : List BlockSaid
   -- the settings, and the words of those that were said
   pub settings : Settings
   pub set : List (List ℕ)
@@ -51,6 +57,8 @@ nothing config = record {
   lines = [];
   before = 0;
   locks = [];
+  flags = [];
+  blocks = [];
   settings = unsaid;
   set = [];
   workers = None;
@@ -93,23 +101,30 @@ thread_of reading words = if reading.is_race then headed reading.heading words e
 
 -- ---- A line of an act
 
+-- what it names or opens is noted: a lock, a flag, a block
 abbrev pub with_lock_of : Reading → List (List ℕ) → Reading
 with_lock_of reading words = record reading { locks = with_lock reading.locks words }
 
-abbrev pub is_of_thread : (thread : List ℕ) → LineSaid → Bool
-is_of_thread thread line = bytes_eq line.thread thread
+abbrev pub with_flag_of : Reading → List (List ℕ) → Reading
+with_flag_of reading words = record reading { flags = with_flag reading.flags words }
+
+abbrev pub with_block_of : Reading → (thread : List ℕ) → (number : ℕ) → List (List ℕ) → Reading
+with_block_of reading thread number words =
+    record reading { blocks = with_block reading.blocks thread number (length reading.lines) words }
 
 abbrev pub with_line : Reading → (number : ℕ) → (name thread : List ℕ) → List (List ℕ) → SayingSaid → Reading
 with_line reading number name thread words saying = record reading {
   lines = reading.lines ++ (record {
     number = number;
-    after = last_from (is_of_thread thread) 0 None reading.lines;
+    under = under_of thread reading.blocks;
     name = name;
     thread = thread;
     text = joined_words words;
     saying = saying;
   }) ∷ [];
   locks = with_lock reading.locks words;
+  flags = with_flag reading.flags words;
+  blocks = with_block reading.blocks thread number (length reading.lines) words;
 }
 
 -- a line's name is one, and no line before has it; it is no word behind `await`
@@ -132,9 +147,13 @@ abbrev pub unanswered : Parts → Result (Unit {0}) DriverWrong
 unanswered parts =
     if is_some parts.expected then wrong_at (step_begins parts + length parts.step) wanted.NoAnswer else Ok tt
 
--- what its words say, with the lines above and the locks that they name
+-- what its words say, with the lines above, the locks and flags that they name, and the blocks in which it stands
+abbrev pub saying_under : Config → Reading → (under : List Under) → (thread : List ℕ) → List (List ℕ) → Result SayingSaid DriverWrong
+saying_under config reading under thread words =
+    saying_by config reading.lines reading.locks reading.flags under thread words (word_at 0 words)
+
 abbrev pub saying_in : Config → Reading → (thread : List ℕ) → List (List ℕ) → Result SayingSaid DriverWrong
-saying_in config reading thread words = saying_by config reading.lines reading.locks thread words (word_at 0 words)
+saying_in config reading thread words = saying_under config reading (under_of thread reading.blocks) thread words
 
 abbrev pub act_said : Config → Reading → Parts → (thread : List ℕ) → Result SayingSaid DriverWrong
 act_said config reading parts thread = do
@@ -195,6 +214,14 @@ heading_line reading words =
     if not (is_name (word_at 1 words)) then wrong_at 1 (wanted.Race (race.Script script.Name)) else
     (no_more 2 words >>= λ done. Ok (record reading { heading = word_at 1 words }))
 
+-- `else`, and `end` alone, are of the thread of which an `if` is there
+abbrev pub with_branch : Reading → (thread word : List ℕ) → Result Reading DriverWrong
+with_branch reading thread word = branched reading.blocks thread word >>= λ blocks. Ok (record reading { blocks = blocks })
+
+abbrev pub branch_line : Reading → List (List ℕ) → Result Reading DriverWrong
+branch_line reading words =
+    no_more 1 words >>= λ done. with_branch reading (thread_of reading (codes "if" ∷ [])) (word_at 0 words)
+
 -- nothing but an act has a name
 abbrev pub nameless : Option (List ℕ) → Result (Unit {0}) DriverWrong
 nameless None = Ok tt
@@ -206,8 +233,12 @@ other_before reading words = if is_setting (word_at 0 words) then set_line readi
 abbrev pub other_behind : Reading → List (List ℕ) → Result Reading DriverWrong
 other_behind reading words = if says 0 (codes "thread") words then heading_line reading words else wrong_at 0 wanted.Behind
 
+abbrev pub begins_branch : (word : List ℕ) → Bool
+begins_branch word = bytes_eq word (codes "else") || bytes_eq word (codes "end")
+
 abbrev pub other_line : Config → Reading → List (List ℕ) → Result Reading DriverWrong
 other_line config reading words =
+    if begins_branch (word_at 0 words) then branch_line reading words else
     if says 0 (codes "workers") words then workers_line reading words else
     if says 0 (codes "device") words then device_line config reading words else
     if says 0 (codes "race") words then race_line reading words else
@@ -218,15 +249,22 @@ other_line config reading words =
 abbrev pub begins_other : (word : List ℕ) → Bool
 begins_other word =
     is_setting word || bytes_eq word (codes "workers") || bytes_eq word (codes "device") || bytes_eq word (codes "race")
-    || bytes_eq word (codes "thread")
+    || bytes_eq word (codes "thread") || begins_branch word
 
 -- behind a name stands a word that begins no line: an act was meant
 abbrev pub is_misspelt : Parts → Bool
 is_misspelt parts = is_some parts.name && not (begins_other (word_at 0 parts.step))
 
+-- `end` alone is no act
+abbrev pub is_end : Parts → Bool
+is_end parts = says 0 (codes "end") parts.step && not (has_word 1 parts.step) && not (is_some parts.expected)
+
+abbrev pub is_of_act : Parts → Bool
+is_of_act parts = is_act (word_at 0 parts.step) && not (is_end parts)
+
 abbrev pub line_by : Config → Reading → (number : ℕ) → List (List ℕ) → Parts → Result Reading DriverWrong
 line_by config reading number words parts =
-    if is_act (word_at 0 parts.step) then act_line config reading number parts (thread_of reading parts.step) else
+    if is_of_act parts then act_line config reading number parts (thread_of reading parts.step) else
     if is_misspelt parts then wrong_at (step_begins parts) wanted.Act else
     (nameless parts.name >>= λ done. other_line config reading words)
 
@@ -246,9 +284,16 @@ behind_lines config known reading [] = reading
 behind_lines config known reading (line ∷ lines) =
     behind_lines config known (behind_words config known reading line.0 (script_words line.1)) lines
 
+-- and behind the last of them, where each block that is open is told
+abbrev pub with_open : Known → Reading → Reading
+with_open known reading = record reading { said = reading.said ++ open_texts known reading.blocks }
+
+abbrev pub behind_all : Config → Known → Reading → List Line → Reading
+behind_all config known reading lines = with_open known (behind_lines config known reading lines)
+
 -- of a driver with all these lines; a wrong name is told with a near one of any line
 abbrev pub read_of : Config → Known → List Line → Reading
-read_of config known lines = behind_lines config known (nothing config) lines
+read_of config known lines = behind_all config known (nothing config) lines
 
 -- ---- As code keeps it
 

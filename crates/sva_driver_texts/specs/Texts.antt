@@ -1,5 +1,5 @@
 -- A text as a driver: what is read of its lines, and the world behind those that stand before `race`.
-use Rattle.std.specs.Prelude.{◌≡◌, ℕ, zero, suc, ◌+◌, if◌then◌else◌, Bool, true, false, List, [], ◌∷◌, length, map, replicate, slice_get}
+use Rattle.std.specs.Prelude.{◌≡◌, ℕ, zero, suc, ◌+◌, if◌then◌else◌, Bool, true, false, List, [], length, map, replicate, slice_get}
 use Rattle.std.specs.Prelude.{Option, Some, None, Result, Ok, Err, codes}
 use Rattle.std.specs.Option.{unwrap_or}
 use Rattle.sva_step.specs.declared.limits.Config.{Config}
@@ -35,6 +35,7 @@ use Rattle.sva_driver_texts.specs.Readings.{Reading, read_of}
 use Rattle.sva_driver_texts.specs.Needs.{need_of}
 use Rattle.sva_driver_texts.specs.Pasids.{pasids_of}
 use Rattle.sva_driver_texts.specs.Plans.{device_seen, planned_from}
+use Rattle.sva_driver_texts.specs.Ways.{firsts_of, is_past, way_seen, ways_of}
 use Rattle.sva_driver_texts.specs.declared.kept.Begun.{Begun}
 use Rattle.sva_driver_texts.specs.declared.kept.Begun.TheVariants as begun
 use Rattle.sva_driver_texts.specs.declared.kept.Halt.{Halt}
@@ -43,18 +44,17 @@ use Rattle.sva_driver_texts.specs.declared.kept.Read.{Read}
 use Rattle.sva_driver_texts.specs.declared.kept.Said.{Said}
 use Rattle.sva_driver_texts.specs.declared.kept.Text.{Text}
 
--- ---- The lines, as they are judged and as they are told
+-- ---- The lines, as they are judged, but for their ways, and as they are told
 
 pub record LineDone : Type 0 where
   pub number : ℕ
-  pub after : Option ℕ
   pub saying : SayingSaid
 
 abbrev pub done_of : LineSaid → LineDone
-done_of line = record { number = line.number; after = line.after; saying = line.saying }
+done_of line = record { number = line.number; saying = line.saying }
 
 abbrev pub done_seen : Kept → LineDone
-done_seen line = record { number = line.number; after = line.after; saying = saying_seen line.saying }
+done_seen line = record { number = line.number; saying = saying_seen line.saying }
 
 pub record LineTold : Type 0 where
   pub thread : List ℕ
@@ -86,8 +86,11 @@ opened_by config reading =
 pub record IsOpening (config : Config) (reading : Reading) (driver : Driver) : Type 0 where
   pub start : driver.start ≡ opened_by config reading
   pub lines : map done_seen driver.lines.items ≡ map done_of reading.lines
+  pub ways : map way_seen driver.lines.items ≡ ways_of reading.lines
   pub taken : driver.taken.items ≡ replicate (length reading.lines) false
+  pub at : driver.at.items ≡ firsts_of reading.lines
   pub locked : driver.locked.items ≡ replicate (length reading.locks) false
+  pub flags : driver.flags.items ≡ replicate (length reading.flags) false
   pub devices : map device_seen driver.devices.items ≡ planned_from reading.lines 0 reading.devices
   pub workers : driver.workers ≡ workers_or reading.workers
 
@@ -110,8 +113,14 @@ abbrev pub by_next : (place number : ℕ) → Option Spot → Result Spot Halt
 by_next place number None = Err (halt.Refused place)
 by_next place number (Some spot) = unless_wrong number spot (first_wrong spot.world)
 
+-- a line that its thread has gone past is left out
+abbrev pub is_left_out : Spot → (place : ℕ) → Option Kept → Bool
+is_left_out spot place None = false
+is_left_out spot place (Some line) = is_past spot place line
+
 abbrev pub behind_next : Driver → (place : ℕ) → Spot → Result Spot Halt
 behind_next driver place spot =
+    if is_left_out spot place (slice_get driver.lines.items place) then Ok spot else
     by_next place (number_of (slice_get driver.lines.items place)) (next_in driver spot (line_choice place))
 
 -- where so many lines lead; or the first of them that isn't permitted, or behind which something is wrong
@@ -123,7 +132,9 @@ behind_first driver (suc place) = behind_first driver place >>= behind_next driv
 pub record IsBehind (opening : Driver) (spot : Spot) (driver : Driver) : Type 0 where
   pub start : driver.start ≡ spot.world
   pub taken : driver.taken.items ≡ spot.taken
+  pub at : driver.at.items ≡ spot.at
   pub locked : driver.locked.items ≡ spot.locked
+  pub flags : driver.flags.items ≡ spot.flags
   pub lines : driver.lines ≡ opening.lines
   pub devices : driver.devices ≡ opening.devices
   pub workers : driver.workers ≡ opening.workers
@@ -191,6 +202,7 @@ pub record IsText (read : Read) (text : Text) : Type 0 where
   pub config : text.config ≡ read.config
   pub before : text.before ≡ read.before
   pub said : text.said ≡ read.said
+  pub opened : text.opened ≡ start_of read.opening
   pub spot : Spot
   pub first : behind_first read.opening read.before ≡ Ok spot
   pub driver : IsBehind read.opening spot text.driver

@@ -30,7 +30,9 @@ fn starts_at(endpoint: usize, saying: &Saying) -> bool
         | Saying::AwaitsLine { .. }
         | Saying::AwaitsWaits { .. }
         | Saying::Locks { .. }
-        | Saying::Unlocks { .. } => false,
+        | Saying::Unlocks { .. }
+        | Saying::Sets { .. }
+        | Saying::Looks { .. } => false,
     }
 }
 
@@ -65,7 +67,9 @@ fn asks_at(endpoint: usize, saying: &Saying) -> bool
         | Saying::AwaitsLine { .. }
         | Saying::AwaitsWaits { .. }
         | Saying::Locks { .. }
-        | Saying::Unlocks { .. } => false,
+        | Saying::Unlocks { .. }
+        | Saying::Sets { .. }
+        | Saying::Looks { .. } => false,
     }
 }
 

@@ -7,6 +7,7 @@ ghost use Rattle.sva_judge.specs.Choices.{next_in};
 ghost use Rattle.sva_driver_texts.specs.Texts as texts;
 
 use crate::kept::Halt;
+use crate::ways::is_past;
 use std::alloc::{AllocError, Global};
 use sva_judge::{Choice, Doing, Spot, start, take};
 use sva_open::Driver;
@@ -48,8 +49,18 @@ fn number_at(driver: &Driver, place: usize) -> u64
     }
 }
 
+/// Whether the line at a place is left out: its thread has gone past it.
+fn is_left_out(driver: &Driver, spot: &Spot, place: usize) -> bool
+    ensures { result ≡ texts.is_left_out spot.now place (slice_get driver.now.lines.items place) }
+{
+    match driver.lines.get(place) {
+        Some(line) => is_past(spot, place, line),
+        None => false,
+    }
+}
+
 /// Where so many lines lead, taken one after another: up to the first that isn't permitted where it stands, or behind
-/// which something is wrong.
+/// which something is wrong. Lines past which their thread has gone are left out.
 pub fn take_lines(
     alloc: Global,
     driver: &Driver,
@@ -59,6 +70,9 @@ pub fn take_lines(
 {
     let mut spot = start(alloc, driver)?;
     for place in 0..count {
+        if is_left_out(driver, &spot, place) {
+            continue;
+        }
         let taken = take_line(driver, &mut spot, place)?;
         if !taken {
             return Ok(Err(Halt::Refused { place }));

@@ -1,5 +1,6 @@
 //! What is kept of a driver's text.
 
+use sva_judge::Spot;
 use sva_open::Driver;
 use sva_open_safe::Wrong;
 use sva_script::Names;
@@ -57,6 +58,8 @@ pub struct Text {
     pub config: Config,
     /// The driver behind the lines before `race`.
     pub driver: Driver,
+    /// Where it was before them.
+    pub opened: Spot,
     /// How many lines stand before `race`.
     pub before: usize,
     /// Of each line, what is told of it.

@@ -2,6 +2,8 @@
 //! behind those that stand before `race`.
 #![tactic(auto)]
 
+mod blocks;
+mod branches;
 mod budgets;
 mod devices;
 mod first;
@@ -16,7 +18,9 @@ mod plans;
 mod readings;
 mod settings;
 mod texts;
+mod ways;
 
+pub use blocks::Block;
 pub use budgets::{asks_in, has_budget, is_pageless, is_unasked, is_unstarted};
 pub use first::take_lines;
 pub use kept::{Begun, Halt, Read, Said, Text};
@@ -24,3 +28,4 @@ pub use kept_of_endpoints::DeviceRead;
 pub use opening::opening_of;
 pub use readings::Reading;
 pub use texts::{put_refused, read_driver, read_text};
+pub use ways::is_past;

@@ -29,12 +29,15 @@ use sva_script_reading::Lines;
 use sva_step::Config;
 
 /// The words that begin an act.
-const ACTS: [&[u8]; 30] = [
+const ACTS: [&[u8]; 33] = [
     b"pte", b"entry", b"replace", b"start", b"stop", b"reset", b"submit", b"await", b"serve",
     b"respond", b"discard", b"close", b"open", b"skip", b"free", b"freeze", b"lock", b"unlock",
     b"mark", b"ask", b"use", b"end", b"evict", b"fault", b"finish", b"quit", b"pump", b"write",
-    b"deliver", b"forget",
+    b"deliver", b"forget", b"set", b"clear", b"if",
 ];
+
+/// The word that opens a block.
+const IF: [&[u8]; 1] = [b"if"];
 
 /// Whether it is one of these words.
 fn is_among(words: &[&[u8]], word: &[u8]) -> bool
@@ -229,6 +232,27 @@ fn take_heading(alloc: Global, reading: &mut Reading, words: &[&[u8]]) -> Result
     }
 }
 
+/// Takes `else`, or `end` alone: they are of the thread of which an `if` is there.
+fn take_branch(alloc: Global, reading: &mut Reading, words: &[&[u8]]) -> Result<(), DriverStop>
+    ensures { Takes (readings.branch_line reading.old (map (λ word. word.now) words.now))
+        reading.old reading.new result }
+{
+    let alone = judge_end(words, 1);
+    alone.map_err(DriverStop::Wrong)?;
+    let thread = match reading.thread_of(alloc, &IF) {
+        Ok(thread) => thread,
+        Err(_) => return Err(DriverStop::Memory),
+    };
+    reading.branch(thread.as_slice(), word_at(words, 0))
+}
+
+/// Whether a word begins a line of a block that is no act.
+fn begins_branch(word: &[u8]) -> bool
+    ensures { result ≡ readings.begins_branch word.now }
+{
+    is(word, b"else") || is(word, b"end")
+}
+
 /// Takes a line that is no act.
 fn take_other(
     alloc: Global,
@@ -239,6 +263,9 @@ fn take_other(
     ensures { Takes (readings.other_line config.now reading.old (map (λ word. word.now) words.now))
         reading.old reading.new result }
 {
+    if begins_branch(word_at(words, 0)) {
+        return take_branch(alloc, reading, words);
+    }
     if says(words, 0, b"workers") {
         return take_workers(reading, words);
     }
@@ -269,6 +296,7 @@ fn begins_other(word: &[u8]) -> bool
         || is(word, b"device")
         || is(word, b"race")
         || is(word, b"thread")
+        || begins_branch(word)
 }
 
 /// Whether a word that begins no line stands behind a name.
@@ -277,6 +305,22 @@ fn is_misspelt(words: &[&[u8]]) -> bool
 {
     let parts = parts_of(words);
     parts.name.is_some() && !begins_other(word_at(parts.step, 0))
+}
+
+/// Whether a line is `end` alone.
+fn is_end(words: &[&[u8]]) -> bool
+    ensures { result ≡ readings.is_end (parts_of (map (λ word. word.now) words.now)) }
+{
+    let parts = parts_of(words);
+    says(parts.step, 0, b"end") && !has_word(parts.step, 1) && parts.expected.is_none()
+}
+
+/// Whether a line is one of an act.
+fn is_of_act(words: &[&[u8]]) -> bool
+    ensures { result ≡ readings.is_of_act (parts_of (map (λ word. word.now) words.now)) }
+{
+    let parts = parts_of(words);
+    is_act(word_at(parts.step, 0)) && !is_end(words)
 }
 
 /// Takes a line.
@@ -290,11 +334,11 @@ fn take_line(
     ensures { Takes (readings.line_by config.now reading.old number (map (λ word. word.now) words.now)
         (parts_of (map (λ word. word.now) words.now))) reading.old reading.new result }
 {
-    let parts = parts_of(words);
-    if is_act(word_at(parts.step, 0)) {
+    if is_of_act(words) {
         return take_act(alloc, config, reading, number, words);
     }
     if is_misspelt(words) {
+        let parts = parts_of(words);
         return Err(DriverStop::Wrong(wrong_at(parts.step_at, DriverWanted::Act)));
     }
     if name_in(words).is_some() {
@@ -325,8 +369,8 @@ fn read_words(
     }
 }
 
-/// Reads the lines behind the config.
-pub fn read_lines(
+/// Reads the lines behind the config, one after another.
+fn read_each(
     alloc: Global,
     config: &Config,
     names: &Names,
@@ -344,4 +388,20 @@ pub fn read_lines(
         read_words(alloc, config, names, reading, number, words.as_slice())?;
     }
     Ok(())
+}
+
+/// Reads the lines behind the config. Behind the last of them each block is told that is open.
+pub fn read_lines(
+    alloc: Global,
+    config: &Config,
+    names: &Names,
+    from: Lines<'_>,
+    reading: &mut Reading,
+) -> Result<(), AllocError>
+    ensures { IfOk result (λ _. reading.new
+        ≡ readings.behind_all config.now names.now reading.old
+        (lines_from (from.entry.number + 1) from.entry.rest.now)) }
+{
+    read_each(alloc, config, names, from, reading)?;
+    reading.tell_open(names)
 }

@@ -1,8 +1,8 @@
 //! The names of lines, and of the threads that they are of.
 
-ghost use Rattle.std.specs.Prelude.{◌≡◌, IfOk, None, Some, if◌then◌else◌, map, option_map};
+ghost use Rattle.std.specs.Prelude.{◌≡◌, ◌++◌, IfOk, map, option_map};
 ghost use Rattle.std.specs.List.{list_any};
-ghost use Rattle.sva_driver_words.specs.Awaits.{is_named, last_from, line_seen};
+ghost use Rattle.sva_driver_words.specs.Awaits.{is_named, line_seen};
 ghost use Rattle.sva_driver_texts.specs.Readings as readings;
 
 use std::alloc::{AllocError, Global};
@@ -67,14 +67,47 @@ pub(crate) fn own(alloc: Global, name: Option<&[u8]>) -> Result<Vec<u8>, AllocEr
     }
 }
 
-/// The place of a thread's last line. It looks from the end, where that mostly stands.
-pub(crate) fn last_of(thread: &[u8], lines: &[LineRead]) -> Option<usize>
-    ensures { result ≡ last_from (readings.is_of_thread thread.now) 0 None (map line_seen lines.now) }
+/// Whether an act is an endpoint's.
+fn is_of_endpoint(word: &[u8]) -> bool
+    ensures { result ≡ readings.is_of_endpoint word.now }
 {
-    for place in (0..lines.len()).rev() {
-        if is(lines[place].thread.as_slice(), thread) {
-            return Some(place);
-        }
+    is(word, b"ask")
+        || is(word, b"use")
+        || is(word, b"end")
+        || is(word, b"evict")
+        || is(word, b"fault")
+        || is(word, b"finish")
+        || is(word, b"quit")
+}
+
+/// Whether an act is a unit's.
+fn is_of_unit(word: &[u8]) -> bool
+    ensures { result ≡ readings.is_of_unit word.now }
+{
+    is(word, b"pump") || is(word, b"write") || is(word, b"forget")
+}
+
+/// A role with the number of who has it.
+fn numbered(alloc: Global, role: &[u8], number: &[u8]) -> Result<Vec<u8>, AllocError>
+    ensures { IfOk result (λ name. name.items ≡ role.now ++ number.now) }
+{
+    let mut name = Vec::from_slice(alloc, role)?;
+    name.extend_from_slice(number)?;
+    Ok(name)
+}
+
+/// The thread of an act by its role.
+pub(crate) fn role_of(alloc: Global, word: &[u8], first: &[u8]) -> Result<Vec<u8>, AllocError>
+    ensures { IfOk result (λ name. name.items ≡ readings.role_of word.now first.now) }
+{
+    if is_of_endpoint(word) {
+        return numbered(alloc, b"endpoint ", first);
     }
-    None
+    if is_of_unit(word) {
+        return numbered(alloc, b"unit ", first);
+    }
+    if is(word, b"deliver") {
+        return Vec::from_slice(alloc, b"link");
+    }
+    Vec::from_slice(alloc, b"host")
 }

@@ -72,14 +72,14 @@ fn need_named(named: &Named) -> Need
     }
 }
 
-/// What a line needs. A line above was taken already.
+/// What a line needs. A line above was taken already. One that sets a flag or looks is always permitted.
 pub(crate) fn need_of(saying: &Saying) -> Need
     ensures { result ≡ need_of saying.now }
 {
     match saying {
         Saying::Does { act } => need_of_act(act),
         Saying::Names { named, .. } => need_named(named),
-        Saying::AwaitsLine { .. } => Need::Nothing,
+        Saying::AwaitsLine { .. } | Saying::Sets { .. } | Saying::Looks { .. } => Need::Nothing,
         Saying::AwaitsWaits { .. } => Need::Done,
         Saying::Locks { .. } => Need::FreeLock,
         Saying::Unlocks { .. } => Need::TakenLock,

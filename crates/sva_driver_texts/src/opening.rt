@@ -1,17 +1,19 @@
 //! The driver of what was read, before its first line.
 
-ghost use Rattle.std.specs.Prelude.{◌≡◌, IfOk, false, map, replicate};
+ghost use Rattle.std.specs.Prelude.{◌≡◌, IfOk, None, false, length, map, replicate, slice_index_or};
 ghost use Rattle.sva_open.specs.World.{opened};
 ghost use Rattle.sva_driver_words.specs.Awaits.{line_seen};
 ghost use Rattle.sva_driver_texts.specs.Devices.{device_seen};
 ghost use Rattle.sva_driver_texts.specs.Texts as texts;
 ghost use Rattle.sva_driver_texts.specs.Texts.{conduct_of};
+ghost use Rattle.sva_driver_texts.specs.Ways.{way_seen};
 
 use crate::kept::Said;
 use crate::kept_of_endpoints::DeviceRead;
 use crate::pasids::pasids_of;
 use crate::plans::all_planned;
 use crate::readings::Reading;
+use crate::ways::{Way, ways_of};
 use std::alloc::{AllocError, Global};
 use sva_driver_words::LineRead;
 use sva_open::{Conduct, Driver, Line, Open, Settings, Workers};
@@ -86,10 +88,30 @@ fn with_workers(settings: Settings, workers: Workers) -> Settings
     }
 }
 
-/// The lines, as they are judged, and what is told of each.
-fn lines_of(alloc: Global, read: Vec<LineRead>) -> Result<(Vec<Line>, Vec<Said>), AllocError>
+/// The way of the line at a place.
+fn way_at(ways: &[Way], place: usize) -> Way
+    ensures { result ≡ slice_index_or ways.now place (record { thread = 0; next = None; other = None }) }
+{
+    match ways.get(place) {
+        Some(way) => *way,
+        None => Way {
+            thread: 0,
+            next: None,
+            other: None,
+        },
+    }
+}
+
+/// The lines, as they are judged, each with its way, and what is told of each.
+fn lines_of(
+    alloc: Global,
+    read: Vec<LineRead>,
+    ways: &[Way],
+) -> Result<(Vec<Line>, Vec<Said>), AllocError>
+    requires { length ways.now ≡ length read.items }
     ensures lines { IfOk result (λ lists. map texts.done_seen lists.0.items
         ≡ map (λ line. texts.done_of (line_seen line)) read.items) }
+    ensures ways { IfOk result (λ lists. map way_seen lists.0.items ≡ ways.now) }
     ensures said { IfOk result (λ lists. map texts.told_seen lists.1.items
         ≡ map (λ line. texts.told_of (line_seen line)) read.items) }
 {
@@ -98,15 +120,18 @@ fn lines_of(alloc: Global, read: Vec<LineRead>) -> Result<(Vec<Line>, Vec<Said>)
     for line in read {
         let LineRead {
             number,
-            after,
+            under: _,
             name: _,
             thread,
             text,
             saying,
         } = line;
+        let way = way_at(ways, lines.len());
         lines.push(Line {
             number,
-            after,
+            thread: way.thread,
+            next: way.next,
+            other: way.other,
             saying,
         })?;
         all.push(Said { thread, text })?;
@@ -129,6 +154,8 @@ pub fn opening_of(
         lines: read,
         before: _,
         locks,
+        flags,
+        blocks: _,
         settings,
         set: _,
         workers,
@@ -143,14 +170,18 @@ pub fn opening_of(
     let start = opened_by(alloc, config, settings, own, pasids)?;
     let devices = all_planned(alloc, acts, own)?;
     let taken = falses(alloc, acts.len())?;
+    let (at, ways) = ways_of(alloc, acts)?;
     let locked = falses(alloc, locks.len())?;
-    let (lines, said) = lines_of(alloc, read)?;
+    let flags = falses(alloc, flags.len())?;
+    let (lines, said) = lines_of(alloc, read, ways.as_slice())?;
     Ok((
         Driver {
             start,
             lines,
             taken,
+            at,
             locked,
+            flags,
             devices,
             workers,
         },

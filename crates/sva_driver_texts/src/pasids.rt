@@ -6,7 +6,7 @@ ghost use Rattle.sva_driver_words.specs.Sayings.{saying_seen};
 ghost use Rattle.sva_driver_texts.specs.Pasids as seen;
 
 use sva_driver_words::LineRead;
-use sva_open::{Act, LocalAct, Saying};
+use sva_open::{Act, Condition, LocalAct, Saying};
 
 /// No PASID is as high: they are 0 to 32.
 const PASIDS_END: usize = 33;
@@ -62,6 +62,19 @@ fn pasid_of(act: &LocalAct) -> usize
     }
 }
 
+/// The same of what a line looks at.
+fn pasid_looked_at(condition: Condition) -> usize
+    ensures { result ≡ seen.pasid_looked_at condition }
+{
+    match condition {
+        Condition::Flag { .. } => 0,
+        Condition::Present { pasid, .. } => pasid,
+        Condition::Stopped { pasid, .. } => pasid,
+        Condition::Filed { pasid, .. } => or_zero(pasid),
+        Condition::Queued { pasid, .. } => or_zero(pasid),
+    }
+}
+
 /// The same of what a line says.
 fn pasid_at(saying: &Saying) -> usize
     ensures { result ≡ seen.pasid_at (saying_seen saying.now) }
@@ -81,7 +94,9 @@ fn pasid_at(saying: &Saying) -> usize
         | Saying::AwaitsLine { .. }
         | Saying::AwaitsWaits { .. }
         | Saying::Locks { .. }
-        | Saying::Unlocks { .. } => 0,
+        | Saying::Unlocks { .. }
+        | Saying::Sets { .. } => 0,
+        Saying::Looks { condition, .. } => pasid_looked_at(*condition),
     }
 }
 

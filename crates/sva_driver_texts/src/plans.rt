@@ -55,7 +55,9 @@ fn page_set(saying: &Saying) -> Option<u64>
         | Saying::AwaitsLine { .. }
         | Saying::AwaitsWaits { .. }
         | Saying::Locks { .. }
-        | Saying::Unlocks { .. } => None,
+        | Saying::Unlocks { .. }
+        | Saying::Sets { .. }
+        | Saying::Looks { .. } => None,
     }
 }
 
@@ -131,7 +133,9 @@ fn started_at(endpoint: usize, saying: &Saying) -> Option<u64>
         | Saying::AwaitsLine { .. }
         | Saying::AwaitsWaits { .. }
         | Saying::Locks { .. }
-        | Saying::Unlocks { .. } => None,
+        | Saying::Unlocks { .. }
+        | Saying::Sets { .. }
+        | Saying::Looks { .. } => None,
     }
 }
 

@@ -1,22 +1,22 @@
 //! What is read of a driver, line by line.
 
-ghost use Rattle.std.specs.Prelude.{◌≡◌, ◌++◌, ◌∷◌, [], IfOk, None, Some, is_some, length, map, nat_lt, option_map};
+ghost use Rattle.std.specs.Prelude.{◌≡◌, ◌++◌, ◌∷◌, [], IfOk, Some, is_some, length, map, nat_lt, option_map};
 ghost use Rattle.std.specs.Prelude.{replicate, slice_get, slice_set, true};
 ghost use Rattle.std.specs.List.{list_any};
 ghost use Rattle.std.specs.Str.{bytes_eq};
-ghost use Rattle.sva_driver_words.specs.Awaits.{last_from};
 ghost use Rattle.sva_driver_words.specs.Says.{is_lock_word};
 ghost use Rattle.sva_driver_words.specs.Sayings.{saying_seen};
 ghost use Rattle.sva_driver_words.specs.Taking.{Gives};
 ghost use Rattle.sva_driver_texts.specs.Devices.{device_seen, setting_line, untold};
 ghost use Rattle.sva_driver_texts.specs.Readings as readings;
 
+use crate::blocks::Block;
 use crate::kept_of_endpoints::DeviceRead;
-use crate::names::{judge_name, last_of, own};
+use crate::names::{judge_name, own, role_of};
 use crate::settings::setting_line;
 use std::alloc::{AllocError, Global};
 use std::marker::Model;
-use sva_driver_words::{DriverStop, DriverWrong, LineRead, put_fault, read_saying};
+use sva_driver_words::{DriverStop, DriverWrong, LineRead, Under, put_fault, read_saying};
 use sva_open::{Budget, Link, Saying, Settings, Stopped, Workers};
 use sva_race_texts::{joined, word_at};
 use sva_script::{Names, is};
@@ -35,6 +35,10 @@ pub struct Reading {
     pub before: usize,
     /// The locks that they name.
     pub locks: Vec<Vec<u8>>,
+    /// The flags that they name.
+    pub flags: Vec<Vec<u8>>,
+    /// The blocks that are open, the outermost of a thread first.
+    pub blocks: Vec<Block>,
     /// The settings.
     pub settings: Settings,
     /// The words of those that were said.
@@ -50,6 +54,7 @@ pub struct Reading {
 impl Model for Reading {
     ghost use Rattle.std.specs.Prelude.{map};
     ghost use Rattle.sva_driver_words.specs.Awaits.{line_seen};
+    ghost use Rattle.sva_driver_texts.specs.Blocks.{block_seen};
     ghost use Rattle.sva_driver_texts.specs.Devices.{device_seen};
     ghost use Rattle.sva_driver_texts.specs.Readings as readings;
 
@@ -61,6 +66,8 @@ impl Model for Reading {
       lines = map line_seen reading.lines.items;
       before = reading.before;
       locks = map (λ lock. lock.items) reading.locks.items;
+      flags = map (λ flag. flag.items) reading.flags.items;
+      blocks = map block_seen reading.blocks.items;
       settings = reading.settings;
       set = map (λ word. word.items) reading.set.items;
       workers = reading.workers;
@@ -115,53 +122,8 @@ fn all_untold(alloc: Global, count: usize) -> Result<Vec<DeviceRead>, AllocError
     Ok(devices)
 }
 
-/// Whether an act is an endpoint's.
-fn is_of_endpoint(word: &[u8]) -> bool
-    ensures { result ≡ readings.is_of_endpoint word.now }
-{
-    is(word, b"ask")
-        || is(word, b"use")
-        || is(word, b"end")
-        || is(word, b"evict")
-        || is(word, b"fault")
-        || is(word, b"finish")
-        || is(word, b"quit")
-}
-
-/// Whether an act is a unit's.
-fn is_of_unit(word: &[u8]) -> bool
-    ensures { result ≡ readings.is_of_unit word.now }
-{
-    is(word, b"pump") || is(word, b"write") || is(word, b"forget")
-}
-
-/// A role with the number of who has it.
-fn numbered(alloc: Global, role: &[u8], number: &[u8]) -> Result<Vec<u8>, AllocError>
-    ensures { IfOk result (λ name. name.items ≡ role.now ++ number.now) }
-{
-    let mut name = Vec::from_slice(alloc, role)?;
-    name.extend_from_slice(number)?;
-    Ok(name)
-}
-
-/// The thread of an act by its role.
-fn role_of(alloc: Global, word: &[u8], first: &[u8]) -> Result<Vec<u8>, AllocError>
-    ensures { IfOk result (λ name. name.items ≡ readings.role_of word.now first.now) }
-{
-    if is_of_endpoint(word) {
-        return numbered(alloc, b"endpoint ", first);
-    }
-    if is_of_unit(word) {
-        return numbered(alloc, b"unit ", first);
-    }
-    if is(word, b"deliver") {
-        return Vec::from_slice(alloc, b"link");
-    }
-    Vec::from_slice(alloc, b"host")
-}
-
 /// Whether a word is among words that are kept.
-fn is_among(words: &[Vec<u8>], word: &[u8]) -> bool
+pub(crate) fn is_among(words: &[Vec<u8>], word: &[u8]) -> bool
     ensures { result ≡ list_any (λ own. bytes_eq own.items word.now) words.now }
 {
     words.iter().any(|own| is(own.as_slice(), word))
@@ -185,6 +147,8 @@ impl Reading {
             lines: Vec::new(alloc),
             before: 0,
             locks: Vec::new(alloc),
+            flags: Vec::new(alloc),
+            blocks: Vec::new(alloc),
             settings: Settings {
                 link: Link::Free,
                 all_fence: true,
@@ -243,7 +207,7 @@ impl Reading {
     fn push_line(
         &mut self,
         number: u64,
-        after: Option<usize>,
+        under: Vec<Under>,
         name: Vec<u8>,
         thread: Vec<u8>,
         text: Vec<u8>,
@@ -252,7 +216,7 @@ impl Reading {
         ensures { IfOk result (λ _. self.new ≡ record self.old {
           lines = self.old.lines ++ (record {
             number = number;
-            after = after;
+            under = under.items;
             name = name.items;
             thread = thread.items;
             text = text.items;
@@ -262,7 +226,7 @@ impl Reading {
     {
         self.lines.push(LineRead {
             number,
-            after,
+            under,
             name,
             thread,
             text,
@@ -278,6 +242,31 @@ impl Reading {
         judge_name(self.lines.as_slice(), name)
     }
 
+    /// What the words of an act say that stands in these blocks, or what is wrong with them by their own places.
+    fn saying_under(
+        &self,
+        alloc: Global,
+        config: &Config,
+        under: &[Under],
+        thread: &[u8],
+        words: &[&[u8]],
+    ) -> Result<Saying, DriverStop>
+        ensures { Gives saying_seen (readings.saying_under config.now self.now under.now thread.now
+            (map (λ word. word.now) words.now)) result }
+    {
+        read_saying(
+            alloc,
+            config,
+            self.lines.as_slice(),
+            self.locks.as_slice(),
+            self.flags.as_slice(),
+            under,
+            thread,
+            words,
+            word_at(words, 0),
+        )
+    }
+
     /// What the words of an act say, or what is wrong with them by their own places.
     pub(crate) fn saying_in(
         &self,
@@ -289,22 +278,11 @@ impl Reading {
         ensures { Gives saying_seen (readings.saying_in config.now self.now thread.now
             (map (λ word. word.now) words.now)) result }
     {
-        read_saying(
-            alloc,
-            config,
-            self.lines.as_slice(),
-            self.locks.as_slice(),
-            thread,
-            words,
-            word_at(words, 0),
-        )
-    }
-
-    /// The place of a thread's last line.
-    fn last_of(&self, thread: &[u8]) -> Option<usize>
-        ensures { result ≡ last_from (readings.is_of_thread thread.now) 0 None self.now.lines }
-    {
-        last_of(thread, self.lines.as_slice())
+        let under = match self.under_of(alloc, thread) {
+            Ok(under) => under,
+            Err(_) => return Err(DriverStop::Memory),
+        };
+        self.saying_under(alloc, config, under.as_slice(), thread, words)
     }
 
     /// Notes the lock that a line names.
@@ -317,7 +295,7 @@ impl Reading {
         Ok(())
     }
 
-    /// Adds the line of an act, and notes the lock that it names.
+    /// Adds the line of an act, and notes what it names or opens.
     pub(crate) fn add(
         &mut self,
         alloc: Global,
@@ -331,11 +309,13 @@ impl Reading {
             (readings.name_of (option_map (λ name. name.now) name.entry)) thread.items
             (map (λ word. word.now) words.now) (saying_seen saying)) }
     {
-        let after = self.last_of(thread.as_slice());
+        let under = self.under_of(alloc, thread.as_slice())?;
         let own = own(alloc, name)?;
         let text = joined(alloc, words)?;
         self.note_lock(alloc, words)?;
-        self.push_line(number, after, own, thread, text, saying)
+        self.note_flag(alloc, words)?;
+        self.note_block(alloc, thread.as_slice(), number, words)?;
+        self.push_line(number, under, own, thread, text, saying)
     }
 
     /// Whether a line of an act was read.
@@ -346,7 +326,7 @@ impl Reading {
     }
 
     /// How many lines of acts were read.
-    fn count(&self) -> usize
+    pub(crate) fn count(&self) -> usize
         ensures { result ≡ length self.now.lines }
     {
         self.lines.len()

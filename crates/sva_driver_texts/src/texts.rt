@@ -14,7 +14,7 @@ use crate::opening::opening_of;
 use crate::readings::Reading;
 use std::alloc::{AllocError, Global};
 use sva_driver_words::{DriverWanted, put_fault, wrong_at};
-use sva_judge::Spot;
+use sva_judge::{Spot, start};
 use sva_open::{Driver, Line};
 use sva_race_texts::{RaceWanted, put_limits};
 use sva_script::{Names, name_in, split};
@@ -177,29 +177,36 @@ fn behind(opening: Driver, spot: Spot) -> Driver
         start: _,
         lines,
         taken: _,
+        at: _,
         locked: _,
+        flags: _,
         devices,
         workers,
     } = opening;
     let Spot {
         world,
         taken,
+        at,
         locked,
+        flags,
         left: _,
     } = spot;
     Driver {
         start: world,
         lines,
         taken,
+        at,
         locked,
+        flags,
         devices,
         workers,
     }
 }
 
 /// What was read, behind the lines before `race`.
-fn text_of(read: Read, spot: Spot) -> Text
+fn text_of(read: Read, opened: Spot, spot: Spot) -> Text
     ensures config { result.config ≡ read.config }
+    ensures opened { result.opened ≡ opened }
     ensures before { result.before ≡ read.before }
     ensures said { result.said ≡ read.said }
     ensures driver { texts.IsBehind read.opening spot result.driver }
@@ -216,6 +223,7 @@ fn text_of(read: Read, spot: Spot) -> Text
     Text {
         config,
         driver: behind(opening, spot),
+        opened,
         before,
         said,
     }
@@ -231,9 +239,12 @@ fn take_first(alloc: Global, read: Read, out: &mut Vec<u8>) -> Result<Begun, All
         return Ok(Begun::Faulted);
     }
     match take_lines(alloc, &read.opening, read.before)? {
-        Ok(spot) => Ok(Begun::Stands {
-            text: text_of(read, spot),
-        }),
+        Ok(spot) => {
+            let opened = start(alloc, &read.opening)?;
+            Ok(Begun::Stands {
+                text: text_of(read, opened, spot),
+            })
+        }
         Err(Halt::Refused { place }) => {
             put_refused(alloc, &read, place, out)?;
             Ok(Begun::Faulted)

@@ -1,4 +1,4 @@
 pub mod FaultLemmas
 pub mod Lasts
-pub mod Locks
+pub mod Places
 pub mod PieceLemmas

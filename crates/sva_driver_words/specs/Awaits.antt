@@ -1,7 +1,7 @@
 -- What a line awaits.
-use Rattle.std.specs.Prelude.{ℕ, ◌+◌, ◌==◌, ◌&&◌, if◌then◌else◌, Bool, true, false, List, [], ◌∷◌, codes, position, slice_get, Option, Some, None}
+use Rattle.std.specs.Prelude.{ℕ, ◌+◌, ◌==◌, ◌&&◌, not, if◌then◌else◌, Bool, true, false, List, [], ◌∷◌, codes, position, slice_get, Option, Some, None}
 use Rattle.std.specs.Prelude.{Result, Ok}
-use Rattle.std.specs.List.{list_any}
+use Rattle.std.specs.List.{list_all, list_any}
 use Rattle.std.specs.Str.{bytes_eq}
 use Rattle.sva_step.specs.declared.limits.Config.{Config}
 use Rattle.sva_grammar.specs.Grammar.{◌>>=◌}
@@ -14,14 +14,16 @@ use Rattle.sva_driver_words.specs.Fields.{endpoint_at, has_word, pasid_at, says,
 use Rattle.sva_driver_words.specs.Sayings.{SayingSaid, did, saying_seen}
 use Rattle.sva_driver_words.specs.Sayings.SayingSaid.{SubmitsSaid, AwaitsLineSaid, AwaitsWaitsSaid}
 use Rattle.sva_driver_words.specs.declared.kept.LineRead.{LineRead}
+use Rattle.sva_driver_words.specs.declared.kept.Under.{Under}
+use Rattle.sva_driver_words.specs.declared.faults.BranchWanted.TheVariants as branch
 use Rattle.sva_driver_words.specs.declared.faults.DriverWanted.TheVariants as wanted
 use Rattle.sva_driver_words.specs.declared.faults.DriverWrong.{DriverWrong}
 
--- a line that was read: its number, the place of the line of its thread before it, its name and its thread, which may be empty, its
--- words behind its name, and what it says
+-- a line that was read: its number, the blocks in which it stands, the outermost first, its name and its thread, which may be empty,
+-- its words behind its name, and what it says
 pub record LineSaid : Type 0 where
   pub number : ℕ
-  pub after : Option ℕ
+  pub under : List Under
   pub name : List ℕ
   pub thread : List ℕ
   pub text : List ℕ
@@ -31,7 +33,7 @@ pub record LineSaid : Type 0 where
 abbrev pub line_seen : LineRead → LineSaid
 line_seen line = record {
   number = line.number;
-  after = line.after;
+  under = line.under.items;
   name = line.name.items;
   thread = line.thread.items;
   text = line.text.items;
@@ -56,24 +58,39 @@ is_endpoint endpoint (Some own) = own == endpoint
 abbrev pub submits_there : (thread : List ℕ) → (endpoint : ℕ) → LineSaid → Bool
 submits_there thread endpoint line = bytes_eq line.thread thread && is_endpoint endpoint (wait_at line.saying)
 
--- the place of the last line that is such, or the one found before
-unfoldable pub last_from : (LineSaid → Bool) → (place : ℕ) → (found : Option ℕ) → List LineSaid → Option ℕ
+-- the place of the last one that is such, or the one found before
+unfoldable pub last_from : {A : Type 0} → (A → Bool) → (place : ℕ) → (found : Option ℕ) → List A → Option ℕ
 last_from is_such place found [] = found
 last_from is_such place found (line ∷ lines) = last_from is_such (place + 1) (if is_such line then Some place else found) lines
 
 abbrev pub last_wait : (thread : List ℕ) → (endpoint : ℕ) → List LineSaid → Option ℕ
 last_wait thread endpoint lines = last_from (submits_there thread endpoint) 0 None lines
 
--- `await wait E`: the last wait that a line above in this thread submitted there
-abbrev pub awaits_last : (endpoint : ℕ) → Option ℕ → Result SayingSaid DriverWrong
-awaits_last endpoint None = wrong_at 2 wanted.WaitAbove
-awaits_last endpoint (Some place) = Ok (AwaitsWaitsSaid endpoint place)
+-- does a line that stands in these blocks stand in that one?
+abbrev pub is_block : Under → Under → Bool
+is_block block own = own.line == block.line && (if block.so then own.so else not own.so)
 
-abbrev pub await_wait : Config → (thread : List ℕ) → List LineSaid → List (List ℕ) → Result SayingSaid DriverWrong
-await_wait config thread lines words = do
+abbrev pub stands_in : (under : List Under) → Under → Bool
+stands_in under block = list_any (is_block block) under
+
+-- does a line that stands in these blocks stand in each block in which the other one stands?
+abbrev pub stands_with : (under : List Under) → Option LineSaid → Bool
+stands_with under None = false
+stands_with under (Some line) = list_all (stands_in under) line.under
+
+-- `await wait E`: the last wait that a line above in this thread submitted there; it is submitted on each way to here
+abbrev pub awaits_last : (endpoint : ℕ) → (under : List Under) → List LineSaid → Option ℕ → Result SayingSaid DriverWrong
+awaits_last endpoint under lines None = wrong_at 2 wanted.WaitAbove
+awaits_last endpoint under lines (Some place) =
+    if stands_with under (slice_get lines place)
+    then Ok (AwaitsWaitsSaid endpoint place)
+    else wrong_at 2 (wanted.Branch branch.OnEachWay)
+
+abbrev pub await_wait : Config → (under : List Under) → (thread : List ℕ) → List LineSaid → List (List ℕ) → Result SayingSaid DriverWrong
+await_wait config under thread lines words = do
   endpoint ← endpoint_at config 2 words
   _ ← no_more 3 words
-  awaits_last endpoint (last_wait thread endpoint lines)
+  awaits_last endpoint under lines (last_wait thread endpoint lines)
 
 -- ---- `await NAME`, of a line above: its waits, if it submits some; else that it was taken
 
@@ -134,9 +151,9 @@ await_reset config words = do
   _ ← no_more 3 words
   Ok (did endpoint local.AwaitResets)
 
-abbrev pub await_line : Config → (thread : List ℕ) → List LineSaid → List (List ℕ) → Result SayingSaid DriverWrong
-await_line config thread lines words =
-    if says 1 (codes "wait") words then await_wait config thread lines words else
+abbrev pub await_line : Config → (under : List Under) → (thread : List ℕ) → List LineSaid → List (List ℕ) → Result SayingSaid DriverWrong
+await_line config under thread lines words =
+    if says 1 (codes "wait") words then await_wait config under thread lines words else
     if says 1 (codes "stopped") words then await_stopped config words else
     if says 1 (codes "queue") words then await_queue config words else
     if says 1 (codes "groups") words then await_groups config words else

@@ -8,6 +8,8 @@ use Rattle.sva_script.specs.Near.{near_among}
 use Rattle.sva_script.specs.Reserved.{kind_words}
 use Rattle.sva_race_texts.specs.Faults as races
 use Rattle.sva_race_texts.specs.declared.faults.RaceWanted.TheVariants as race
+use Rattle.sva_driver_words.specs.declared.faults.BranchWanted.{BranchWanted}
+use Rattle.sva_driver_words.specs.declared.faults.BranchWanted.TheVariants as branch
 use Rattle.sva_driver_words.specs.declared.faults.DriverWanted.{DriverWanted}
 use Rattle.sva_driver_words.specs.declared.faults.DriverWanted.TheVariants as wanted
 use Rattle.sva_driver_words.specs.declared.faults.SubmitWanted.{SubmitWanted}
@@ -38,6 +40,18 @@ submit_text submit.PageOrPlus = codes "the number of a page or +"
 submit_text submit.FlagOrPlus = codes "drain, fence or +"
 submit_text submit.FenceOrPlus = codes "fence or +"
 submit_text submit.DrainOrPlus = codes "drain or +"
+
+-- of a line of a branch, or of one that names a flag
+abbrev pub branch_text : BranchWanted → List ℕ
+branch_text branch.Flag = codes "the name of a flag"
+branch_text branch.Condition = codes "a flag, not, present, stopped, filed or queued"
+branch_text branch.BehindNot = codes "a flag, present, stopped, filed or queued"
+branch_text branch.Longer = codes "a condition of more words, or no word behind a flag"
+branch_text branch.Few = codes "no more than 16 blocks within one another"
+branch_text branch.OnEachWay = codes "an endpoint whose last wait above in this thread is submitted on each way to here"
+branch_text branch.If = codes "an if above in this thread"
+branch_text branch.NoElse = codes "no second else"
+branch_text branch.End = codes "an end below in this thread"
 
 abbrev pub wanted_text : DriverWanted → List ℕ
 wanted_text (wanted.Race want) = codes ""
@@ -78,6 +92,7 @@ wanted_text wanted.Descriptor = codes "range, pasid, iotlb, entry or wait"
 wanted_text wanted.Awaited = codes "wait, stopped, queue, groups, reset or the name of a line above"
 wanted_text wanted.WaitAbove = codes "an endpoint at which a line above in this thread submits a wait"
 wanted_text wanted.Lock = codes "the name of a lock"
+wanted_text (wanted.Branch want) = branch_text want
 wanted_text wanted.Part = codes "a number, 0 to 65535, evicts, silent, lies, awaits or pages"
 wanted_text wanted.Counted = codes "asks, uses or faults"
 wanted_text (wanted.Permitted need) = codes "an act that is permitted now"
@@ -89,7 +104,8 @@ act_words =
     codes "pte" ∷ codes "entry" ∷ codes "replace" ∷ codes "start" ∷ codes "stop" ∷ codes "reset" ∷ codes "submit" ∷
     codes "await" ∷ codes "serve" ∷ codes "respond" ∷ codes "discard" ∷ codes "close" ∷ codes "open" ∷ codes "skip" ∷ codes "free" ∷
     codes "freeze" ∷ codes "lock" ∷ codes "unlock" ∷ codes "mark" ∷ codes "ask" ∷ codes "use" ∷ codes "end" ∷
-    codes "evict" ∷ codes "fault" ∷ codes "finish" ∷ codes "quit" ∷ codes "pump" ∷ codes "write" ∷ codes "deliver" ∷ codes "forget" ∷ []
+    codes "evict" ∷ codes "fault" ∷ codes "finish" ∷ codes "quit" ∷ codes "pump" ∷ codes "write" ∷ codes "deliver" ∷ codes "forget" ∷
+    codes "set" ∷ codes "clear" ∷ codes "if" ∷ []
 
 unfoldable pub setting_words : List (List ℕ)
 setting_words =
@@ -102,10 +118,10 @@ platform_words = codes "vt-d" ∷ codes "free" ∷ []
 
 -- the words that begin another line before `race`, and behind it
 unfoldable pub before_words : List (List ℕ)
-before_words = codes "workers" ∷ codes "device" ∷ codes "race" ∷ []
+before_words = codes "workers" ∷ codes "device" ∷ codes "race" ∷ codes "else" ∷ []
 
 unfoldable pub behind_words : List (List ℕ)
-behind_words = codes "thread" ∷ codes "workers" ∷ codes "device" ∷ []
+behind_words = codes "thread" ∷ codes "workers" ∷ codes "device" ∷ codes "else" ∷ []
 
 -- the kinds of messages that scripts don't have
 unfoldable pub more_kind_words : List (List ℕ)
@@ -122,6 +138,17 @@ freed_words = codes "space" ∷ codes "domain" ∷ codes "pasid" ∷ []
 unfoldable pub awaited_words : List (List ℕ)
 awaited_words = codes "wait" ∷ codes "stopped" ∷ codes "queue" ∷ codes "groups" ∷ codes "reset" ∷ []
 
+-- the words that stand behind `if`, where a flag doesn't
+unfoldable pub condition_words : List (List ℕ)
+condition_words = codes "not" ∷ codes "present" ∷ codes "stopped" ∷ codes "filed" ∷ codes "queued" ∷ []
+
+-- where what is looked at was wanted
+abbrev pub near_branch : (word : List ℕ) → BranchWanted → Option (List ℕ)
+near_branch word branch.Condition = near_among condition_words word
+near_branch word branch.BehindNot = near_among condition_words word
+near_branch word branch.Longer = near_among condition_words word
+near_branch word _ = None
+
 -- the word that is near to the wrong one, of those that were wanted
 abbrev pub near_wanted : Known → (word : List ℕ) → DriverWanted → Option (List ℕ)
 near_wanted known word wanted.Before =
@@ -133,6 +160,7 @@ near_wanted known word wanted.Kind = or_else (near_among kind_words word) (near_
 near_wanted known word wanted.Descriptor = near_among descriptor_words word
 near_wanted known word wanted.Freed = near_among freed_words word
 near_wanted known word wanted.Awaited = or_else (near_name known word) (near_among awaited_words word)
+near_wanted known word (wanted.Branch want) = near_branch word want
 near_wanted known word _ = None
 
 -- of an act that isn't permitted it is told what it needs

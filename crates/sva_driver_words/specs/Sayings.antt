@@ -8,6 +8,7 @@ use Rattle.sva_open.specs.declared.acts.Act.TheVariants as act
 use Rattle.sva_open.specs.declared.acts.LocalAct.{LocalAct}
 use Rattle.sva_open.specs.declared.acts.LocalAct.TheVariants as local
 use Rattle.sva_open.specs.declared.descriptors.Descriptor.{Descriptor}
+use Rattle.sva_open.specs.declared.drivers.Condition.{Condition}
 use Rattle.sva_open.specs.declared.drivers.Saying.{Saying}
 use Rattle.sva_open.specs.declared.drivers.Saying.TheVariants as saying
 use Rattle.sva_open.specs.declared.naming.Named.{Named}
@@ -29,6 +30,8 @@ pub data SayingSaid : Type 0 where
   AwaitsWaitsSaid : (endpoint line : ℕ) → SayingSaid
   LocksSaid : (lock : ℕ) → SayingSaid
   UnlocksSaid : (lock : ℕ) → SayingSaid
+  SetsSaid : (flag : ℕ) → (on : Bool) → SayingSaid
+  LooksSaid : Condition → (so : Bool) → SayingSaid
 
 abbrev pub act_seen : Act → SayingSaid
 act_seen (act.At endpoint (local.Submit descriptors)) = SubmitsSaid endpoint descriptors.items
@@ -41,6 +44,8 @@ saying_seen (saying.AwaitsLine line) = AwaitsLineSaid line
 saying_seen (saying.AwaitsWaits endpoint line) = AwaitsWaitsSaid endpoint line
 saying_seen (saying.Locks lock) = LocksSaid lock
 saying_seen (saying.Unlocks lock) = UnlocksSaid lock
+saying_seen (saying.Sets flag on) = SetsSaid flag on
+saying_seen (saying.Looks condition so) = LooksSaid condition so
 
 -- what was read, seen so
 abbrev pub read_seen : Result Saying DriverWrong → Result SayingSaid DriverWrong

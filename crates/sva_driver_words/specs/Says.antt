@@ -1,29 +1,37 @@
--- What the line of an act says, with the lines above it and the locks that they name.
-use Rattle.std.specs.Prelude.{ℕ, ◌||◌, ◌&&◌, not, if◌then◌else◌, Bool, List, [], ◌∷◌, ◌++◌, codes, length, position, Result, Ok}
+-- What the line of an act says, with the lines above it and the locks and flags that they name.
+use Rattle.std.specs.Prelude.{ℕ, ◌+◌, ◌||◌, ◌&&◌, not, if◌then◌else◌, Bool, true, false, List, [], ◌∷◌, ◌++◌, codes, length, position, nat_le}
+use Rattle.std.specs.Prelude.{Option, Result, Ok}
 use Rattle.std.specs.List.{list_any}
 use Rattle.std.specs.Option.{unwrap_or}
 use Rattle.std.specs.Str.{bytes_eq}
 use Rattle.sva_step.specs.declared.limits.Config.{Config}
 use Rattle.sva_grammar.specs.Grammar.{◌>>=◌}
+use Rattle.sva_open.specs.declared.drivers.Condition.{Condition}
+use Rattle.sva_open.specs.declared.drivers.Condition.TheVariants as condition
 use Rattle.sva_script.specs.Names.{is_name}
 use Rattle.sva_race_texts.specs.Words.{word_at}
 use Rattle.sva_driver_words.specs.Faults.{act_words, wrong_at, no_more}
+use Rattle.sva_driver_words.specs.Fields.{endpoint_at, has_word, pasid_at, says, some_pasid_at}
+use Rattle.sva_driver_words.specs.declared.faults.BranchWanted.{BranchWanted}
+use Rattle.sva_driver_words.specs.declared.faults.BranchWanted.TheVariants as branch
 use Rattle.sva_driver_words.specs.declared.faults.DriverWanted.TheVariants as wanted
+use Rattle.sva_driver_words.specs.declared.kept.Under.{Under}
 use Rattle.sva_driver_words.specs.declared.faults.DriverWrong.{DriverWrong}
 use Rattle.sva_driver_words.specs.Awaits.{LineSaid, await_line}
 use Rattle.sva_driver_words.specs.Descriptors.{submit_line}
 use Rattle.sva_driver_words.specs.Sayings.{SayingSaid, deliver_line, discard_line, end_line, endpoint_line, entry_line, fault_line, finish_line, forget_line}
 use Rattle.sva_driver_words.specs.Sayings.{free_line, freeze_line, mark_line, page_line, pasid_line, replace_line, respond_line, table_line}
 use Rattle.sva_driver_words.specs.Sayings.{takes_endpoint, takes_page, takes_pasid}
-use Rattle.sva_driver_words.specs.Sayings.SayingSaid.{LocksSaid, UnlocksSaid}
+use Rattle.sva_driver_words.specs.Sayings.SayingSaid.{LocksSaid, LooksSaid, SetsSaid, UnlocksSaid}
 
 -- ---- Locks
 
 abbrev pub is_lock_word : (word : List ℕ) → Bool
 is_lock_word word = bytes_eq word (codes "lock") || bytes_eq word (codes "unlock")
 
-abbrev pub lock_at : List (List ℕ) → (name : List ℕ) → ℕ
-lock_at locks name = unwrap_or (position (λ own. bytes_eq own name) locks) (length locks)
+-- the place of a lock or of a flag among the names so far, or that of a new one
+abbrev pub place_in : (names : List (List ℕ)) → (name : List ℕ) → ℕ
+place_in names name = unwrap_or (position (λ own. bytes_eq own name) names) (length names)
 
 abbrev pub lock_said : (word : List ℕ) → (lock : ℕ) → SayingSaid
 lock_said word lock = if bytes_eq word (codes "lock") then LocksSaid lock else UnlocksSaid lock
@@ -31,7 +39,7 @@ lock_said word lock = if bytes_eq word (codes "lock") then LocksSaid lock else U
 abbrev pub lock_line : List (List ℕ) → List (List ℕ) → Result SayingSaid DriverWrong
 lock_line locks words =
     if is_name (word_at 1 words)
-    then (no_more 2 words >>= λ done. Ok (lock_said (word_at 0 words) (lock_at locks (word_at 1 words))))
+    then (no_more 2 words >>= λ done. Ok (lock_said (word_at 0 words) (place_in locks (word_at 1 words))))
     else wrong_at 1 wanted.Lock
 
 -- the locks, with the one that a line names
@@ -41,14 +49,94 @@ with_lock locks words =
     then locks ++ word_at 1 words ∷ []
     else locks
 
+-- ---- Flags: `set NAME`, `clear NAME`
+
+abbrev pub sets_flag : (word : List ℕ) → Bool
+sets_flag word = bytes_eq word (codes "set") || bytes_eq word (codes "clear")
+
+-- the words that stand behind `if` and are no flags
+abbrev pub is_condition_word : (word : List ℕ) → Bool
+is_condition_word word =
+    bytes_eq word (codes "not")
+    || bytes_eq word (codes "present")
+    || bytes_eq word (codes "stopped")
+    || bytes_eq word (codes "filed")
+    || bytes_eq word (codes "queued")
+
+abbrev pub is_flag : (word : List ℕ) → Bool
+is_flag word = is_name word && not (is_condition_word word)
+
+abbrev pub set_line : (flags : List (List ℕ)) → List (List ℕ) → Result SayingSaid DriverWrong
+set_line flags words =
+    if is_flag (word_at 1 words)
+    then (no_more 2 words >>= λ done. Ok (SetsSaid (place_in flags (word_at 1 words)) (says 0 (codes "set") words)))
+    else wrong_at 1 (wanted.Branch branch.Flag)
+
+-- ---- What is looked at: `if NAME`, `if present E P`, `if stopped E P`, `if filed E [P]`, `if queued E [P]`, each behind `not` too
+
+-- a flag stands alone
+abbrev pub flag_at : (flags : List (List ℕ)) → (at : ℕ) → BranchWanted → List (List ℕ) → Result Condition DriverWrong
+flag_at flags at want words =
+    if not (is_flag (word_at at words)) then wrong_at at (wanted.Branch want) else
+    if has_word (at + 1) words then wrong_at at (wanted.Branch branch.Longer) else
+    Ok (condition.Flag (place_in flags (word_at at words)))
+
+abbrev pub pasid_looked : Config → (at : ℕ) → List (List ℕ) → Result (ℕ × ℕ) DriverWrong
+pasid_looked config at words = do
+  endpoint ← endpoint_at config (at + 1) words
+  pasid ← pasid_at (at + 2) words
+  _ ← no_more (at + 3) words
+  Ok (endpoint, pasid)
+
+abbrev pub some_looked : Config → (at : ℕ) → List (List ℕ) → Result (ℕ × Option ℕ) DriverWrong
+some_looked config at words = do
+  endpoint ← endpoint_at config (at + 1) words
+  pasid ← some_pasid_at (at + 2) words
+  _ ← no_more (at + 3) words
+  Ok (endpoint, pasid)
+
+abbrev pub condition_at : Config → (flags : List (List ℕ)) → (at : ℕ) → BranchWanted → List (List ℕ) → Result Condition DriverWrong
+condition_at config flags at want words =
+    if says at (codes "present") words then (pasid_looked config at words >>= λ its. Ok (condition.Present its.0 its.1)) else
+    if says at (codes "stopped") words then (pasid_looked config at words >>= λ its. Ok (condition.Stopped its.0 its.1)) else
+    if says at (codes "filed") words then (some_looked config at words >>= λ its. Ok (condition.Filed its.0 its.1)) else
+    if says at (codes "queued") words then (some_looked config at words >>= λ its. Ok (condition.Queued its.0 its.1)) else
+    flag_at flags at want words
+
+abbrev pub looked : Config → (flags : List (List ℕ)) → List (List ℕ) → Result SayingSaid DriverWrong
+looked config flags words =
+    if says 1 (codes "not") words
+    then (condition_at config flags 2 branch.BehindNot words >>= λ its. Ok (LooksSaid its false))
+    else (condition_at config flags 1 branch.Condition words >>= λ its. Ok (LooksSaid its true))
+
+-- it stands in fewer than 16 blocks
+abbrev pub look_line : Config → (flags : List (List ℕ)) → (under : List Under) → List (List ℕ) → Result SayingSaid DriverWrong
+look_line config flags under words =
+    if nat_le 16 (length under) then wrong_at 0 (wanted.Branch branch.Few) else looked config flags words
+
+-- does a line name a flag that is set, cleared or looked at? Its word, which is the first behind `not` where that stands there
+abbrev pub flag_place : List (List ℕ) → ℕ
+flag_place words = if says 1 (codes "not") words then 2 else 1
+
+abbrev pub names_flag : List (List ℕ) → Bool
+names_flag words =
+    sets_flag (word_at 0 words) || (says 0 (codes "if") words && not (is_condition_word (word_at (flag_place words) words)))
+
+-- the flags, with the one that a line names
+abbrev pub with_flag : (flags : List (List ℕ)) → List (List ℕ) → List (List ℕ)
+with_flag flags words =
+    if names_flag words && not (list_any (λ own. bytes_eq own (word_at (flag_place words) words)) flags)
+    then flags ++ word_at (flag_place words) words ∷ []
+    else flags
+
 -- ---- An act, by its first word
 
 abbrev pub is_act : (word : List ℕ) → Bool
 is_act word = list_any (bytes_eq word) act_words
 
--- of link, units and endpoints, of an entry that is replaced, of a lock, or of nothing
-abbrev pub other_by : Config → (locks : List (List ℕ)) → List (List ℕ) → (word : List ℕ) → Result SayingSaid DriverWrong
-other_by config locks words word =
+-- of link, units and endpoints, of an entry that is replaced, of a flag or a lock, of what is looked at, or of nothing
+abbrev pub other_by : Config → (locks flags : List (List ℕ)) → (under : List Under) → List (List ℕ) → (word : List ℕ) → Result SayingSaid DriverWrong
+other_by config locks flags under words word =
     if bytes_eq word (codes "fault") then fault_line config words else
     if bytes_eq word (codes "end") then end_line config words else
     if bytes_eq word (codes "finish") then finish_line config words else
@@ -57,27 +145,29 @@ other_by config locks words word =
     if bytes_eq word (codes "replace") then replace_line config words else
     if bytes_eq word (codes "mark") then mark_line words else
     if bytes_eq word (codes "discard") then discard_line config words else
+    if sets_flag word then set_line flags words else
+    if bytes_eq word (codes "if") then look_line config flags under words else
     lock_line locks words
 
 -- all but `submit`
-abbrev pub plain_by : Config → (lines : List LineSaid) → (locks : List (List ℕ)) → (thread : List ℕ) → List (List ℕ) → (word : List ℕ)
-    → Result SayingSaid DriverWrong
-plain_by config lines locks thread words word =
+abbrev pub plain_by : Config → (lines : List LineSaid) → (locks flags : List (List ℕ)) → (under : List Under) → (thread : List ℕ)
+    → List (List ℕ) → (word : List ℕ) → Result SayingSaid DriverWrong
+plain_by config lines locks flags under thread words word =
     if takes_endpoint word then endpoint_line config words else
     if takes_pasid word then pasid_line config words else
     if takes_page word then page_line config words else
     if bytes_eq word (codes "pte") then table_line config words else
     if bytes_eq word (codes "entry") then entry_line config words else
-    if bytes_eq word (codes "await") then await_line config thread lines words else
+    if bytes_eq word (codes "await") then await_line config under thread lines words else
     if bytes_eq word (codes "respond") then respond_line config words else
     if bytes_eq word (codes "free") then free_line config words else
     if bytes_eq word (codes "freeze") then freeze_line config words else
-    other_by config locks words word
+    other_by config locks flags under words word
 
 -- the waits of a line have its place for a name
-abbrev pub saying_by : Config → (lines : List LineSaid) → (locks : List (List ℕ)) → (thread : List ℕ) → List (List ℕ) → (word : List ℕ)
-    → Result SayingSaid DriverWrong
-saying_by config lines locks thread words word =
+abbrev pub saying_by : Config → (lines : List LineSaid) → (locks flags : List (List ℕ)) → (under : List Under) → (thread : List ℕ)
+    → List (List ℕ) → (word : List ℕ) → Result SayingSaid DriverWrong
+saying_by config lines locks flags under thread words word =
     if bytes_eq word (codes "submit")
     then submit_line config (length lines) words
-    else plain_by config lines locks thread words word
+    else plain_by config lines locks flags under thread words word

@@ -1,15 +1,15 @@
 //! The lines of what is awaited.
 
-ghost use Rattle.std.specs.Prelude.{◌≡◌, if◌then◌else◌, map, position, None, Some};
-ghost use Rattle.std.specs.List.{list_any};
+ghost use Rattle.std.specs.Prelude.{◌≡◌, if◌then◌else◌, map, position, slice_get, None, Some};
+ghost use Rattle.std.specs.List.{list_all, list_any};
 ghost use Rattle.sva_driver_words.specs.Awaits as awaits;
 ghost use Rattle.sva_driver_words.specs.Awaits.{line_seen};
 ghost use Rattle.sva_driver_words.specs.Sayings.{act_seen, read_seen, saying_seen};
 ghost use Rattle.sva_open.specs.declared.acts.Act.TheVariants as variants;
 
-use crate::faults::{DriverWanted, DriverWrong, judge_end, wrong_at};
+use crate::faults::{BranchWanted, DriverWanted, DriverWrong, judge_end, wrong_at};
 use crate::fields::{endpoint_at, has_word, pasid_at, says, some_pasid_at};
-use crate::kept::LineRead;
+use crate::kept::{LineRead, Under};
 use sva_open::{Act, Descriptor, LocalAct, Saying};
 use sva_race_texts::word_at;
 use sva_script::is;
@@ -94,7 +94,9 @@ fn wait_at(saying: &Saying) -> Option<usize>
         | Saying::AwaitsLine { .. }
         | Saying::AwaitsWaits { .. }
         | Saying::Locks { .. }
-        | Saying::Unlocks { .. } => None,
+        | Saying::Unlocks { .. }
+        | Saying::Sets { .. }
+        | Saying::Looks { .. } => None,
     }
 }
 
@@ -125,22 +127,56 @@ fn last_wait(thread: &[u8], endpoint: usize, lines: &[LineRead]) -> Option<usize
     None
 }
 
+fn is_block(block: Under, own: Under) -> bool
+    ensures { result ≡ awaits.is_block block own }
+{
+    own.line == block.line && own.so == block.so
+}
+
+/// Whether a line that stands in these blocks stands in that one.
+fn stands_in(under: &[Under], block: Under) -> bool
+    ensures { result ≡ awaits.stands_in under.now block }
+{
+    under.iter().any(|own| is_block(block, *own))
+}
+
+/// Whether a line that stands in these blocks stands in each of those.
+fn stands_in_all(under: &[Under], blocks: &[Under]) -> bool
+    ensures { result ≡ list_all (awaits.stands_in under.now) blocks.now }
+{
+    blocks.iter().all(|block| stands_in(under, *block))
+}
+
+/// Whether a line that stands in these blocks stands in each block in which the line at a place does.
+fn stands_with(under: &[Under], lines: &[LineRead], place: usize) -> bool
+    ensures { result ≡ awaits.stands_with under.now (slice_get (map line_seen lines.now) place) }
+{
+    match lines.get(place) {
+        None => false,
+        Some(line) => stands_in_all(under, line.under.as_slice()),
+    }
+}
+
 /// Reads `await wait E`.
 fn await_wait(
     config: &Config,
+    under: &[Under],
     thread: &[u8],
     lines: &[LineRead],
     words: &[&[u8]],
 ) -> Result<Saying, DriverWrong>
-    ensures { read_seen result ≡ awaits.await_wait config.now thread.now (map line_seen lines.now)
+    ensures { read_seen result ≡ awaits.await_wait config.now under.now thread.now (map line_seen lines.now)
         (map (λ word. word.now) words.now) }
 {
     let endpoint = endpoint_at(config, words, 2)?;
     judge_end(words, 3)?;
-    match last_wait(thread, endpoint, lines) {
-        None => Err(wrong_at(2, DriverWanted::WaitAbove)),
-        Some(line) => Ok(Saying::AwaitsWaits { endpoint, line }),
+    let Some(line) = last_wait(thread, endpoint, lines) else {
+        return Err(wrong_at(2, DriverWanted::WaitAbove));
+    };
+    if !stands_with(under, lines, line) {
+        return Err(wrong_at(2, DriverWanted::Branch(BranchWanted::OnEachWay)));
     }
+    Ok(Saying::AwaitsWaits { endpoint, line })
 }
 
 fn is_named(line: &LineRead, name: &[u8]) -> bool
@@ -265,15 +301,16 @@ fn await_reset(config: &Config, words: &[&[u8]]) -> Result<Saying, DriverWrong>
 /// Reads `await ..`, with the lines above.
 pub(crate) fn await_line(
     config: &Config,
+    under: &[Under],
     thread: &[u8],
     lines: &[LineRead],
     words: &[&[u8]],
 ) -> Result<Saying, DriverWrong>
-    ensures { read_seen result ≡ awaits.await_line config.now thread.now (map line_seen lines.now)
+    ensures { read_seen result ≡ awaits.await_line config.now under.now thread.now (map line_seen lines.now)
         (map (λ word. word.now) words.now) }
 {
     if says(words, 1, b"wait") {
-        return await_wait(config, thread, lines, words);
+        return await_wait(config, under, thread, lines, words);
     }
     if says(words, 1, b"stopped") {
         return await_stopped(config, words);

@@ -2,19 +2,14 @@
 
 ghost use Rattle.std.specs.Prelude.{◌≡◌, ◌++◌, ◌∷◌, [], OnOk, Some, codes, decimal, map, option_map};
 ghost use Rattle.std.specs.Prelude.{slice_get};
-ghost use Rattle.sva_driver_words.specs.Faults.{act_words, awaited_words, behind_words, before_words, descriptor_words};
-ghost use Rattle.sva_driver_words.specs.Faults.{fault_text, freed_words, hint_text, more_kind_words, near_wanted, no_more};
-ghost use Rattle.sva_driver_words.specs.Faults.{platform_words};
-ghost use Rattle.sva_driver_words.specs.Faults.{setting_words, submit_text, wanted_text, where_text};
-ghost use Rattle.sva_race_texts.specs.ScriptFaults.{or_else};
-ghost use Rattle.sva_script.specs.Names.{near_name};
-ghost use Rattle.sva_script.specs.Near.{near_among};
-ghost use Rattle.sva_script.specs.Reserved.{kind_words};
+ghost use Rattle.sva_driver_words.specs.Faults.{branch_text, fault_text, hint_text, no_more, submit_text};
+ghost use Rattle.sva_driver_words.specs.Faults.{wanted_text, where_text};
 
+use crate::nears::near;
 use crate::needs::{Need, need_words};
 use std::alloc::AllocError;
-use sva_race_texts::{RaceWanted, count_of, first_near, put_near, put_number, put_word, word_in};
-use sva_script::{Names, Wanted, near_kind};
+use sva_race_texts::{RaceWanted, count_of, put_near, put_number, put_word, word_in};
+use sva_script::{Names, Wanted};
 
 /// What was wanted where a line that submits descriptors is wrong.
 #[derive(Clone, Copy)]
@@ -31,6 +26,29 @@ pub enum SubmitWanted {
     FenceOrPlus,
     /// What a wait with `fence` may have, or the next descriptor.
     DrainOrPlus,
+}
+
+/// What was wanted where a line of a branch is wrong, or one that names a flag.
+#[derive(Clone, Copy)]
+pub enum BranchWanted {
+    /// The name of a flag.
+    Flag,
+    /// What is looked at, or `not`.
+    Condition,
+    /// What is looked at, behind `not`.
+    BehindNot,
+    /// A word of conditions: more words follow, and none stands behind a flag.
+    Longer,
+    /// No more blocks within one another than there may be.
+    Few,
+    /// An endpoint whose last wait above in this thread is submitted on each way to here.
+    OnEachWay,
+    /// An `if` above that is open, in this thread.
+    If,
+    /// No further `else`.
+    NoElse,
+    /// An `end` below, in this thread.
+    End,
 }
 
 /// What was wanted where a line is wrong.
@@ -112,6 +130,8 @@ pub enum DriverWanted {
     WaitAbove,
     /// The name of a lock.
     Lock,
+    /// What a line of a branch wants, or one that names a flag.
+    Branch(BranchWanted),
     /// What an endpoint is told: a number of events, 0 to 65535, or a word that stands alone.
     Part,
     /// The events that a number counts.
@@ -173,6 +193,24 @@ fn submit_words(wanted: &SubmitWanted) -> &'static str
     }
 }
 
+/// What a line of a branch wanted, or one that names a flag, in words.
+fn branch_words(wanted: &BranchWanted) -> &'static str
+    ensures { result.now ≡ branch_text wanted.now }
+{
+    match wanted {
+        BranchWanted::Flag => "the name of a flag",
+        BranchWanted::Condition => "a flag, not, present, stopped, filed or queued",
+        BranchWanted::BehindNot => "a flag, present, stopped, filed or queued",
+        BranchWanted::Longer => "a condition of more words, or no word behind a flag",
+        BranchWanted::Few => "no more than 16 blocks within one another",
+        BranchWanted::OnEachWay =>
+            "an endpoint whose last wait above in this thread is submitted on each way to here",
+        BranchWanted::If => "an if above in this thread",
+        BranchWanted::NoElse => "no second else",
+        BranchWanted::End => "an end below in this thread",
+    }
+}
+
 /// What was wanted, in words.
 fn words_of(wanted: &DriverWanted) -> &'static str
     ensures { result.now ≡ wanted_text wanted.now }
@@ -217,168 +255,10 @@ fn words_of(wanted: &DriverWanted) -> &'static str
         DriverWanted::WaitAbove =>
             "an endpoint at which a line above in this thread submits a wait",
         DriverWanted::Lock => "the name of a lock",
+        DriverWanted::Branch(wanted) => branch_words(wanted),
         DriverWanted::Part => "a number, 0 to 65535, evicts, silent, lies, awaits or pages",
         DriverWanted::Counted => "asks, uses or faults",
         DriverWanted::Permitted(_) => "an act that is permitted now",
-    }
-}
-
-/// The words that begin an act.
-const ACT_WORDS: [&[u8]; 30] = [
-    b"pte", b"entry", b"replace", b"start", b"stop", b"reset", b"submit", b"await", b"serve",
-    b"respond", b"discard", b"close", b"open", b"skip", b"free", b"freeze", b"lock", b"unlock",
-    b"mark", b"ask", b"use", b"end", b"evict", b"fault", b"finish", b"quit", b"pump", b"write",
-    b"deliver", b"forget",
-];
-
-/// The words that begin a setting.
-const SETTING_WORDS: [&[u8]; 8] = [
-    b"platform",
-    b"link",
-    b"waits",
-    b"drain",
-    b"caches",
-    b"stopped",
-    b"refuses",
-    b"allow",
-];
-
-/// The words that stand behind `platform`.
-const PLATFORM_WORDS: [&[u8]; 2] = [b"vt-d", b"free"];
-
-/// The words that begin another line before `race`.
-const BEFORE_WORDS: [&[u8]; 3] = [b"workers", b"device", b"race"];
-
-/// The words that begin another line behind `race`.
-const BEHIND_WORDS: [&[u8]; 3] = [b"thread", b"workers", b"device"];
-
-/// The kinds of messages that scripts don't have.
-const MORE_KINDS: [&[u8]; 1] = [b"status"];
-
-/// The words that begin a descriptor.
-const DESCRIPTOR_WORDS: [&[u8]; 5] = [b"range", b"pasid", b"iotlb", b"entry", b"wait"];
-
-/// The words that begin what is freed, where it isn't a frame.
-const FREED_WORDS: [&[u8]; 3] = [b"space", b"domain", b"pasid"];
-
-/// The words that stand behind `await`, where a name doesn't.
-const AWAITED_WORDS: [&[u8]; 5] = [b"wait", b"stopped", b"queue", b"groups", b"reset"];
-
-fn near_act(word: &[u8]) -> Option<&'static [u8]>
-    ensures { option_map (λ near. near.now) result ≡ near_among act_words word.now }
-{
-    first_near(&ACT_WORDS, word)
-}
-
-fn near_setting(word: &[u8]) -> Option<&'static [u8]>
-    ensures { option_map (λ near. near.now) result ≡ near_among setting_words word.now }
-{
-    first_near(&SETTING_WORDS, word)
-}
-
-fn near_platform(word: &[u8]) -> Option<&'static [u8]>
-    ensures { option_map (λ near. near.now) result ≡ near_among platform_words word.now }
-{
-    first_near(&PLATFORM_WORDS, word)
-}
-
-fn near_line_before(word: &[u8]) -> Option<&'static [u8]>
-    ensures { option_map (λ near. near.now) result ≡ near_among before_words word.now }
-{
-    first_near(&BEFORE_WORDS, word)
-}
-
-fn near_line_behind(word: &[u8]) -> Option<&'static [u8]>
-    ensures { option_map (λ near. near.now) result ≡ near_among behind_words word.now }
-{
-    first_near(&BEHIND_WORDS, word)
-}
-
-fn near_more_kind(word: &[u8]) -> Option<&'static [u8]>
-    ensures { option_map (λ near. near.now) result ≡ near_among more_kind_words word.now }
-{
-    first_near(&MORE_KINDS, word)
-}
-
-fn near_descriptor(word: &[u8]) -> Option<&'static [u8]>
-    ensures { option_map (λ near. near.now) result ≡ near_among descriptor_words word.now }
-{
-    first_near(&DESCRIPTOR_WORDS, word)
-}
-
-fn near_freed(word: &[u8]) -> Option<&'static [u8]>
-    ensures { option_map (λ near. near.now) result ≡ near_among freed_words word.now }
-{
-    first_near(&FREED_WORDS, word)
-}
-
-fn near_await_word(word: &[u8]) -> Option<&'static [u8]>
-    ensures { option_map (λ near. near.now) result ≡ near_among awaited_words word.now }
-{
-    first_near(&AWAITED_WORDS, word)
-}
-
-/// What may stand behind `await`, and is near to a wrong word: the name of a line, or else a word of the format.
-fn near_awaited<'n>(names: &'n Names, word: &[u8]) -> Option<&'n [u8]>
-    ensures { option_map (λ near. near.now) result
-        ≡ or_else (near_name names.now word.now) (near_among awaited_words word.now) }
-{
-    match names.near(word) {
-        Some(near) => Some(near),
-        None => near_await_word(word),
-    }
-}
-
-/// The word that begins a line before `race`, and is near to a wrong one.
-fn near_before(word: &[u8]) -> Option<&'static [u8]>
-    ensures { option_map (λ near. near.now) result ≡ or_else (near_among act_words word.now)
-        (or_else (near_among setting_words word.now) (near_among before_words word.now)) }
-{
-    match near_act(word) {
-        Some(near) => Some(near),
-        None => match near_setting(word) {
-            Some(near) => Some(near),
-            None => near_line_before(word),
-        },
-    }
-}
-
-/// The word that begins a line behind `race`, and is near to a wrong one.
-fn near_behind(word: &[u8]) -> Option<&'static [u8]>
-    ensures { option_map (λ near. near.now) result
-        ≡ or_else (near_among act_words word.now) (near_among behind_words word.now) }
-{
-    match near_act(word) {
-        Some(near) => Some(near),
-        None => near_line_behind(word),
-    }
-}
-
-/// The kind of a message that is near to a wrong word.
-fn near_any_kind(word: &[u8]) -> Option<&'static [u8]>
-    ensures { option_map (λ near. near.now) result
-        ≡ or_else (near_among kind_words word.now) (near_among more_kind_words word.now) }
-{
-    match near_kind(word) {
-        Some(near) => Some(near),
-        None => near_more_kind(word),
-    }
-}
-
-/// The word that is near to a wrong one, of those that were wanted.
-fn near<'n>(wanted: &DriverWanted, names: &'n Names, word: &[u8]) -> Option<&'n [u8]>
-    ensures { option_map (λ near. near.now) result ≡ near_wanted names.now word.now wanted.now }
-{
-    match wanted {
-        DriverWanted::Before => near_before(word),
-        DriverWanted::Behind => near_behind(word),
-        DriverWanted::Act => near_act(word),
-        DriverWanted::Platform => near_platform(word),
-        DriverWanted::Kind => near_any_kind(word),
-        DriverWanted::Descriptor => near_descriptor(word),
-        DriverWanted::Freed => near_freed(word),
-        DriverWanted::Awaited => near_awaited(names, word),
-        _ => None,
     }
 }
 

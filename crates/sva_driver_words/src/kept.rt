@@ -2,13 +2,22 @@
 
 use sva_open::Saying;
 
+/// A block in which a line stands.
+#[derive(Clone, Copy, PartialEq, Eq)]
+pub struct Under {
+    /// The place of the line that looks.
+    pub line: usize,
+    /// Whether the first branch is meant; else the one behind `else`.
+    pub so: bool,
+}
+
 /// A line of an act.
 #[derive(Drop)]
 pub struct LineRead {
     /// Its number in the text, from 1 on.
     pub number: u64,
-    /// The place of the line of its thread before it.
-    pub after: Option<usize>,
+    /// The blocks in which it stands, the outermost first.
+    pub under: Vec<Under>,
     /// Its name; empty where it has none.
     pub name: Vec<u8>,
     /// Its thread; empty before `race`.

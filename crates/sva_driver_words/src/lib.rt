@@ -4,21 +4,26 @@
 
 mod acts;
 mod awaits;
+mod branches;
 mod descriptors;
 mod faults;
 mod fields;
 mod kept;
+mod locks;
+mod nears;
 mod needs;
 mod others;
 mod pieces;
 mod platforms;
 mod sayings;
 
+pub use branches::{flag_place, names_flag};
 pub use faults::{
-    DriverStop, DriverWanted, DriverWrong, SubmitWanted, judge_end, put_fault, wrong_at,
+    BranchWanted, DriverStop, DriverWanted, DriverWrong, SubmitWanted, judge_end, put_fault,
+    wrong_at,
 };
 pub use fields::{count_at, endpoint_at, has_word, page_at, says};
-pub use kept::LineRead;
+pub use kept::{LineRead, Under};
 pub use needs::Need;
 pub use pieces::{
     access_text, code_text, kind_text, last_text, put_counted, put_endpoint, put_older, put_one,

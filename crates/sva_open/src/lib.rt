@@ -22,7 +22,7 @@ mod works;
 
 pub use acts::{Act, LocalAct};
 pub use descriptors::{Arrived, Descriptor, Filed, Issued, Received};
-pub use drivers::{Budget, Device, Driver, Fault, Line, Page, Saying, Workers};
+pub use drivers::{Budget, Condition, Device, Driver, Fault, Line, Page, Saying, Workers};
 pub use finding::{found, is_of_kind, is_taken, is_use, kind_of};
 pub use frames::{Mapping, Target, Tenure, Translation};
 pub use lists::{before, drop_at, drop_first, lowest_free, put, set_at};

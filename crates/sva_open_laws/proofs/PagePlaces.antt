@@ -161,7 +161,8 @@ pump_head page settings part (Some (descriptor.Translations scope)) =
     with_kept page (unit.shifted part) _ _ (filter_both (is_at page) (is_left scope) part.kept)
 pump_head page settings part (Some (descriptor.Entry pasid)) = refl
 pump_head page settings part (Some (descriptor.Wait name drain fence)) =
-    where_so page _ _ _ _ (λ h. h) (where_open page (unit.is_out_before part.issued (length part.issued)) _ _ _ _ (waits page (unit.shifted part) name drain) refl)
+    where_so page _ _ _ _ (λ h. h)
+    (where_open page (unit.is_out_before part.issued (length part.issued)) _ _ _ _ (waits page (unit.shifted part) name drain) refl)
 
 if_open : (page : ℕ) (b : Bool) (one other : Option Part) → IsLed page one other → IsLed page (if b then one else None) (if b then other else None)
 if_open page true one other h = h

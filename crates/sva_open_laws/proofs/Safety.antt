@@ -43,7 +43,8 @@ use Rattle.sva_open_laws.specs.AsOpen.{gather, if_there, where_so, owner_of, giv
 use Rattle.sva_open_laws.specs.AsOpen.{translation_of, held_of, request_of, is_doomed, use_of, taken_of, part_of, open_of}
 use Rattle.sva_open_laws.specs.AsOpen.{entry_of, entered_of, marked_of, user_of, is_marked, state_of, user_by, owner_by, is_filed}
 use Rattle.sva_open_laws.specs.AsOpen.{group_of, time_by, ended_of, sent_of, flying_of, arrived_of, filed_of}
-use Rattle.sva_open_laws.proofs.Gathered.{gathered, tabulated, tabulate_get, there_in, so_in, mapped_some, none_in, one_in, selected, inside, oldest_in, first_is}
+use Rattle.sva_open_laws.proofs.Gathered.{gathered, tabulated, tabulate_get, there_in, so_in, mapped_some, none_in, one_in, selected}
+use Rattle.sva_open_laws.proofs.Gathered.{inside, oldest_in, first_is}
 
 -- ---- frames
 

@@ -41,7 +41,7 @@ def microseconds(word):
 
 def options(words):
     """What the words of a command line say."""
-    told = "judges what a machine's trace says (docs/FORMAT.md, section 16)"
+    told = "judges what a machine's trace says (docs/DRIVERS.md, section 16)"
     reader = argparse.ArgumentParser(prog="audit", description=told)
     reader.add_argument("logs", nargs="+", metavar="LOG", help="what record-iommu wrote; - is standard input")
     reader.add_argument("--free-at", choices=list(GIVEN_BACK), default="free", help="when a frame is another owner's")

@@ -1,4 +1,4 @@
-"""Slices to drivers (docs/FORMAT.md, section 15): names are canonical, so that equal slices are one *shape*, which is
+"""Slices to drivers (docs/DRIVERS.md, section 15): names are canonical, so that equal slices are one *shape*, which is
 judged once. Each is endpoint 0, PASID 1, page 16, frame 0, space 0."""
 
 import collections

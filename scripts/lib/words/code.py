@@ -106,8 +106,8 @@ class DriverLines:
         r"(?P<end>judge_end|ends_at)\(words, (?P<count>\d+)\)"
         r"|\b(?P<field>(?!word_)\w+)_(?:at|by)\((?:config, )?words, (?P<at>\d+)"
         r'|if (?P<cond>!?says|!?has_word)\(words, (?P<place>\d+)(?:, b"(?P<word>[\w-]+)")?\) \{'
-        r"|(?P<name>is_name|place_of)\(word_at\(words, (?P<named>\d+)\)"
-        r"|(?P<call>\w+)\([^()]*\bwords\b")
+        r"|(?P<name>is_name|is_flag|place_of)\(word_at\(words, (?P<named>\d+)\)"
+        r"|(?P<call>\w+)\([^()]*\bwords\b(?:, (?P<from>\d+))?")
 
     def __init__(self, texts):
         self.bodies = {}
@@ -124,6 +124,11 @@ class DriverLines:
             if depth == 0:
                 return at
         return len(body)
+
+    def body_from(self, name, place):
+        """The body of a function, that of one which reads from a place `at` on with the places themselves."""
+        body = self.bodies[name]
+        return re.sub(r"\bat\b(?: \+ (\d+))?", lambda it: str(int(place) + int(it[1] or 0)), body) if place else body
 
     def walk(self, body, fields):
         """All ways through a body: the fields that are read, by their places."""
@@ -144,7 +149,7 @@ class DriverLines:
             elif it["name"]:
                 fields = {**fields, int(it["named"]): "L" if it["name"] == "is_name" else "NAME"}
             elif it["call"] in self.bodies:
-                return found + self.walk(self.bodies[it["call"]], fields)
+                return found + self.walk(self.body_from(it["call"], it["from"]), fields)
         return found + [fields]
 
     def forms(self, word, function):

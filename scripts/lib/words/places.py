@@ -26,7 +26,7 @@ sva_grammar: group_in group group_word = place.G
 sva_grammar: last_in is_last last_word = place.L
 sva_grammar: verdict_in verdict verdict_word = place.V
 sva_grammar: name cause_name = cause
-sva_script: FIRST_WORDS first_words = step + heading
+sva_script: FIRST_WORDS first_words = step + heading - 'else'
 sva_script: ANSWER_WORDS answer_words = answer + answer.* - 'space' - 'reset' - 'use' - 'bearer' - 'bindings'
 sva_script: is_answer_word = 'space' + 'reset' + 'use' + 'bearer' + 'bindings' + refused
 sva_script: OTHER_WORDS other_words = place.* + delivery.* + kind/s + !/r - step - heading - answer - answer.* + 'bindings' + refused
@@ -82,10 +82,16 @@ sva_driver_words: drain_first = descriptor.wait
 sva_driver_words: descriptor_of DESCRIPTOR_WORDS descriptor_words = descriptor
 sva_driver_words: read_descriptors descriptors_of = sign/d
 sva_driver_words: ACT_WORDS act_words = act
+sva_driver_words: sets_flag = act=NAME - 'await'
+sva_driver_words: set_line = act=NAME - 'await' but one
+sva_driver_words: is_condition_word CONDITION_WORDS condition_words = act.if + condition
+sva_driver_words: condition_at = condition
+sva_driver_words: looked flag_place = act.if
+sva_driver_words: names_flag = 'if'
 sva_driver_words: SETTING_WORDS setting_words = setting
 sva_driver_words: PLATFORM_WORDS platform_words = setting.platform
-sva_driver_words: BEFORE_WORDS before_words = heading/d - 'config' - 'thread'
-sva_driver_words: BEHIND_WORDS behind_words = heading/d - 'config' - 'race'
+sva_driver_words: BEFORE_WORDS before_words = heading/d - 'config' - 'thread' - 'end'
+sva_driver_words: BEHIND_WORDS behind_words = heading/d - 'config' - 'race' - 'end'
 sva_driver_words: MORE_KINDS more_kind_words = kind/d - kind/s
 sva_driver_words: access_at access_text = 'r' + 'w'
 sva_driver_words: asked_at = place.A
@@ -96,7 +102,7 @@ sva_driver_words: kind_at+kind_up_at kind_text = kind/d
 sva_driver_words: fault_line = 'new'
 sva_driver_words: is_lock_word = act=L
 sva_driver_words: lock_said = act=L but one
-sva_driver_words: read_plain+read_other+read_saying plain_by+other_by+saying_by = act - act=E - act=E_P - act=E_P_PAGE - act=L
+sva_driver_words: read_plain+read_other+read_saying plain_by+other_by+saying_by = act - act=E - act=E_P - act=E_P_PAGE - act=L - act=NAME + 'await'
 sva_driver_words: link_words+put_pairs+put_unpaired+put_platform+pairs_text+unpaired_text+platform_text+stopped_words = 'with' + setting - 'platform' + setting.* - 'vt-d'
 sva_driver_texts: counted = part/d@budget
 sva_driver_texts: is_flag = part/d - part/d@budget - 'pages'
@@ -104,8 +110,12 @@ sva_driver_texts: set_flag flagged = part/d - part/d@budget - 'pages' but one
 sva_driver_texts: begins_pages = 'pages'
 sva_driver_texts: ACTS = act
 sva_driver_texts: take_setting set_line = 'platform'
-sva_driver_texts: take_other other_line+other_behind begins_other = heading/d - 'config'
+sva_driver_texts: take_other other_line+other_behind begins_other = heading/d - 'config' - 'else' - 'end'
 sva_driver_texts: is_awaited_word = !/d - !/r
+sva_driver_texts: IF note_block with_block open_text branch_line = 'if'
+sva_driver_texts: branch branched = 'else'
+sva_driver_texts: is_end = 'end'
+sva_driver_texts: begins_branch = 'else' + 'end'
 sva_driver_texts: is_of_endpoint = act@endpoint
 sva_driver_texts: is_of_unit = act@unit
 sva_driver_texts: is_lock_word = act=L
@@ -142,8 +152,8 @@ sva_race_texts: words_of wanted_text: Claiming = claim.ends
 sva_race_texts: words_of wanted_text: Atom = atom + 'not' - 'is'
 sva_race_texts: words_of wanted_text: Arrow = '=>'
 sva_race_texts: words_of wanted_text: Is = 'is'
-sva_driver_words: words_of wanted_text: Before = heading/d - 'config' - 'thread'
-sva_driver_words: words_of wanted_text: Behind = heading/d - 'config' - 'race'
+sva_driver_words: words_of wanted_text: Before = heading/d - 'config' - 'thread' - 'else' - 'end'
+sva_driver_words: words_of wanted_text: Behind = heading/d - 'config' - 'race' - 'else' - 'end'
 sva_driver_words: words_of wanted_text: Earlier = 'race'
 sva_driver_words: words_of wanted_text: Platform = setting.platform
 sva_driver_words: words_of wanted_text: Link = setting.link
@@ -162,6 +172,8 @@ sva_driver_words: words_of wanted_text: MoreOrLast = place.L
 sva_driver_words: words_of wanted_text: Code = place.CODE
 sva_driver_words: words_of wanted_text: Descriptor = descriptor
 sva_driver_words: words_of wanted_text: Awaited = act.await
+sva_driver_words: branch_words branch_text: Condition = act.if + condition
+sva_driver_words: branch_words branch_text: BehindNot = condition
 sva_driver_words: words_of wanted_text: Part = part/d - part/d@budget
 sva_driver_words: words_of wanted_text: Counted = part/d@budget
 sva_driver_words: submit_words submit_text: PlusOrEnd|PageOrPlus = '+'
@@ -170,8 +182,8 @@ sva_driver_words: submit_words submit_text: FenceOrPlus = 'fence' + '+'
 sva_driver_words: submit_words submit_text: DrainOrPlus = 'drain' + '+'
 """
 
-SAYINGS, FAULTS = "crates/sva_driver_words/src/sayings.rt", "crates/sva_driver_words/src/faults.rt"
-LINES = [f"crates/sva_driver_words/src/{name}.rt" for name in ("acts", "awaits", "descriptors", "others", "sayings")]
+SAYINGS, NEARS = "crates/sva_driver_words/src/sayings.rt", "crates/sva_driver_words/src/nears.rt"
+LINES = [f"crates/sva_driver_words/src/{name}.rt" for name in ("acts", "awaits", "descriptors", "others", "sayings", "branches", "locks")]
 
 
 def texts_here(path):
@@ -293,16 +305,20 @@ class ReadByDrivers(Place):
     @staticmethod
     def forms(table):
         rows = table.of("act") + [row for row in table.of("descriptor") if row.first != "wait"]
-        return [form for row in rows for form in expanded(row.form.partition(" D [")[0])]
+        forms = [row.form.partition(" D [")[0] for row in rows]
+        looked = [row.form for row in table.of("condition")]
+        forms = [form.replace("CONDITION", one) for form in forms for one in (looked if "CONDITION" in form else [""])]
+        return [it for form in forms for it in expanded(form)]
 
     def found(self, table, texts):
         if self.kept is not None and texts is texts_here:
             return self.kept
         lines, said = code.DriverLines([texts(path) for path in LINES]), texts(SAYINGS)
         calls = []
-        for word, many, function in re.findall(r'if (?:is\(word, b"([\w-]+)"\)|(takes_\w+)\(word\)) \{\s*return (\w+)\(', said):
-            calls += [(it, function) for it in ([word] if word else sorted({it[0] for it in code.words_in(many, texts(LINES[0]), True)}))]
-        rest = {it[0] for it in code.words_in("ACT_WORDS", texts(FAULTS), True)} - {word for word, _ in calls}
+        for word, many, function in re.findall(r'if (?:is\(word, b"([\w-]+)"\)|(\w+)\(word\)) \{\s*return (\w+)\(', said):
+            words = [word] if word else sorted({it[0] for path in LINES for it in code.words_in(many, texts(path), True)})
+            calls += [(it, function) for it in words]
+        rest = {it[0] for it in code.words_in("ACT_WORDS", texts(NEARS), True)} - {word for word, _ in calls}
         calls += [(word, "lock_line") for word in sorted(rest)]
         descriptors = re.findall(r'says\(words, 0, b"([\w-]+)"\) \{\s*(?:let \w+ = |return )(\w+)\(', texts(LINES[2]))
         calls += [it for it in descriptors if it[0] != "wait"]
@@ -329,7 +345,7 @@ def in_fields():
                 lambda path, text: it_says.near_steps(text))
     yield Place("the texts of answers", lambda table: [without_letters(row.form) for row in table.of("answer")],
                 ["crates/sva_step/specs/Texts.antt"], lambda path, text: code.texts_of_answers(text))
-    for path in ("crates/sva_step/src/refusals.rt", "crates/sva_step/specs/Refusals.antt", "scripts/oracle/host/world.py", "docs/FORMAT.md"):
+    for path in ("crates/sva_step/src/refusals.rt", "crates/sva_step/specs/Refusals.antt", "scripts/oracle/host/world.py"):
         yield Place("the refusals with their numbers", lambda table: [row.form for row in table.of("refusal")], [path],
                     lambda path, text: it_says.numbers_of_refusals(text, path))
 
@@ -344,15 +360,15 @@ def told_in(path, name):
 
 
 def in_told():
-    """The texts of what was wanted, and of what an act needs, which FORMAT and the model repeat: those of definitions."""
-    format_md = "docs/FORMAT.md"
-    wanted = [it for crate in ("driver_words", "race_texts", "script_reading") for name in ("submit_text", "place_text", "wanted_text")
+    """The texts of what was wanted, and of what an act needs, which documents and the model repeat: those of definitions."""
+    scripts, drivers = "docs/SCRIPTS.md", "docs/DRIVERS.md"
+    wanted = [it for crate in ("driver_words", "race_texts", "script_reading") for name in ("submit_text", "place_text", "branch_text", "wanted_text")
               for it in told_in(f"crates/sva_{crate}/specs/Faults.antt", name)]
     needs = [it.removeprefix(": ") for it in told_in("crates/sva_driver_words/specs/Needs.antt", "need_text")]
-    for part in (("### Lines that are wrong", "### What the host"), ("### Wrong lines of a race", "### The report"),
-                 ("### Wrong lines of a driver", "Behind `an act that")):
-        yield Place("what was wanted", lambda table: wanted, [format_md],
+    for path, *part in ((scripts, "### Lines that are wrong", "### What the host"), (scripts, "### Wrong lines of a race", "### The report"),
+                        (drivers, "### Wrong lines of a driver", "Behind `an act that")):
+        yield Place("what was wanted", lambda table: wanted, [path],
                     lambda path, text, part=part: it_says.told_in_cells(text, part, "Wanted"), is_part=True)
-    yield Place("what an act needs", lambda table: needs, [format_md],
+    yield Place("what an act needs", lambda table: needs, [drivers],
                 lambda path, text: it_says.told_in_cells(text, ("Behind `an act that", "\n## 16."), "Is told"))
     yield Place("what an act needs", lambda table: needs, ["scripts/oracle/driver/reading.py"], lambda path, text: it_says.needs_in_python(text))

@@ -116,7 +116,7 @@ def kebab(name):
 
 
 def kinds_with_ways(text):
-    """The kinds of message with their ways, by the table of FORMAT."""
+    """The kinds of message with their ways, by the table of SCENARIOS."""
     for cell, at in cells(text, "## 4. Messages", "## 5.", ("Kind",)):
         way = re.compile(r"\| (\w+) ").search(text, at + len(cell))
         bare = re.sub(r"\(.*?\)", lambda it: " " * len(it[0]), cell)
@@ -146,9 +146,9 @@ def near_steps(text):
 
 
 def numbers_of_refusals(text, path):
-    """The refusals with their numbers: by their order in code and in the model, and as they stand in a definition and in FORMAT."""
-    if path.endswith((".antt", ".md")):
-        pattern = r"^number_of (?P<name>\w+) = (?P<no>\d+)" if path.endswith(".antt") else r"^\| (?P<no>\d+) \| (?P<name>[A-Z]\w+) \|"
+    """The refusals with their numbers: by their order in code and in the model, and as they stand in a definition."""
+    if path.endswith(".antt"):
+        pattern = r"^number_of (?P<name>\w+) = (?P<no>\d+)"
         return [(f"{it['no']} {it['name']}", it.start(), it.end()) for it in re.finditer(pattern, text, re.M)]
     start, stop = section(text, "pub enum Refusal {", "\n}") if path.endswith(".rt") else section(text, "REFUSALS = ", ".split")
     pattern = r"(?<![\w.])[A-Z][a-z]\w+(?=,$)" if path.endswith(".rt") else r"\b[A-Z][a-z]\w+"

@@ -3,6 +3,8 @@
 import pathlib
 
 import search
+from branches import is_of_block
+from make_branches import Blocks, branched, make_looks, mend, taken_in_block, with_branches
 from reading import CODES, KINDS, Driver, need
 from world import Settings
 
@@ -187,23 +189,14 @@ class Maker:
         return lines
 
 
-def mend_waits(lines):
-    """Leaves out each `await wait E` with no wait above it in its thread."""
-    found = []
-    for x in lines:
-        if x.startswith('await wait'):
-            e = x.split()[2]
-            if not any(y.startswith('submit ' + e) and 'wait' in y for y in found):
-                continue
-        found.append(x)
-    return found
-
-
 def make_driver(rng):
     m = Maker(rng)
     m.head += m.devices()
     before = m.permitted(m.setup(), m.one(0, 6, 20, 30), lambda: m.other() if m.chance(0.8) else m.host())
-    threads = [mend_waits(m.thread()) for _ in range(m.one(1, 1, 1, 1, 2, 2, 3))]
+    threads = [m.thread() for _ in range(m.one(1, 1, 1, 1, 2, 2, 3))]
+    if m.chance(0.25):
+        before, threads = with_branches(m, m.head, before, threads)
+    threads = [mend(lines) for lines in threads]
     text = m.head + before + ['race']
     if len(threads) > 1 and m.chance(0.4):
         signal(m, *threads[:2])
@@ -220,7 +213,7 @@ def signal(m, first, other):
 
 def name_one(m, lines, name):
     """Sometimes a thread awaits a named line of its own."""
-    at = [i for i, x in enumerate(lines) if ':' not in x]
+    at = [i for i, x in enumerate(lines) if ':' not in x and not is_of_block(x.split())]
     if not at or not m.chance(0.2):
         return lines
     i = m.rng.choice(at)
@@ -242,12 +235,12 @@ def make_mutant(rng):
     for _ in range(m.one(0, 1, 1, 2, 3, 4)):
         rest = mutated(m, rest)
     rest = [x for x in rest if not x.startswith('await wait')] if m.chance(0.02) else rest
-    return '\n'.join(head + settings + kept_valid(rest)) + '\n'
+    return '\n'.join(head + settings + kept_valid(m, rest)) + '\n'
 
 
 def mutated(m, lines):
     lines, i = list(lines), m.rng.randrange(len(lines))
-    what = m.one('drop', 'drop', 'double', 'swap', 'add', 'add', 'device', 'workers')
+    what = m.one('drop', 'drop', 'double', 'swap', 'add', 'add', 'device', 'workers', 'branch', 'branch')
     if lines[i].split()[0] in ('race', 'thread', 'device', 'workers') and what in ('drop', 'double', 'swap'):
         return lines
     if what == 'drop':
@@ -258,32 +251,40 @@ def mutated(m, lines):
         lines[i:i + 2] = [lines[i + 1], lines[i]]
     elif what == 'add':
         lines.insert(i, m.host() if m.chance(0.75) else m.other())
+    elif what == 'branch':
+        k = next((k for k in range(i, len(lines)) if lines[k].split()[0] in ('race', 'thread')), len(lines))
+        k = m.rng.randrange(i, k + 1)
+        lines[i:k] = branched(m, lines[i:k])
     elif what in ('device', 'workers'):
         lines = [x for x in lines if not x.startswith(what)]
         lines = [x for x in m.devices() if x.startswith(what)] + lines
     return lines
 
 
-def kept_valid(lines):
-    """Without awaits of what isn't there above, as these lines are wrong."""
-    found, part, raced, names = [], {}, False, set()
-    heading = ''
+def kept_valid(m, lines):
+    """Without awaits of what isn't there above, and without what is of no block, as these lines are wrong; each block is
+    ended. Sometimes awaits of names alone are left out."""
+    found, threads, raced, names = [], {None: Blocks()}, False, set()
+    heading = 'thread host'
     for x in lines:
         words = x.split()
         if words[0] == 'race':
             raced = True
+            found += threads[None].ended()
         if words[0] == 'thread':
             heading = x
         name = words.pop(0)[:-1] if words[0].endswith(':') else None
-        above = part.setdefault(heading if raced else None, [])
-        if words[:2] == ['await', 'wait'] and words[2] not in above:
-            continue
         if words[0] == 'await' and words[1] not in AWAITED | names:
             continue
-        if words[0] == 'submit' and 'wait' in words:
-            above.append(words[1])
+        if name and is_of_block(words) or not threads.setdefault(heading if raced else None, Blocks()).takes(words):
+            continue
         names |= {name}
         found.append(x)
+    if m.chance(0.03):
+        return [x for x in lines if x.split()[0] != 'await' or x.split()[1] in AWAITED]
+    for heading, blocks in threads.items():
+        ends = blocks.ended()
+        found += ([heading] if heading and ends else []) + ends
     return found
 
 
@@ -311,11 +312,12 @@ def make_drained(m):
     drain = [f'submit 0 wait{m.one(" drain", " drain", " drain", "")}', 'await wait 0']
     lines = ['stop 0 1', 'await stopped 0 1', 'entry 0 1 none'] + m.one(drain + looks, drain + looks, looks + drain)
     lines = [x for x in lines + ['free pasid 1 0'] if m.chance(0.95)] if is_end else drain + m.one([], looks)
+    lines = branched(m, lines) if m.chance(0.25) else lines
     head = ['config 1 4 1', 'link posted', 'drain arrived'] + m.one([], ['waits plain'])
     head += ['device 0 1 faults pages 16'] + m.one([], ['workers success'])
     head += ['entry 0 1 0', 'start 0 1', 'deliver start 0']
     head += [] if is_end else ['fault 0 1 16 r new last', 'deliver page-request 0']
-    return head + ['race'] + mend_waits(lines)
+    return head + ['race'] + mend(lines)
 
 
 def make_filed(m):
@@ -324,27 +326,30 @@ def make_filed(m):
     head += [f'fault 0 1 16 r new {m.one("more", "last")}', 'deliver page-request 0', 'serve 0']
     head += ['stop 0 1', 'deliver stop 0', 'quit 0 1', 'deliver marker 0', 'entry 0 1 none']
     looks = m.one([], ['await groups 0'], ['await groups 0 1'], ['discard 0'])
-    return head + ['race'] + looks + m.one(['free pasid 1 0'], ['entry 0 1 1'], ['free domain 0'])
+    lines = looks + m.one(['free pasid 1 0'], ['entry 0 1 1'], ['free domain 0'])
+    return head + ['race'] + (branched(m, lines) if m.chance(0.25) else lines)
 
 
 def make_groups(rng):
     """Page requests, early answers and resets: groups that are gone, and what is left of them."""
     m = Maker(rng)
+    m.ends = 1
     if m.chance(0.3):
         return '\n'.join(m.one(make_drained, make_drained, make_filed)(m)) + '\n'
-    m.ends, p = 1, 1
     m.head = ['config 1 4 1'] + [x for x in m.settings() if 'caches' not in x]
     m.head += [f'device 0 {m.one(0, 1, 1, 2)} faults' + m.one('', '', '', ' silent', ' awaits') + ' pages 16']
     m.head += [f'workers {m.one(*CODES)}'] if m.chance(0.3) else []
     before = m.permitted(['start 0 1', 'deliver start 0'], m.one(0, 10, 25, 40), lambda: act_of_groups(m))
     text = m.head + before + ['race']
     for name in 'ab'[:m.one(1, 1, 2)]:
-        text += [f'thread {name}'] + mend_waits([line_of_groups(m) for _ in range(m.one(1, 2, 3, 4, 5))])
+        lines = [line_of_groups(m) for _ in range(m.one(1, 2, 3, 4, 5))]
+        text += [f'thread {name}'] + mend(branched(m, lines) if m.chance(0.25) else lines)
     return '\n'.join(text) + '\n'
 
 
 def make_any(rng):
-    return rng.choice((make_mutant, make_mutant, make_driver, make_driver, make_groups))(rng)
+    made = rng.choice((make_mutant, make_mutant, make_driver, make_driver, make_groups, make_looks, make_looks))
+    return made(Maker(rng) if made is make_looks else rng)
 
 
 class Lister:
@@ -394,6 +399,10 @@ def make_long_list(rng):
         x.try_act(x.act())
     for _ in range(4):
         x.try_act(x.act(), last=True)
+    lines = x.lines
+    for _ in range(x.m.one(0, 0, 1, 2, 3)):
+        lines = taken_in_block(x.m, x.m.head, lines)
     if x.m.chance(0.3):
-        x.lines.insert(rng.randrange(len(x.lines) + 1), 'race')
-    return '\n'.join(x.m.head + x.lines) + '\n'
+        at = rng.randrange(len(lines) + 1)
+        lines = kept_valid(x.m, lines[:at] + ['race'] + x.m.one([], ['thread a']) + lines[at:])
+    return '\n'.join(x.m.head + lines) + '\n'

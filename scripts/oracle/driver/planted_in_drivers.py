@@ -207,8 +207,8 @@ def by_itself_alone(old):
 def leaks_refused(old):
     """A line before `race` behind which something is wrong is told as one that isn't permitted."""
     def before_race(driver):
-        moment, ended = old(driver)
-        return moment, ended and ('not', ended[1], ended[2])
+        moment, were, ended = old(driver)
+        return moment, were, ended and ('not', ended[1], ended[2])
     return before_race
 
 

@@ -1,4 +1,5 @@
 """Reads a driver, and says what each act needs and does (docs/FORMAT.md, section 15)."""
+import branches
 import world as w
 from world import Port, Settings, World
 
@@ -31,12 +32,18 @@ NEEDS = {
     'fault G': 'fault needs that group of the PASID unfinished, and page requests enabled'}
 
 
+WAIT_ABOVE = 'an endpoint at which a line above in this thread submits a wait'
+ON_EACH_WAY = 'an endpoint whose last wait above in this thread is submitted on each way to here'
+
+
 class Line:
-    """An act of the file: its number, its name, its words, its thread and its place there."""
+    """An act of the file: its number, its name, its words, its thread and its place there; with which line the thread
+    goes on behind it, or the other one behind an `if`; and the branches in which it stands."""
 
     def __init__(self, number, name, words, thread):
         self.number, self.name, self.words, self.thread = number, name, words, thread
         self.index, self.awaited = 0, None
+        self.next, self.other, self.under = None, None, ()
 
 
 class Device:
@@ -50,7 +57,7 @@ class Driver:
 
     def __init__(self, text):
         self.settings, self.devices, self.workers = Settings(), {}, None
-        self.threads, self.heading, self.raced, self.lines = [''], None, False, []
+        self.threads, self.heading, self.raced, self.lines, self.items = [''], None, False, [], {'': []}
         for number, raw in enumerate(text.split('\n'), 1):
             words = raw.split('#')[0].split()
             if words:
@@ -60,8 +67,11 @@ class Driver:
             thread = self.by_thread[self.threads.index(line.thread)]
             line.index = len(thread)
             thread.append(line)
+        self.wrong = []                         # (number of a line, word, what was wanted)
+        self.first = [branches.link(branches.tree(self.items[name], self.wrong)) for name in self.threads]
         for line in self.lines:
             self.find_awaited(line)
+        self.named = {line.awaited[0] for line in self.lines if line.awaited}
         self.find_pages()
 
     def read(self, number, words):
@@ -83,9 +93,13 @@ class Driver:
             self.read_device(self.devices[int(words[1])], words[2:])
         elif first == 'thread':
             self.heading = words[1]
+        elif branches.is_of_block(words):
+            self.items[self.thread_of(['if'])].append((number, first))
         else:
             name = words.pop(0)[:-1] if first.endswith(':') else None
-            self.lines.append(Line(number, name, numbers(words), self.thread_of(words)))
+            line = Line(number, name, numbers(words), self.thread_of(words))
+            self.lines.append(line)
+            self.items[line.thread].append(line)
 
     def read_device(self, device, words):
         while words:
@@ -106,6 +120,7 @@ class Driver:
         name = '' if not self.raced else self.heading or role(words)
         if name not in self.threads:
             self.threads.append(name)
+            self.items[name] = []
         return name
 
     def find_awaited(self, line):
@@ -115,10 +130,17 @@ class Driver:
         if line.words[1] == 'wait':
             above = [x for x in self.by_thread[self.threads.index(line.thread)][:line.index]
                      if x.words[0] == 'submit' and x.words[1] == line.words[2] and waits_of(x)]
-            line.awaited = (above[-1], waits_of(above[-1]))
+            if above and branches.stands_in(line, above[-1]):
+                line.awaited = (above[-1], waits_of(above[-1]))
+            else:
+                self.wrong.append((line.number, line.words[2], ON_EACH_WAY if above else WAIT_ABOVE))
         else:
             named = next(x for x in self.lines if x.name == line.words[1])
             line.awaited = (named, waits_of(named))
+
+    def place(self, thread, line):
+        """Where a line stands in its thread; None stands behind all."""
+        return line.index if line else len(self.by_thread[thread])
 
     def find_pages(self):
         """Its `pages`, or those of the `pte` lines that lead to a frame; under the PASIDs that lines start at it."""
@@ -130,7 +152,9 @@ class Driver:
     def start(self):
         new = World()
         new.ports = [Port(self.devices[e].budget) for e in range(self.ports)]
-        new.settings, new.pte, new.pos = self.settings, {}, (0,) * len(self.threads)
+        new.settings, new.pte = self.settings, {}
+        new.pos = tuple(self.place(t, line) for t, line in enumerate(self.first))
+        new.flags, new.gone = frozenset(), frozenset()
         new.freed_spaces, new.locks, new.undone = (), frozenset(), frozenset()
         new.freed_domains, new.has_workers = (), self.workers is not None
         return new
@@ -189,7 +213,8 @@ def may_forget(driver, port, device, words, line):
     return tuple(words[2:4]) in port.kept if len(words) > 3 else words[2] in port.kept_entry
 
 
-# What an act needs, by FORMAT's table of what is told; an act that isn't here needs nothing.
+# What an act needs, by FORMAT's table of what is told; an act that isn't here needs nothing. Of a line that submits no
+# wait nothing is told.
 MAY = {
     'deliver': may_deliver, 'forget': may_forget,
     'submit': lambda d, port, device, x, line: not port.closed and len(port.queue) + len(descriptors(line)) <= w.PLACES,
@@ -229,8 +254,9 @@ def need_of_await(driver, world, words, line):
     what = words[1]
     if line.awaited:
         named, waits = line.awaited
-        taken = world.pos[driver.threads.index(named.thread)] > named.index
-        return None if taken and not world.undone.intersection(waits) else 'await wait'
+        if named in world.gone and not world.undone.intersection(waits):
+            return None
+        return 'await wait' if waits else 'await mark'
     port = world.ports[words[2]]
     if what == 'stopped':
         ok = words[3] in port.answers
@@ -248,7 +274,7 @@ def need_of_await(driver, world, words, line):
 def do(driver, world, words, line=None):
     """Does a permitted act in place."""
     verb = words[0]
-    if verb == 'mark':
+    if verb in ('mark', 'if'):
         return
     if verb == 'pte':
         where = words[1], words[2]
@@ -257,6 +283,8 @@ def do(driver, world, words, line=None):
             world.pte = w.put(world.pte, where, (words[3], words[4] == 'w', False, False))
     elif verb == 'lock' or verb == 'unlock':
         world.locks = world.locks ^ {words[1]}
+    elif verb in ('set', 'clear'):
+        world.flags = world.flags - {words[1]} | ({words[1]} if verb == 'set' else set())
     elif verb == 'free' and words[1] == 'pasid':
         w.disown(world.ports[words[3]], words[2])
     elif verb == 'free' and words[1] == 'space':

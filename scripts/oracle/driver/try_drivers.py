@@ -10,6 +10,8 @@ import subprocess
 import sys
 
 sys.path.insert(1, str(pathlib.Path(__file__).parents[1]))
+import branches
+import planted_in_branches
 import planted_in_drivers
 import reading
 import search
@@ -17,10 +19,12 @@ import trying
 from make import make_any, make_long_list
 from reading import Driver, need
 from report import UNTRIED, behind_race, below_safe, count, is_tried
+from world import Settings
 
 MOST = 300          # moments that the program looks at; of one text in twelve 2400
 MOST_LISTS = 3000   # lists of events that are gone one by one
 NAMES = {'wrong': 'an act not permitted', 'leak': 'unsafe before race', 'run not': 'run not permitted'}
+HEADS = {'config', 'workers', 'device', *Settings.pairs, *Settings.flags}   # what no act begins
 STATUSES = {'safe': 0, 'unsafe': 4, 'leak': 4, 'stuck': 4, 'cut': 5, 'wrong': 1, 'right': 0}
 
 
@@ -55,8 +59,10 @@ def told(report):
 def compare(text, report):
     """What differs, or None; and the kind of the verdict."""
     driver = Driver(text)
+    if driver.wrong:
+        return compare_wrong(driver, report), 'wrong lines'
     kind, number, rest = told(report)
-    world, ended = search.before_race(driver)
+    world, were, ended = search.before_race(driver)
     if ended:
         return compare_ended(ended, report), kind
     shown = set()
@@ -79,7 +85,8 @@ def compare(text, report):
         return None if number >= events else f'moments: program {number}, model {events}', kind
     if number != events:
         return f'{kind}: program {number}, model {events} events', kind
-    return replay(driver, world, report, kind, rest), kind
+    fault = compare_before(were, report.split('\n'))
+    return fault or replay(driver, world, report, kind, rest), kind
 
 
 def compare_ended(ended, report):
@@ -88,8 +95,17 @@ def compare_ended(ended, report):
     if kind == 'unsafe':
         wanted = [f'unsafe at line {line.number}: {text}\n' for text in texts]
     else:
-        wanted = [f"line {line.number}: '{line.words[0]}': wanted an act that is permitted now: {texts[0]}\n"]
+        wanted = [f"line {line.number}: '{line.words[0]}': wanted an act that is permitted now"
+                  + (f': {texts[0]}\n' if texts[0] else '\n')]
     return None if report in wanted else f'line by line: program {report!r}, model {wanted}'
+
+
+def compare_wrong(driver, report):
+    """Each line that is wrong is told as it is read, and behind all of them each block that isn't ended."""
+    ends = [each for each in driver.wrong if each[1] == 'if']
+    others = [each for each in driver.wrong if each not in ends]
+    wanted = [f"line {number}: '{word}': wanted {what}" for number, word, what in sorted(others) + sorted(ends)]
+    return None if report.split('\n') == wanted + [''] else f'wrong lines: program {report!r}, model {wanted}'
 
 
 def compare_cut(verdict, events, kind, number, counts):
@@ -104,6 +120,23 @@ def compare_cut(verdict, events, kind, number, counts):
 
 
 # ---------------------------------------------------------------------------------------------- witnesses
+
+def compare_before(were, lines):
+    """The acts before `race` are those that were taken: one that only waits, or looks, stands as a comment."""
+    above = [x for x in lines[1:lines.index('# race')] if x.split()[0] not in HEADS]
+    acts = [x for x in above if x[0] != '#' or re.match(r'# line \d+: ', x)]
+    for act, (line, found) in zip(acts, were):
+        told_there = re.match(r'# line (\d+): (.*)$', act)
+        words = reading.numbers((told_there[2] if told_there else act).split(': ')[0].split())
+        is_so = told_there and int(told_there[1]) == line.number or not told_there and found is None
+        if not is_so or words[:2] != line.words[:2] or found is not None and act != told_of_look(f'line {line.number}', line, found):
+            return f'before race: {act!r}, model {line.words}'
+    return None if len(acts) == len(were) else f'before race: program {len(acts)} acts, model {len(were)}'
+
+
+def told_of_look(who, line, found):
+    return f'# {who}: {" ".join(str(x) for x in line.words)}: {"yes" if found else "no"}'
+
 
 def replay(driver, world, report, kind, rest):
     """Each event of the witness is to be permitted, and the last one to bring the finding."""
@@ -138,7 +171,7 @@ def follow(driver, world, event):
     """The moment after an event of a witness, or what is wrong with it."""
     waited = re.match(r'# (.*), line (\d+): (.*)$', event)
     words, _, who = event.partition(' # ') if not waited else (waited.group(3), '', f'{waited[1]}, line {waited[2]}')
-    words = reading.numbers(words.split())
+    words = reading.numbers(words.split(': ')[0].split())
     if ', line ' in who:
         thread, _, number = who.strip().rpartition(', line ')
         for t, line in search.of_threads(driver, world):
@@ -146,8 +179,11 @@ def follow(driver, world, event):
                 lacks = need(driver, world, line.words, line)
                 if lacks:
                     return f'not permitted: {event}: {lacks}'
-                if words[:2] != line.words[:2]:
+                is_look = line.words[0] == 'if'
+                if words[:2] != line.words[:2] or (is_look or words[0] in ('set', 'clear')) and words != line.words:
                     return f'other words: {event}'
+                if is_look and event != told_of_look(f'{thread}, line {number}', line, branches.finds(world, line.words)):
+                    return f'the other branch: {event}'
                 return search.taken(driver, world, line.words, line, t)
         return f'not the next line: {event}'
     return follow_other(driver, world, words, who.strip(), event)
@@ -182,10 +218,12 @@ def plain(act):
 
 def compare_run(text, report):
     driver = Driver(text)
-    _, ended = search.one_by_one(driver, driver.lines)
+    if driver.wrong:
+        return compare_wrong(driver, report), 'wrong lines'
+    _, were, ended = search.one_by_one(driver, driver.lines)
     if ended:
         return compare_ended(ended, report), ended[0]
-    wanted = f'nothing wrong in any of {count(len(driver.lines), "event")}{behind_race(driver)}\n'
+    wanted = f'nothing wrong in any of {count(len(were), "event")}{behind_race(driver)}\n'
     return None if report == wanted else f'run: program {report!r}, model {wanted!r}', 'right'
 
 
@@ -224,4 +262,4 @@ def trial(program, seed, is_short=True):
 
 
 if __name__ == '__main__':
-    sys.exit(trying.main('drivers', trial, planted_in_drivers.OF_DRIVERS))
+    sys.exit(trying.main('drivers', trial, planted_in_branches.OF_BRANCHES + planted_in_drivers.OF_DRIVERS))

@@ -65,8 +65,8 @@ def without(table, *keys):
     return {k: v for k, v in table.items() if k not in keys}
 
 
-def drop(sequence, i):
-    return sequence[:i] + sequence[i + 1:]
+def drop(sequence, i, *instead):
+    return sequence[:i] + instead + sequence[i + 1:]
 
 
 def lowest(used):

@@ -1,7 +1,6 @@
-use Rattle.std.proofs.Common.{◌≡◌, ◌++◌}
-use Rattle.sva_driver_reports.specs.Witness.{befores}
+use Rattle.sva_driver_reports.proofs.Rests.{Fronted}
 use Rattle.sva_driver_reports.proofs.fronts.put_befores.Given as goal
 
--- so many lines were written
+-- so many lines were taken, and told where they were
 abbrev pub invariant-loop-place : goal.invariant-loop-place
-invariant-loop-place l = l.out.items ≡ l.initial.out.items ++ befores l.text l.place
+invariant-loop-place l = Fronted l.text l.initial.out.items l.out.items l.spot l.place

@@ -17,6 +17,7 @@ returns-in-Ok c =
       config = c.text_of.ensures.config;
       before = c.text_of.ensures.before;
       said = c.text_of.ensures.said;
+      opened = c.text_of.ensures.opened ∙ c.in_ok-opened-in-Ok.ensures;
       spot = c.in-Ok.spot;
       first = sym leads;
       driver = c.text_of.ensures.driver;

@@ -12,7 +12,7 @@ returns-then-submits_there c =
     let next : place ≡ suc (place - 1) = omega (arith, past) in
     let such : submits_there c.args.thread.now c.args.endpoint (line_seen (get_or lines (place - 1) c.index-lines-place.result)) ≡ true = search rules in
     sym (ap (λ so. cond so (Some (place - 1)) (last_from (submits_there c.args.thread.now c.args.endpoint) 0 None (seen (take (place - 1) lines)))) such)
-    ∙ sym (last_back (submits_there c.args.thread.now c.args.endpoint) lines (place - 1) place c.index-lines-place.result next inside)
+    ∙ sym (last_back line_seen (submits_there c.args.thread.now c.args.endpoint) lines (place - 1) place c.index-lines-place.result next inside)
     ∙ c.loop-place.invariant
 
 pub loop-place-preserved : goal.loop-place-preserved
@@ -24,7 +24,7 @@ loop-place-preserved c =
     let next : place ≡ suc (place - 1) = omega (arith, past) in
     let other : submits_there c.args.thread.now c.args.endpoint (line_seen (get_or lines (place - 1) c.index-lines-place.result)) ≡ false = search rules in
     sym (ap (λ so. cond so (Some (place - 1)) (last_from (submits_there c.args.thread.now c.args.endpoint) 0 None (seen (take (place - 1) lines)))) other)
-    ∙ sym (last_back (submits_there c.args.thread.now c.args.endpoint) lines (place - 1) place c.index-lines-place.result next inside)
+    ∙ sym (last_back line_seen (submits_there c.args.thread.now c.args.endpoint) lines (place - 1) place c.index-lines-place.result next inside)
     ∙ c.loop-place.invariant
 
 pub returns : goal.returns

@@ -1,6 +1,0 @@
-use Rattle.sva_driver_words.specs.Faults.{freed_words}
-use Rattle.sva_driver_words.proofs.faults.near_freed.Goals as goal
-
-pub returns : goal.returns
-unfolding freed_words
-returns c = c.first_near.ensures

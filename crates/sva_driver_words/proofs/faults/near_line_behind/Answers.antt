@@ -1,6 +1,0 @@
-use Rattle.sva_driver_words.specs.Faults.{behind_words}
-use Rattle.sva_driver_words.proofs.faults.near_line_behind.Goals as goal
-
-pub returns : goal.returns
-unfolding behind_words
-returns c = c.first_near.ensures

@@ -202,9 +202,19 @@ static void every(void)
     svahost_record_await_stopped(r, device, 0x2001);
     svahost_record_reset(r, device);
     svahost_record_await_reset(r, device);
+    svahost_record_ats(r, device, 1);
+    svahost_record_ats(r, device, 0);
+    svahost_record_pri(r, device, 1);
+    svahost_record_pri(r, device, 0);
+    svahost_record_mastering(r, device, 1);
+    svahost_record_mastering(r, device, 0);
+    svahost_record_await_idle(r, device);
+    svahost_record_gone(r, device);
+    svahost_record_await_gone(r, device);
     svahost_record_close(r, device);
     svahost_record_open(r, device);
     svahost_record_skip(r, device);
+    svahost_record_resume(r, device);
     svahost_record_serve(r, device);
     svahost_record_respond(r, device, 0x2001, 511, SVAHOST_RECORD_SUCCESS);
     svahost_record_respond(r, device, 0, 0, SVAHOST_RECORD_INVALID);
@@ -230,7 +240,8 @@ static void try_every(void)
           "submit 0 entry 1 + iotlb 1 + iotlb 1 0x7f3a1c2d4 1 + pasid 2 + range 1 0x7f3a1c200 9 + pasid 1 + wait drain fence\n"
           "await wait 0\nfreeze 0\nfree 1\nfree pasid 1 0\nfree space 0\nfree domain 1\nunlock lock-0\n"
           "mark-0: mark\nmark-1: mark\nthread worker\nawait mark-1\nstop 0 1\nawait stopped 0 1\nreset 0\nawait reset 0\n"
-          "close 0\nopen 0\nskip 0\nserve 0\nrespond 0 1 511 success\nrespond 0 0 0 invalid\nrespond all 0 failure\n"
+          "ats 0 on\nats 0 off\npri 0 on\npri 0 off\nmastering 0 on\nmastering 0 off\nawait idle 0\ngone 0\nawait gone 0\n"
+          "close 0\nopen 0\nskip 0\nresume 0\nserve 0\nrespond 0 1 511 success\nrespond 0 0 0 invalid\nrespond all 0 failure\n"
           "respond all 0 1 invalid\ndiscard 0\ndiscard 0 1\nawait queue 0\nawait queue 0 1\nawait groups 0\n"
           "await groups 0 1\n");
 }

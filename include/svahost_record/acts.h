@@ -113,6 +113,42 @@ static inline void svahost_record_await_reset(struct svahost_record *r, const vo
     svahost_record_x_act(r, "await reset E", svahost_record_x_of(device), 0, 0);
 }
 
+/* The device's ATS is turned on, or off. */
+static inline void svahost_record_ats(struct svahost_record *r, const void *device, int on)
+{
+    svahost_record_x_act(r, on ? "ats E on" : "ats E off", svahost_record_x_of(device), 0, 0);
+}
+
+/* Its page request interface is. */
+static inline void svahost_record_pri(struct svahost_record *r, const void *device, int on)
+{
+    svahost_record_x_act(r, on ? "pri E on" : "pri E off", svahost_record_x_of(device), 0, 0);
+}
+
+/* Bus mastering is. */
+static inline void svahost_record_mastering(struct svahost_record *r, const void *device, int on)
+{
+    svahost_record_x_act(r, on ? "mastering E on" : "mastering E off", svahost_record_x_of(device), 0, 0);
+}
+
+/* The driver has seen that no transaction of the device is pending. */
+static inline void svahost_record_await_idle(struct svahost_record *r, const void *device)
+{
+    svahost_record_x_act(r, "await idle E", svahost_record_x_of(device), 0, 0);
+}
+
+/* The device was removed. To be recorded before whatever the driver does for that. */
+static inline void svahost_record_gone(struct svahost_record *r, const void *device)
+{
+    svahost_record_x_act(r, "gone E", svahost_record_x_of(device), 0, 0);
+}
+
+/* The driver has seen that the device was removed, and nothing of it comes any more. */
+static inline void svahost_record_await_gone(struct svahost_record *r, const void *device)
+{
+    svahost_record_x_act(r, "await gone E", svahost_record_x_of(device), 0, 0);
+}
+
 
 /* ---- page requests ---- */
 

@@ -175,6 +175,12 @@ static inline void svahost_record_skip(struct svahost_record *r, const void *dev
     svahost_record_x_act(r, "skip E", svahost_record_x_of(device), 0, 0);
 }
 
+/* The driver has cleared a time-out, so that the unit goes on which has stopped there. */
+static inline void svahost_record_resume(struct svahost_record *r, const void *device)
+{
+    svahost_record_x_act(r, "resume E", svahost_record_x_of(device), 0, 0);
+}
+
 
 /* ---- Intel VT-d ---- */
 

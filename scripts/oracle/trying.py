@@ -13,10 +13,12 @@ MOST_OF_PLANTED = 4000
 
 
 class Reading:
-    """A wrong reading: a function of the model that another takes the place of, made of it."""
+    """A wrong reading: a function of the model that another takes the place of, made of it; and what makes the texts in
+    which it is looked for, where these aren't those of all trials."""
 
-    def __init__(self, words, owner, name, made):
+    def __init__(self, words, owner, name, made, maker=None):
         self.words, self.owner, self.name, self.made = words, owner, name, made
+        self.its = {"maker": maker} if maker else {}
 
     @contextlib.contextmanager
     def planted(self):
@@ -44,14 +46,14 @@ def try_all(kind, trial, program, trials, seed):
     return 1 if wrong or not trials else 0
 
 
-def is_found(trial, program, seed):
-    """Whether a text tells the model from the program. One that leads where the model says that nothing leads, or to
-    what isn't kept, tells them apart too; any other fault in it ends the run."""
+def is_found(trial, program, seed, its):
+    """Whether a text tells the model from the program. One that leads where the model says that nothing leads, to what
+    isn't kept, or to what is no word, tells them apart too; any other fault in it ends the run."""
     for number in range(MOST_OF_PLANTED):
         try:
-            if trial(program, "%s-%d" % (seed, number), is_short=False)[1]:
+            if trial(program, "%s-%d" % (seed, number), is_short=False, **its)[1]:
                 return True
-        except (AssertionError, KeyError, StopIteration):
+        except (AssertionError, KeyError, StopIteration, ValueError, IndexError, TypeError):
             return True
     return False
 
@@ -61,7 +63,7 @@ def find_planted(kind, trial, program, seed, readings):
     found = 0
     for reading in readings:
         with reading.planted():
-            if is_found(trial, program, seed):
+            if is_found(trial, program, seed, reading.its):
                 found += 1
             else:
                 print("by-chance: %s: not found: %s" % (kind, reading.words), flush=True)

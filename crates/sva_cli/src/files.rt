@@ -1,13 +1,13 @@
-//! The files that a command line names, and the search of several.
+//! The files that a command line names.
+
+ghost use Rattle.std.specs.Prelude.{◌≡◌, ◌++◌, IfOk, codes};
+ghost use Rattle.sva_command.specs.Command.{texts};
+ghost use Rattle.sva_cli.specs.Spoken as spoken;
 
 use clap::error::ErrorKind;
 use std::alloc::{AllocError, Global};
-use std::fs::OpenFile;
-use std::rt::Files as FileSystem;
-use std::{fs, io};
 use sva_command::{Asked, Awaited, Named, files_of, jobs_of, named_in, parse, part_of};
 use sva_several::{Search, Wanted};
-use sva_streams::{DriveFault, Told, read_all};
 
 /// Several files, and what is wanted of them.
 #[derive(Drop)]
@@ -39,12 +39,14 @@ pub enum Files {
     /// What it says of a part, or of how many are searched at once, can't be meant.
     Wrong {
         /// What is told of that.
-        said: String,
+        said: Vec<u8>,
     },
 }
 
 /// What is done with each of several files, by the command that the other words ask for.
-fn search_of(asked: Asked) -> Search {
+fn search_of(asked: Asked) -> Search
+    ensures { result ≡ spoken.search_of asked }
+{
     match asked {
         Asked::Judge { run: true, .. } => Search::Lines,
         Asked::Judge {
@@ -59,23 +61,22 @@ fn search_of(asked: Asked) -> Search {
 }
 
 /// What is told of an option's text that can't be meant.
-fn no_meaning(alloc: Global, takes: &str, text: &[u8]) -> Result<Files, AllocError> {
-    let mut said = String::from_str(alloc, takes)?;
-    said.push_str(text_of(text))?;
-    said.push_str("'\n")?;
+fn no_meaning(alloc: Global, takes: &str, text: &[u8]) -> Result<Files, AllocError>
+    ensures { IfOk result (λ files. spoken.means files ≡ spoken.no_meaning takes.now text.now) }
+{
+    let mut said = Vec::from_slice(alloc, takes.as_bytes())?;
+    said.extend_from_slice(text)?;
+    said.extend_from_slice(b"'\n")?;
     Ok(Files::Wrong { said })
 }
 
 /// What is told of an option of files where none is named.
-fn no_files(alloc: Global, told: &str) -> Result<Files, AllocError> {
+fn no_files(alloc: Global, told: &str) -> Result<Files, AllocError>
+    ensures { IfOk result (λ files. spoken.means files ≡ spoken.Wrong told.now) }
+{
     Ok(Files::Wrong {
-        said: String::from_str(alloc, told)?,
+        said: Vec::from_slice(alloc, told.as_bytes())?,
     })
-}
-
-/// A word that was text.
-fn text_of(word: &[u8]) -> &str {
-    std::str::from_utf8(word).unwrap_or("")
 }
 
 /// The files of a part, which the text behind `--part` says.
@@ -84,7 +85,9 @@ fn part_in(
     wanted: Wanted,
     text: &[u8],
     files: &[String],
-) -> Result<Files, AllocError> {
+) -> Result<Files, AllocError>
+    ensures { IfOk result (λ found. spoken.means found ≡ spoken.part_in wanted text.now (texts files.now)) }
+{
     let Some(part) = part_of(text) else {
         return no_meaning(
             alloc,
@@ -107,40 +110,46 @@ fn part_in(
     }))
 }
 
-/// What the words say of files, where the others are this command, and so many are searched at once.
-fn of_files(alloc: Global, asked: Asked, jobs: u64, named: Named) -> Result<Files, AllocError> {
+/// All files: one is read in the place of standard input, and several are searched.
+fn all_of(wanted: Wanted, own: Vec<String>, mut files: Vec<String>) -> Files
+    ensures { spoken.means result ≡ spoken.all_of wanted (texts own.items) (texts files.items) }
+{
+    if files.len() == 1 {
+        if let Some(file) = files.pop() {
+            return Files::One { own, file };
+        }
+    }
+    Files::Several(Several {
+        wanted,
+        names: files,
+    })
+}
+
+/// What the words say of files, where this is wanted of several.
+fn of_files(alloc: Global, wanted: Wanted, named: Named) -> Result<Files, AllocError>
+    ensures { IfOk result (λ files. spoken.means files ≡ spoken.of_files wanted named) }
+{
     let Named {
         own,
-        mut files,
+        files,
         part,
         awaited,
         ..
     } = named;
-    let wanted = Wanted {
-        search: search_of(asked),
-        jobs,
-        is_part: false,
-    };
     if matches!(awaited, Awaited::Part) {
         // No word is behind the last `--part`.
         return part_in(alloc, wanted, b"", files.as_slice());
     }
-    if let Some(text) = part {
-        return part_in(alloc, wanted, text.as_slice(), files.as_slice());
+    match part {
+        Some(text) => part_in(alloc, wanted, text.as_slice(), files.as_slice()),
+        None => Ok(all_of(wanted, own, files)),
     }
-    if files.len() == 1 {
-        if let Some(file) = files.pop() {
-            return Ok(Files::One { own, file });
-        }
-    }
-    Ok(Files::Several(Several {
-        wanted,
-        names: files,
-    }))
 }
 
 /// What is said of how many files are searched at once: a number, nothing, or what can't be meant.
-fn jobs_in(named: &Named, usual: u64) -> Option<u64> {
+fn jobs_in(named: &Named, usual: u64) -> Option<u64>
+    ensures { result ≡ spoken.jobs_in named.now usual }
+{
     // No word is behind the last `--jobs`.
     if matches!(named.awaited, Awaited::Jobs) {
         return None;
@@ -152,15 +161,26 @@ fn jobs_in(named: &Named, usual: u64) -> Option<u64> {
 }
 
 /// The text behind `--jobs`.
-fn jobs_text(named: &Named) -> &[u8] {
+fn jobs_text(named: &Named) -> &[u8]
+    ensures { result.now ≡ spoken.jobs_text named.entry.now }
+{
     match &named.jobs {
         Some(text) if !matches!(named.awaited, Awaited::Jobs) => text.as_slice(),
         _ => b"",
     }
 }
 
+/// Whether no file is named, and no part is said.
+fn names_nothing(named: &Named) -> bool
+    ensures { result ≡ spoken.names_nothing named.now }
+{
+    named.files.is_empty() && named.part.is_none()
+}
+
 /// What the words say of files, where the others are this command.
-fn files_by(alloc: Global, asked: Asked, usual: u64, named: Named) -> Result<Files, AllocError> {
+fn files_by(alloc: Global, asked: Asked, usual: u64, named: Named) -> Result<Files, AllocError>
+    ensures { IfOk result (λ files. spoken.means files ≡ spoken.files_by asked usual named) }
+{
     let Some(jobs) = jobs_in(&named, usual) else {
         return no_meaning(
             alloc,
@@ -168,26 +188,32 @@ fn files_by(alloc: Global, asked: Asked, usual: u64, named: Named) -> Result<Fil
             jobs_text(&named),
         );
     };
-    if named.files.is_empty() && named.part.is_none() {
+    if names_nothing(&named) {
         return no_files(
             alloc,
             "svahost: --jobs is of several files, and none is named\n",
         );
     }
-    of_files(alloc, asked, jobs, named)
+    let wanted = Wanted {
+        search: search_of(asked),
+        jobs,
+        is_part: false,
+    };
+    of_files(alloc, wanted, named)
 }
 
 /// Whether no file is named, and nothing is said of any.
-fn is_bare(named: &Named) -> bool {
-    named.files.is_empty()
-        && named.part.is_none()
-        && named.jobs.is_none()
-        && !matches!(named.awaited, Awaited::Jobs)
+fn is_bare(named: &Named) -> bool
+    ensures { result ≡ spoken.is_bare named.now }
+{
+    names_nothing(named) && named.jobs.is_none() && !matches!(named.awaited, Awaited::Jobs)
 }
 
-/// What the words of a command line say of files, the program's name first. So many are searched at once where they don't
-/// say how many.
-pub fn files_in(alloc: Global, usual: u64, words: Vec<String>) -> Result<Files, AllocError> {
+/// What the words of a command line say of files, the program's name first. So many are searched at once where they
+/// don't say how many.
+pub fn files_in(alloc: Global, usual: u64, words: Vec<String>) -> Result<Files, AllocError>
+    ensures { IfOk result (λ files. spoken.IsSpoken usual (texts words.items) (spoken.means files)) }
+{
     let Some(named) = named_in(alloc, words.as_slice())? else {
         return Ok(Files::Input { own: words });
     };
@@ -201,59 +227,4 @@ pub fn files_in(alloc: Global, usual: u64, words: Vec<String>) -> Result<Files, 
             _ => Ok(Files::Input { own: named.own }),
         },
     }
-}
-
-/// What is told of a file that can't be read.
-pub fn unreadable(alloc: Global, file: &str) -> Result<String, AllocError> {
-    let mut said = String::from_str(alloc, "svahost: '")?;
-    said.push_str(file)?;
-    said.push_str("' isn't a file that can be read\n")?;
-    Ok(said)
-}
-
-/// Why the texts of files aren't there.
-#[derive(Drop)]
-pub enum Unread<'a> {
-    /// One can't be read.
-    File(&'a str),
-    /// Memory lacked.
-    Memory,
-}
-
-/// Opens a file, which may be a pipe, but no folder.
-pub fn open<R: FileSystem>(rt: &R, name: &str) -> io::Result<R::File> {
-    let opened = fs::open(rt, name)?;
-    if opened.metadata()?.is_dir() {
-        return Err(io::Error::from(io::ErrorKind::InvalidInput));
-    }
-    Ok(opened)
-}
-
-/// The text of a file.
-fn read_file<R: FileSystem>(rt: &R, alloc: Global, name: &str) -> Result<Vec<u8>, DriveFault> {
-    match open(rt, name) {
-        Ok(opened) => read_all(alloc, &mut Told::new(opened)),
-        Err(_) => Err(DriveFault::Read),
-    }
-}
-
-/// The texts of files, in order.
-pub fn read_files<'a, R: FileSystem>(
-    rt: &R,
-    alloc: Global,
-    names: &'a [String],
-) -> Result<Vec<Vec<u8>>, Unread<'a>> {
-    let mut texts = Vec::new(alloc);
-    for name in names {
-        match read_file(rt, alloc, name.as_str()) {
-            Ok(text) => {
-                if texts.push(text).is_err() {
-                    return Err(Unread::Memory);
-                }
-            }
-            Err(DriveFault::Memory) => return Err(Unread::Memory),
-            Err(_) => return Err(Unread::File(name.as_str())),
-        }
-    }
-    Ok(texts)
 }

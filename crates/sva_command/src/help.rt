@@ -281,21 +281,32 @@ without a PASID; pages may be hexadecimal:
                            `free domain S`, by which workers serve the space's groups
     freeze F               nobody may write the frame any more
     reset E                the device is reset; `await reset E`
+    ats E on, ats E off    the device's ATS is turned on or off; `pri E on`, `pri E off`: its page
+                           requests; `mastering E on`, `mastering E off`: bus mastering
+    await idle E           no translation request of the device is out, and no use runs
+    await gone E           the device was removed, and nothing of it is on its way up
     close E, open E        the unit is closed, and is open again
     skip E                 the head of the invalidation queue is taken out, whatever it is
+    resume E               the unit goes on that has stopped at a time-out
     lock L, unlock L       a lock that threads share
     mark                   nothing; as `NAME: mark` another thread awaits it by `await NAME`
     if [not] CONDITION     a look, by which the thread goes on, up to `else` or `end`: at a flag, which
                            is its name, or at `present E P`, an entry that leads to a space; `stopped E P`,
-                           an answer to a stop; `filed E [P]`, a group; `queued E [P]`, a page request
+                           an answer to a stop; `filed E [P]`, a group; `queued E [P]`, a page request;
+                           `gone E`, a device that was removed; `failed`, a wait that was aborted, of what
+                           this thread awaited last
     set NAME, clear NAME   the flag is set, or clear as at first
 
 Settings stand above the first act: `link free` or `posted`, `waits fence` or `plain`, `drain empty` or
-`arrived`, `caches off` or `on`, `stopped marker`, `status` or `known`; and before these `platform vt-d`,
-which is `link posted`, `waits plain`, `drain arrived` and `caches on`, or `platform free`. By `refuses
-drain` the unit takes no wait with `drain`, and by `allow no-group` a response that finds no group is no
-finding. Threads, workers and devices are as in a race. A unit, as a link or a device, acts by itself:
-`pump E`; `write E`, the oldest page request that it has received comes into the queue; `forget E P`.
+`arrived`, `caches off` or `on`, `stopped marker`, `status` or `known`, `enables kept` or `cleared` by a
+reset, `timeouts off`, `on` or `stop`; and before these `platform vt-d`, which is `link posted`, `waits
+plain`, `drain arrived` and `caches on`, or `platform free`. By `refuses drain` the unit takes no wait with
+`drain`, and by `allow no-group` a response that finds no group is no finding. Threads, workers and devices
+are as in a race, but that a device may have `lies`, `awaits` and `leaves` too. The lines from `def NAME $X`
+to its `end` stand where `call NAME WORD` does, with the word for `$X`; those from `repeat N` to its `end`
+stand N times. A unit, as a link or a device, acts by itself: `pump E`; `write E`, the oldest page request
+that it has received comes into the queue; `forget E P`; `expire E T`, an invalidation that isn't answered
+runs out of time; and a device that `leaves` is removed at some moment: `gone E`.
 
 These steps send a message, and no others. Behind it stands what its delivery is answered:
 

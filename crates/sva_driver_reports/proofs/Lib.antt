@@ -1,7 +1,10 @@
 mod Moved
 mod OneLines
+mod TextLines
+mod WrittenLines
 mod ReadLines
 mod Rests
 mod RunFronts
 mod Told
+mod UntakenLines
 mod Witnesses

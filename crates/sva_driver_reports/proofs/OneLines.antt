@@ -136,6 +136,7 @@ forgotten_one endpoint (Some kept) = page_one (codes "forget") endpoint kept.pas
 pub act_one : (part : Part) (endpoint : ℕ) (its : LocalAct) → IsOneLine (local_text part endpoint its)
 act_one part endpoint (local.Deliver place) = delivered_one part endpoint place (slice_get part.flight place)
 act_one part endpoint local.Pump = endpoint_one (codes "pump") endpoint refl
+act_one part endpoint (local.Expire itag silent) = pasid_one (codes "expire") endpoint itag refl
 act_one part endpoint local.Write = endpoint_one (codes "write") endpoint refl
 act_one part endpoint local.Serve = endpoint_one (codes "serve") endpoint refl
 act_one part endpoint (local.Respond pasid index fails) =
@@ -147,6 +148,7 @@ act_one part endpoint (local.Finish place) =
     let older = count_by is_taken (take place part.works) in
     both (with_endpoint (codes "finish") endpoint) (and_older older) (endpoint_one (codes "finish") endpoint refl) (older_one older)
 act_one part endpoint (local.Quit pasid) = pasid_one (codes "quit") endpoint pasid refl
+act_one part endpoint local.Leave = endpoint_one (codes "gone") endpoint refl
 act_one part endpoint (local.More index page write last) = more_one endpoint index page write last (slice_get part.groups index)
 act_one part endpoint (local.Ask pasid page) = page_one (codes "ask") endpoint pasid page refl
 act_one part endpoint (local.Use pasid page) = page_one (codes "use") endpoint pasid page refl
@@ -164,6 +166,7 @@ pub who_one : (own : Doing) (at : ℕ) → IsOneLine (who_text own at)
 who_one doing.Line at = refl
 who_one doing.Deliver at = refl
 who_one doing.Pump at = endpoint_one (codes "unit") at refl
+who_one doing.Expire at = endpoint_one (codes "unit") at refl
 who_one doing.Write at = endpoint_one (codes "unit") at refl
 who_one doing.ForgetEntry at = endpoint_one (codes "unit") at refl
 who_one doing.Forget at = endpoint_one (codes "unit") at refl

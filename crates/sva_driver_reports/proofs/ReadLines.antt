@@ -29,9 +29,10 @@ use Rattle.sva_driver_texts.specs.Blocks.{BlockSaid, branched}
 use Rattle.sva_driver_texts.specs.Readings.{Reading, act_line, begins_branch, behind, behind_lines, behind_words, branch_line, device_line, headed}
 use Rattle.sva_driver_texts.specs.Readings.{heading_line, is_misspelt, is_of_act}
 use Rattle.sva_driver_texts.specs.Readings.{line_by, nothing, other_before, other_behind, other_line, race_line, role_of, set_line}
-use Rattle.sva_driver_texts.specs.Readings.{is_of_endpoint, is_of_unit, is_told, is_word, thread_of, told_by, told_by_parts, workers_line}
+use Rattle.sva_driver_texts.specs.Readings.{is_of_endpoint, is_of_unit, is_told, is_word, thread_of, told_by, told_by_parts, with_wrong_block, workers_line}
 use Rattle.sva_driver_texts.specs.Devices.{DeviceSaid, setting_line}
-use Rattle.sva_driver_texts.specs.Texts.{DriverRead, IsRead, LineTold, driver_behind, driver_of, driver_read, if_right, told_of, told_seen}
+use Rattle.sva_driver_texts.specs.WrittenOut.{Worded, written_out}
+use Rattle.sva_driver_texts.specs.Texts.{DriverRead, IsRead, LineTold, driver_behind, driver_of, driver_read, driver_written, if_right, told_of, told_seen}
 use Rattle.sva_driver_texts.specs.Texts.{too_large}
 use Rattle.sva_driver_texts.specs.declared.kept.Read.{Read}
 use Rattle.sva_driver_texts.specs.declared.kept.Said.{Said}
@@ -39,86 +40,9 @@ use Rattle.sva_driver_texts.specs.declared.kept.Text.{Text}
 use Rattle.sva_open.specs.declared.drivers.Line.{Line as Kept}
 use Rattle.sva_driver_reports.specs.Witness.{EventSaid, act_event, answer_of, event_by, line_event, threaded}
 use Rattle.sva_driver_reports.specs.Witnesses.{IsOneLine}
+use Rattle.sva_driver_reports.proofs.TextLines.{AreOneLines, joined_one, lines_one, parts_one, word_one}
+use Rattle.sva_driver_reports.proofs.WrittenLines.{AreFound, AreLines, AreWorded, numbered_one, written_one}
 use Rattle.sva_driver_reports.proofs.OneLines.{act_one, answer_one, both, decimal_one, either, none_of, who_one}
-
--- ---- Lines and words of a text
-
-abbrev AreOneLines : List (List ℕ) → Type 0
-AreOneLines [] = Unit {0}
-AreOneLines (line ∷ lines) = IsOneLine line × AreOneLines lines
-
-onto_one : (byte : ℕ) (lines : List (List ℕ)) → (byte == 10) ≡ false → AreOneLines lines → AreOneLines (onto_first byte lines)
-onto_one byte [] other h = (ap (λ t. t || false) other, tt)
-onto_one byte (line ∷ lines) other h = (ap (λ t. t || list_any (λ b. b == 10) line) other ∙ h.0, h.1)
-
-lines_one : (text : List ℕ) → AreOneLines (lines_of text)
-lines_one [] = tt
-lines_one (byte ∷ text) = by_byte (byte == 10) refl (lines_one text)
-  where
-    by_byte : (test : Bool) → (byte == 10) ≡ test → AreOneLines (lines_of text)
-        → AreOneLines (if test then [] ∷ lines_of text else onto_first byte (lines_of text))
-    by_byte true is h = (refl, h)
-    by_byte false is h = onto_one byte (lines_of text) is h
-
-words_one : (line : List ℕ) → IsOneLine line → AreOneLines (words_of line)
-words_one [] h = (refl, tt)
-words_one (byte ∷ line) h =
-    let parts = none_of (byte == 10) (list_any (λ b. b == 10) line) h in
-    by_byte (byte == 32) parts.0 (words_one line parts.1)
-  where
-    by_byte : (test : Bool) → (byte == 10) ≡ false → AreOneLines (words_of line)
-        → AreOneLines (if test then [] ∷ words_of line else onto_first byte (words_of line))
-    by_byte true other h = (refl, h)
-    by_byte false other h = onto_one byte (words_of line) other h
-
-alone_one : (word : List ℕ) (rest : List (List ℕ)) → IsOneLine word → AreOneLines rest → AreOneLines (said_alone word ++ rest)
-alone_one [] rest word h = h
-alone_one (byte ∷ bytes) rest word h = (word, h)
-
-said_one : (words : List (List ℕ)) → AreOneLines words → AreOneLines (said words)
-unfolding said
-said_one [] h = tt
-said_one (word ∷ words) h = by_test (begins_comment word) (said_one words h.1)
-  where
-    by_test : (test : Bool) → AreOneLines (said words) → AreOneLines (if test then [] else said_alone word ++ said words)
-    by_test true rest = tt
-    by_test false rest = alone_one word (said words) h.0 rest
-
-take_one : (count : ℕ) (words : List (List ℕ)) → AreOneLines words → AreOneLines (take count words)
-take_one zero words h = tt
-take_one (suc count) [] h = tt
-take_one (suc count) (word ∷ words) h = (h.0, take_one count words h.1)
-
-drop_one : (count : ℕ) (words : List (List ℕ)) → AreOneLines words → AreOneLines (drop count words)
-drop_one zero words h = h
-drop_one (suc count) [] h = tt
-drop_one (suc count) (word ∷ words) h = drop_one count words h.1
-
-split_one : (name : Option (List ℕ)) (words : List (List ℕ)) (arrow : Option ℕ) → AreOneLines words → AreOneLines (split_at name words arrow).step
-split_one name words None h = h
-split_one name words (Some arrow) h = take_one arrow words h
-
-named_one : (words : List (List ℕ)) (name : Option (List ℕ)) → AreOneLines words → AreOneLines (parts_by words name).step
-named_one words None h = split_one None words (position is_arrow words) h
-named_one words (Some name) h = split_one (Some name) (drop 1 words) (position is_arrow (drop 1 words)) (drop_one 1 words h)
-
-parts_one : (words : List (List ℕ)) → AreOneLines words → AreOneLines (parts_of words).step
-parts_one [] h = split_one None [] (position is_arrow []) tt
-parts_one (word ∷ words) h = named_one (word ∷ words) (name_before word) h
-
-joined_one : (words : List (List ℕ)) → AreOneLines words → IsOneLine (joined_words words)
-joined_one [] h = refl
-joined_one (word ∷ words) h = both word (flat_map (λ next. 32 ∷ next) words) h.0 (more words h.1)
-  where
-    more : (words : List (List ℕ)) → AreOneLines words → IsOneLine (flat_map (λ next. 32 ∷ next) words)
-    more [] h = refl
-    more (word ∷ words) h = both (32 ∷ word) (flat_map (λ next. 32 ∷ next) words) h.0 (more words h.1)
-
-word_one : (at : ℕ) (words : List (List ℕ)) → AreOneLines words → IsOneLine (word_at at words)
-word_one zero [] h = refl
-word_one (suc at) [] h = refl
-word_one zero (word ∷ words) h = h.0
-word_one (suc at) (word ∷ words) h = word_one at words h.1
 
 -- ---- Whose a line is
 
@@ -243,11 +167,24 @@ line_good config reading number words good all =
     (thread_good reading (parts_of words).step good (parts_one words all)))
     (one_of (is_misspelt (parts_of words)) _ _ (wrong _) (bound _ _ (λ done. other_good config reading words good all)))
 
+good_of : (test : Bool) (one other : Reading) → Good one → Good other → Good (if test then one else other)
+good_of true one other a b = a
+good_of false one other a b = b
+
+-- the block of a wrong line is no line
+abbrev blocked : Reading → (line : ℕ) → List (List ℕ) → Reading
+blocked reading line words = with_wrong_block reading line (parts_of words)
+
+blocked_good : (reading : Reading) (line : ℕ) (words : List (List ℕ)) → Good reading → Good (blocked reading line words)
+blocked_good reading line words good = good_of (says 0 (codes "if") (parts_of words).step) _ _ good good
+
 after_good : (reading : Reading) (known : Known) (line : ℕ) (words : List (List ℕ)) (read : Result Reading DriverWrong) → Good reading → IsGood read
     → Good (behind reading known line words read)
 unfolding IsGood
 after_good reading known line words (Ok read) good h = h
-after_good reading known line words (Err it) good h = good
+after_good reading known line words (Err it) good h =
+    good_of (list_any (λ own. own == line) (blocked reading line words).told) _ _ (blocked_good reading line words good)
+    (blocked_good reading line words good)
 
 words_good : (config : Config) (known : Known) (reading : Reading) (line : ℕ) (words : List (List ℕ)) → Good reading → AreOneLines words
     → Good (behind_words config known reading line words)
@@ -258,21 +195,13 @@ words_good config known reading line (word ∷ words) good all =
 
 -- ---- All lines
 
-abbrev AreLines : List Line → Type 0
-AreLines [] = Unit {0}
-AreLines (line ∷ lines) = IsOneLine line.1 × AreLines lines
-
-numbered_one : (first : ℕ) (lines : List (List ℕ)) → AreOneLines lines → AreLines (enumerate_from first lines)
-numbered_one first [] h = tt
-numbered_one first (line ∷ lines) h = (h.0, numbered_one (first + 1) lines h.1)
-
-lines_good : (config : Config) (known : Known) (reading : Reading) (lines : List Line) → Good reading → AreLines lines
+lines_good : (config : Config) (known : Known) (reading : Reading) (lines : List Worded) → Good reading → AreWorded lines
     → Good (behind_lines config known reading lines)
 unfolding behind_lines
 lines_good config known reading [] good all = good
 lines_good config known reading (line ∷ lines) good all =
-    lines_good config known (behind_words config known reading line.0 (script_words line.1)) lines
-    (words_good config known reading line.0 (script_words line.1) good (said_one (words_of line.1) (words_one line.1 all.0))) all.1
+    lines_good config known (behind_words config known reading line.0 line.1) lines
+    (words_good config known reading line.0 line.1 good all.0) all.1
 
 -- those behind the config are some of all
 abbrev AreLeft : Result (Config × List Line) Fault → Type 0
@@ -307,12 +236,18 @@ one_read : (test : Bool) (one other : Result DriverRead (List ℕ)) → IsGoodRe
 one_read true one other a b = a
 one_read false one other a b = b
 
+written_read : (config : Config) (all : List Line) (found : Result (List Worded) (List ℕ)) → AreFound found
+    → IsGoodRead (driver_written config all found)
+written_read config all (Err said) h = tt
+written_read config all (Ok lines) h =
+    let read = driver_read config all lines in
+    right_read read read.reading.said (lines_good config read.known (nothing config) lines (tt, refl) h).0
+
 behind_read : (all : List Line) (found : Result (Config × List Line) Fault) → AreLeft found → IsGoodRead (driver_behind all found)
 behind_read all (Err fault) h = tt
 behind_read all (Ok (config, lines)) h =
-    let read = driver_read config all lines in
-    one_read (is_fit config) (if_right read read.reading.said) (Err (limits_text config all))
-    (right_read read read.reading.said (lines_good config read.known (nothing config) lines (tt, refl) h).0) tt
+    one_read (is_fit config) (driver_written config all (written_out lines)) (Err (limits_text config all))
+    (written_read config all (written_out lines) (written_one lines h)) tt
 
 text_good : (text : List ℕ) → IsGoodRead (driver_of text)
 text_good text =

@@ -18,6 +18,7 @@ use Rattle.sva_driver_reports.specs.Limits.{ask_text, asks_from}
 use Rattle.sva_driver_reports.specs.Nevers.{never_text, nevers_from}
 use Rattle.sva_driver_reports.specs.Reports.{budgets_from, group_text, groups_from, marked_text, part_text, parts_from, rows_from, stopping_text}
 use Rattle.sva_driver_reports.specs.Reports.{other_text, others_from, waiting_place, waits_by}
+use Rattle.sva_driver_reports.specs.Untaken.{number_text, numbers_from}
 use Rattle.sva_driver_reports.specs.Witness.{EventSaid, before_text, befores, behind_place, conduct_text, conducts_from, spot_before, wider}
 use Rattle.sva_driver_reports.specs.Witness.{width_from}
 
@@ -288,6 +289,28 @@ module _ (devices : List Device) (lines : List Line) where
       → out ++ nevers_from devices lines (drop i xs) ≡ whole → out ≡ whole
   nevers_end xs i out whole past so_far =
       last_piece (λ i xs. nevers_from devices lines xs) (λ i x. never_text devices lines x) nevers_none xs i out whole past so_far
+
+-- ---- Numbers of lines
+
+module _ (count : ℕ) where
+  numbers_more : (i : ℕ) (x : ℕ) (xs : List ℕ) → numbers_from count i (x ∷ xs) ≡ number_text count i x ++ numbers_from count (i + 1) xs
+  unfolding numbers_from
+  numbers_more i x xs = refl
+
+  numbers_none : (i : ℕ) → numbers_from count i [] ≡ []
+  unfolding numbers_from
+  numbers_none i = refl
+
+  pub numbers_next : (xs : List ℕ) (i : ℕ) (blank : ℕ) (out new whole : List ℕ) → i < length xs
+      → out ++ numbers_from count i (drop i xs) ≡ whole → new ≡ out ++ number_text count i (get_or xs i blank)
+      → new ++ numbers_from count (i + 1) (drop (i + 1) xs) ≡ whole
+  numbers_next xs i blank out new whole inside so_far is =
+      next_piece (λ i xs. numbers_from count i xs) (λ i x. number_text count i x) numbers_more xs i blank out new whole inside so_far is
+
+  pub numbers_end : (xs : List ℕ) (i : ℕ) (out whole : List ℕ) → length xs ≤ i → out ++ numbers_from count i (drop i xs) ≡ whole
+      → out ≡ whole
+  numbers_end xs i out whole past so_far =
+      last_piece (λ i xs. numbers_from count i xs) (λ i x. number_text count i x) numbers_none xs i out whole past so_far
 
 -- ---- Widths
 

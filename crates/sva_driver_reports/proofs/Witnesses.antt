@@ -245,6 +245,7 @@ witness_by : (text : Text) (most : ℕ) (it : Verdict) (out : List ℕ) → IsFi
     → IsJudged text.driver most it → ruling.Unsafe ≡ ruling_of it → out ≡ report_text text it → HasWitness text out
 witness_by text most (verdict.Unsafe witness) out fit holds rules is = witness_of text witness.items out fit holds.0 holds.1 is
 witness_by text most (verdict.Safe moments looked) out fit holds rules is = absurd (unsafe_alone (is_tried looked.items) rules)
+witness_by text most (verdict.SafeApart moments looked) out fit holds rules is = absurd (unsafe_alone (is_tried looked.items) rules)
 witness_by text most (verdict.Stuck witness moments) out fit holds rules is = absurd (cc rules)
 witness_by text most (verdict.CutOff moments events) out fit holds rules is = absurd (cc rules)
 

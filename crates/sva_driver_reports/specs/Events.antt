@@ -46,11 +46,16 @@ abbrev pub begun_text : (endpoint pasid page : ℕ) → (write last : Bool) → 
 begun_text endpoint pasid page write last =
     with_page (codes "fault") endpoint pasid page ++ access_text write ++ codes " new" ++ last_text last
 
+-- it is told alike whether the endpoint may leave unanswered what has come to it, or nobody can answer
+abbrev pub expired_text : (endpoint itag : ℕ) → List ℕ
+expired_text endpoint itag = with_endpoint (codes "expire") endpoint ++ and_number itag
+
 -- ---- Each act that comes by itself
 
 abbrev pub local_text : Part → (endpoint : ℕ) → LocalAct → List ℕ
 local_text part endpoint (local.Deliver place) = delivered_text part endpoint place (slice_get part.flight place)
 local_text part endpoint local.Pump = with_endpoint (codes "pump") endpoint
+local_text part endpoint (local.Expire itag silent) = expired_text endpoint itag
 local_text part endpoint local.Write = with_endpoint (codes "write") endpoint
 local_text part endpoint local.Serve = with_endpoint (codes "serve") endpoint
 local_text part endpoint (local.Respond pasid index fails) = response_text endpoint pasid index fails
@@ -59,6 +64,7 @@ local_text part endpoint (local.End place) =
 local_text part endpoint (local.Finish place) =
     with_endpoint (codes "finish") endpoint ++ and_older (count_by is_taken (take place part.works))
 local_text part endpoint (local.Quit pasid) = with_pasid (codes "quit") endpoint pasid
+local_text part endpoint local.Leave = with_endpoint (codes "gone") endpoint
 local_text part endpoint (local.More index page write last) =
     more_request endpoint index page write last (slice_get part.groups index)
 local_text part endpoint (local.Ask pasid page) = with_page (codes "ask") endpoint pasid page

@@ -1,6 +1,7 @@
 pub mod Events
 pub mod Findings
 pub mod Limits
+pub mod Untaken
 pub mod Nevers
 pub mod Reports
 pub mod Witness

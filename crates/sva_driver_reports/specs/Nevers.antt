@@ -13,11 +13,12 @@ use Rattle.sva_open.specs.declared.drivers.Line.{Line}
 use Rattle.sva_open.specs.declared.drivers.Saying.{Saying}
 use Rattle.sva_open.specs.declared.drivers.Saying.TheVariants.{Does, Names}
 use Rattle.sva_judge.specs.declared.facts.Fact.{Fact}
-use Rattle.sva_judge.specs.declared.facts.Fact.TheVariants.{Holds, Uses, Faults, Leads}
+use Rattle.sva_judge.specs.declared.facts.Fact.TheVariants.{Holds, Uses, Faults, Leads, Taken}
 use Rattle.sva_judge.specs.declared.verdicts.Looked.{Looked}
 use Rattle.sva_driver_texts.specs.Budgets.{is_ask}
 use Rattle.sva_driver_texts.specs.declared.kept.Text.{Text}
 use Rattle.sva_driver_words.specs.Pieces.{and_number, with_endpoint}
+use Rattle.sva_driver_reports.specs.Untaken.{untaken, untaken_text}
 use Rattle.sva_driver_reports.specs.Witness.{said_if}
 
 -- ---- Was anything tried that could go wrong?
@@ -28,6 +29,7 @@ is_trial (Holds endpoint) = true
 is_trial (Uses endpoint) = false
 is_trial (Faults endpoint) = true
 is_trial (Leads line frame) = false
+is_trial (Taken line) = false
 
 abbrev pub tries : Looked → Bool
 tries one = one.is_met && is_trial one.fact
@@ -45,6 +47,7 @@ is_budgeted (Holds endpoint) budget = nat_lt 0 budget.asks
 is_budgeted (Uses endpoint) budget = nat_lt 0 budget.uses
 is_budgeted (Faults endpoint) budget = nat_lt 0 budget.faults
 is_budgeted (Leads line frame) budget = false
+is_budgeted (Taken line) budget = false
 
 abbrev pub has_budget : Fact → Option Device → Bool
 has_budget fact None = false
@@ -64,6 +67,7 @@ is_act_of (Holds endpoint) its = is_ask its
 is_act_of (Uses endpoint) its = is_use its
 is_act_of (Faults endpoint) its = is_fault its
 is_act_of (Leads line frame) its = false
+is_act_of (Taken line) its = false
 
 -- a group goes on with a page request
 abbrev pub is_more : Named → Bool
@@ -75,6 +79,7 @@ is_named_by (Holds endpoint) its = false
 is_named_by (Uses endpoint) its = false
 is_named_by (Faults endpoint) its = is_more its
 is_named_by (Leads line frame) its = false
+is_named_by (Taken line) its = false
 
 -- does a line ask, use, or send a page request there?
 abbrev pub does : (endpoint : ℕ) → Fact → Saying → Bool
@@ -105,11 +110,13 @@ frame_text frame None = []
 frame_text frame (Some line) =
     codes "never: a translation to frame" ++ and_number frame ++ codes ", which line" ++ and_number line.number ++ giving_text line.saying
 
+-- lines that were never taken are told together, behind all others
 abbrev pub never_of : List Device → List Line → Fact → List ℕ
 never_of devices lines (Holds endpoint) = endpoint_text devices lines endpoint (Holds endpoint) (codes " holds a translation\n")
 never_of devices lines (Uses endpoint) = endpoint_text devices lines endpoint (Uses endpoint) (codes " uses a translation\n")
 never_of devices lines (Faults endpoint) = endpoint_text devices lines endpoint (Faults endpoint) (codes " sends a page request\n")
 never_of devices lines (Leads line frame) = frame_text frame (slice_get lines line)
+never_of devices lines (Taken line) = []
 
 abbrev pub never_text : List Device → List Line → Looked → List ℕ
 never_text devices lines one = if one.is_met then [] else never_of devices lines one.fact
@@ -121,4 +128,7 @@ nevers_from devices lines (one ∷ looked) = never_text devices lines one ++ nev
 -- of a search in which nothing was tried it isn't said: its first line says more
 abbrev pub nevers_text : Text → List Looked → List ℕ
 nevers_text text looked =
-    if is_tried looked then nevers_from text.driver.devices.items text.driver.lines.items looked else []
+    if is_tried looked
+    then nevers_from text.driver.devices.items text.driver.lines.items looked
+    ++ untaken_text (untaken text.driver.taken.items text.driver.lines.items looked)
+    else []

@@ -50,7 +50,7 @@ within_text lines endpoint device conduct =
     ++ counted_text device.budget.uses (codes "use") (codes "uses") ++ codes ", "
     ++ counted_text device.budget.faults (codes "fault") (codes "faults")
     ++ said_if device.evicts (codes ", evicts") ++ said_if device.is_silent (codes ", silent")
-    ++ said_if conduct.lies (codes ", lies") ++ said_if conduct.awaits (codes ", awaits")
+    ++ said_if conduct.lies (codes ", lies") ++ said_if conduct.awaits (codes ", awaits") ++ said_if device.leaves (codes ", leaves")
     ++ unmade_text lines endpoint device ++ 10 ∷ []
 
 abbrev pub conduct_in : Option Part → Conduct
@@ -96,14 +96,33 @@ unfoldable pub groups_from : (endpoint index : ℕ) → List (Option Group) → 
 groups_from endpoint index [] = []
 groups_from endpoint index (group ∷ groups) = group_text endpoint index group ++ groups_from endpoint (index + 1) groups
 
-abbrev pub disabled_text : (endpoint : ℕ) → List ℕ
-disabled_text endpoint =
-    with_endpoint (codes "# endpoint") endpoint ++ codes " may send no page request: a response was a Response Failure\n"
+-- what is off at it
+abbrev pub off_text : (endpoint : ℕ) → (is_on : Bool) → (what : List ℕ) → List ℕ
+off_text endpoint is_on what = said_if (not is_on) (with_endpoint (codes "# endpoint") endpoint ++ what)
+
+abbrev pub failed : List ℕ
+failed = codes " may send no page request: a response was a Response Failure\n"
+
+-- what is turned off at it, and whether it is gone
+abbrev pub turned_text : (endpoint : ℕ) → (has_ats has_requests is_master is_gone : Bool) → List ℕ
+turned_text endpoint has_ats has_requests is_master is_gone =
+    off_text endpoint has_ats (codes " has ATS off, and answers no invalidation that comes\n")
+    ++ off_text endpoint has_requests (codes " has page requests off\n")
+    ++ off_text endpoint is_master (codes " has bus mastering off\n")
+    ++ off_text endpoint (not is_gone) (codes " is gone, and answers nothing\n")
+
+abbrev pub turned_at : (endpoint : ℕ) → Part → List ℕ
+turned_at endpoint part = turned_text endpoint part.has_ats part.has_requests part.is_master part.is_gone
+
+-- has its unit stopped at a time-out?
+abbrev pub stalled_text : (endpoint : ℕ) → (is_stalled : Bool) → List ℕ
+stalled_text endpoint is_stalled =
+    said_if is_stalled (with_endpoint (codes "# unit of endpoint") endpoint ++ codes " has stopped at a time-out\n")
 
 abbrev pub part_text : (endpoint : ℕ) → Part → List ℕ
 part_text endpoint part =
     rows_from endpoint 0 part.rows ++ groups_from endpoint 0 part.groups
-    ++ said_if (not part.is_enabled) (disabled_text endpoint)
+    ++ off_text endpoint part.is_enabled failed ++ turned_at endpoint part ++ stalled_text endpoint part.is_stalled
 
 unfoldable pub parts_from : (endpoint : ℕ) → List Part → List ℕ
 parts_from endpoint [] = []
@@ -186,25 +205,32 @@ stuck_text text choices =
     ++ parts_from 0 (behind text choices).world.parts
     ++ budgets_text (codes "# ") text ++ witness_text text choices
 
-abbrev pub safe_line : (moments : ℕ) → (tried : Bool) → List ℕ
-safe_line moments tried = codes "safe in all " ++ moments_text moments ++ untried_text tried ++ 10 ∷ []
+-- the drivers of the endpoints were searched, one after another
+abbrev pub apart_text : (is_apart : Bool) → List ℕ
+apart_text is_apart = said_if is_apart (codes ", endpoint by endpoint")
 
-abbrev pub safe_text : Text → (moments : ℕ) → List Looked → List ℕ
-safe_text text moments looked =
-    safe_line moments (is_tried looked) ++ budgets_text (codes "") text ++ limits_text text ++ nevers_text text looked
+abbrev pub safe_line : (moments : ℕ) → (is_apart tried : Bool) → List ℕ
+safe_line moments is_apart tried =
+    codes "safe in all " ++ moments_text moments ++ apart_text is_apart ++ untried_text tried ++ 10 ∷ []
+
+abbrev pub safe_text : Text → (moments : ℕ) → (is_apart : Bool) → List Looked → List ℕ
+safe_text text moments is_apart looked =
+    safe_line moments is_apart (is_tried looked) ++ budgets_text (codes "") text ++ limits_text text ++ nevers_text text looked
 
 abbrev pub cut_text : (moments events : ℕ) → List ℕ
 cut_text moments events =
     codes "cut off at " ++ moments_text moments ++ codes ": safe in each list of fewer than " ++ events_count events ++ 10 ∷ []
 
 abbrev pub report_text : Text → Verdict → List ℕ
-report_text text (verdict.Safe moments looked) = safe_text text moments looked.items
+report_text text (verdict.Safe moments looked) = safe_text text moments false looked.items
+report_text text (verdict.SafeApart moments looked) = safe_text text moments true looked.items
 report_text text (verdict.Unsafe witness) = unsafe_text text witness.items
 report_text text (verdict.Stuck witness moments) = stuck_text text witness.items
 report_text text (verdict.CutOff moments events) = cut_text moments events
 
 abbrev pub ruling_of : Verdict → Ruling
 ruling_of (verdict.Safe moments looked) = if is_tried looked.items then ruling.Safe else ruling.Untried
+ruling_of (verdict.SafeApart moments looked) = if is_tried looked.items then ruling.Safe else ruling.Untried
 ruling_of (verdict.Unsafe witness) = ruling.Unsafe
 ruling_of (verdict.Stuck witness moments) = ruling.Stuck
 ruling_of (verdict.CutOff moments events) = ruling.CutOff

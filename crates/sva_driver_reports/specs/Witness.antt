@@ -12,6 +12,8 @@ use Rattle.sva_open.specs.declared.settings.Link.{Link}
 use Rattle.sva_open.specs.declared.settings.Link.TheVariants.{Free, Posted}
 use Rattle.sva_open.specs.declared.settings.Stopped.{Stopped}
 use Rattle.sva_open.specs.declared.settings.Stopped.TheVariants.{Marker, Status, Known}
+use Rattle.sva_open.specs.declared.settings.Timeouts.{Timeouts}
+use Rattle.sva_open.specs.declared.settings.Timeouts.TheVariants as timeouts
 use Rattle.sva_judge.specs.declared.choices.Choice.{Choice}
 use Rattle.sva_judge.specs.declared.choices.Doing.{Doing}
 use Rattle.sva_judge.specs.declared.choices.Doing.TheVariants as doing
@@ -36,6 +38,8 @@ is_wait local.AwaitQueue = true
 is_wait (local.AwaitQueueOf pasid) = true
 is_wait (local.AwaitGroups pasid) = true
 is_wait local.AwaitResets = true
+is_wait local.AwaitIdle = true
+is_wait local.AwaitGone = true
 is_wait _ = false
 
 -- a line that waits or looks, and does nothing else, stands as a comment
@@ -85,6 +89,7 @@ abbrev pub who_text : Doing → (at : ℕ) → List ℕ
 who_text doing.Line at = []
 who_text doing.Deliver at = codes "link"
 who_text doing.Pump at = with_endpoint (codes "unit") at
+who_text doing.Expire at = with_endpoint (codes "unit") at
 who_text doing.Write at = with_endpoint (codes "unit") at
 who_text doing.ForgetEntry at = with_endpoint (codes "unit") at
 who_text doing.Forget at = with_endpoint (codes "unit") at
@@ -167,6 +172,11 @@ stopped_text Marker = codes ""
 stopped_text Status = codes "stopped status\n"
 stopped_text Known = codes "stopped known\n"
 
+abbrev pub timeouts_text : Timeouts → List ℕ
+timeouts_text timeouts.Off = codes ""
+timeouts_text timeouts.On = codes "timeouts on\n"
+timeouts_text timeouts.Stop = codes "timeouts stop\n"
+
 abbrev pub said_if : Bool → List ℕ → List ℕ
 said_if true text = text
 said_if false text = []
@@ -180,10 +190,11 @@ pairs_text settings =
     ++ said_if settings.has_caches (codes "caches on\n")
     ++ stopped_text settings.stopped
 
--- the settings that are no pair, where they hold
+-- the settings that are told only where they are said
 abbrev pub unpaired_text : Settings → List ℕ
 unpaired_text settings =
-    said_if settings.refuses_drain (codes "refuses drain\n") ++ said_if settings.allows_no_group (codes "allow no-group\n")
+    said_if settings.clears_controls (codes "enables cleared\n") ++ timeouts_text settings.timeouts
+    ++ said_if settings.refuses_drain (codes "refuses drain\n") ++ said_if settings.allows_no_group (codes "allow no-group\n")
 
 abbrev pub settings_text : Settings → List ℕ
 settings_text settings = pairs_text settings ++ unpaired_text settings

@@ -184,6 +184,14 @@ fn put_fault(
     out.extend_from_slice(last_text(last).as_bytes())
 }
 
+/// Appends that an invalidation runs out of time.
+fn put_expired(out: &mut Vec<u8>, endpoint: usize, itag: usize) -> Result<(), AllocError>
+    ensures { OnOk result (out.new.items ≡ out.old.items ++ events.expired_text endpoint itag) }
+{
+    put_endpoint(out, b"expire", endpoint)?;
+    put_one(out, itag as u64)
+}
+
 /// Appends an act that comes by itself.
 pub(crate) fn put_act(
     out: &mut Vec<u8>,
@@ -196,6 +204,7 @@ pub(crate) fn put_act(
     match act {
         LocalAct::Deliver { place } => put_delivered(out, part, endpoint, *place),
         LocalAct::Pump => put_endpoint(out, b"pump", endpoint),
+        LocalAct::Expire { itag, .. } => put_expired(out, endpoint, *itag),
         LocalAct::Write => put_endpoint(out, b"write", endpoint),
         LocalAct::Serve => put_endpoint(out, b"serve", endpoint),
         LocalAct::Respond {
@@ -212,6 +221,7 @@ pub(crate) fn put_act(
             put_older(out, older_taken(part.works.as_slice(), *place))
         }
         LocalAct::Quit { pasid } => put_pasid(out, b"quit", endpoint, *pasid),
+        LocalAct::Leave => put_endpoint(out, b"gone", endpoint),
         LocalAct::More {
             index,
             page,
@@ -239,12 +249,16 @@ pub(crate) fn put_act(
         | LocalAct::Close
         | LocalAct::Reopen
         | LocalAct::Skip
+        | LocalAct::Resume
         | LocalAct::AwaitWait { .. }
         | LocalAct::AwaitStopped { .. }
         | LocalAct::AwaitQueue
         | LocalAct::AwaitQueueOf { .. }
         | LocalAct::AwaitGroups { .. }
         | LocalAct::AwaitResets
+        | LocalAct::Turn { .. }
+        | LocalAct::AwaitIdle
+        | LocalAct::AwaitGone
         | LocalAct::RespondAll { .. }
         | LocalAct::Discard { .. }
         | LocalAct::FreePasid { .. } => Ok(()),

@@ -9,7 +9,7 @@ use std::alloc::{AllocError, Global};
 use sva_driver_texts::Text;
 use sva_driver_words::{put_endpoint, put_one};
 use sva_judge::{Choice, Doing, Spot, take};
-use sva_open::{Link, Part, Settings, Stopped, Workers};
+use sva_open::{Link, Part, Settings, Stopped, Timeouts, Workers};
 use sva_step::Config;
 
 /// Appends a text, where it is so.
@@ -41,6 +41,16 @@ fn stopped_text(stopped: Stopped) -> &'static str
     }
 }
 
+fn timeouts_text(timeouts: Timeouts) -> &'static str
+    ensures { result.now ≡ witness.timeouts_text timeouts }
+{
+    match timeouts {
+        Timeouts::Off => "",
+        Timeouts::On => "timeouts on\n",
+        Timeouts::Stop => "timeouts stop\n",
+    }
+}
+
 /// Appends the settings of a pair that aren't those that hold where nothing is said.
 fn put_pairs(out: &mut Vec<u8>, settings: &Settings) -> Result<(), AllocError>
     ensures { OnOk result (out.new.items ≡ out.old.items ++ witness.pairs_text settings.now) }
@@ -53,10 +63,12 @@ fn put_pairs(out: &mut Vec<u8>, settings: &Settings) -> Result<(), AllocError>
     Ok(())
 }
 
-/// Appends the settings that are no pair, where they hold.
+/// Appends the settings that are told only where they are said.
 fn put_unpaired(out: &mut Vec<u8>, settings: &Settings) -> Result<(), AllocError>
     ensures { OnOk result (out.new.items ≡ out.old.items ++ witness.unpaired_text settings.now) }
 {
+    put_if(out, settings.clears_controls, b"enables cleared\n")?;
+    out.extend_from_slice(timeouts_text(settings.timeouts).as_bytes())?;
     put_if(out, settings.refuses_drain, b"refuses drain\n")?;
     put_if(out, settings.allows_no_group, b"allow no-group\n")?;
     Ok(())

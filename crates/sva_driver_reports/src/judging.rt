@@ -9,12 +9,12 @@ use crate::reports::{Ruling, put_report, ruling_of};
 use std::alloc::{AllocError, Global};
 use sva_driver_texts::{Begun, Halt, Read, Text, put_refused, read_driver, read_text, take_lines};
 use sva_driver_words::put_counted;
-use sva_judge::{Judging, Verdict, judge};
+use sva_judge::{Verdict, judge_driver};
 use sva_open_safe::Wrong;
 use sva_script_reading::put_number;
 use sva_search::Watch;
 
-/// The verdict on the driver of a text, which is given back: at most so many moments are looked at.
+/// The verdict on the driver of a text, which is given back: at most so many moments are looked at in each search.
 fn verdict_on<P: Watch>(
     alloc: Global,
     most: u64,
@@ -31,9 +31,7 @@ fn verdict_on<P: Watch>(
         before,
         said,
     } = text;
-    let judging = Judging::new(alloc, driver)?;
-    let verdict = judge(alloc, &judging, most as usize, watch)?;
-    let driver = judging.into_driver();
+    let (driver, verdict) = judge_driver(alloc, driver, most as usize, watch)?;
     Ok((
         Text {
             config,

@@ -12,6 +12,7 @@ mod limits;
 mod nevers;
 mod notes;
 mod reports;
+mod untaken;
 mod witness;
 
 pub use driving::{judge, run};

@@ -5,7 +5,8 @@ ghost use Rattle.sva_driver_texts.specs.Budgets as budgets;
 ghost use Rattle.sva_driver_reports.specs.Nevers as nevers;
 
 use crate::fronts::put_if;
-use std::alloc::AllocError;
+use crate::untaken::{put_untaken, untaken};
+use std::alloc::{AllocError, Global};
 use sva_driver_texts::Text;
 use sva_driver_words::{put_endpoint, put_one};
 use sva_judge::{Fact, Looked};
@@ -32,7 +33,7 @@ fn is_budgeted(fact: Fact, budget: Budget) -> bool
         Fact::Holds { .. } => 0 < budget.asks,
         Fact::Uses { .. } => 0 < budget.uses,
         Fact::Faults { .. } => 0 < budget.faults,
-        Fact::Leads { .. } => false,
+        Fact::Leads { .. } | Fact::Taken { .. } => false,
     }
 }
 
@@ -71,7 +72,7 @@ fn is_act_of(fact: Fact, act: &LocalAct) -> bool
         Fact::Holds { .. } => is_ask(act),
         Fact::Uses { .. } => is_use(act),
         Fact::Faults { .. } => is_fault(act),
-        Fact::Leads { .. } => false,
+        Fact::Leads { .. } | Fact::Taken { .. } => false,
     }
 }
 
@@ -87,7 +88,7 @@ fn is_named_by(fact: Fact, named: Named) -> bool
 {
     match fact {
         Fact::Faults { .. } => is_more(named),
-        Fact::Holds { .. } | Fact::Uses { .. } | Fact::Leads { .. } => false,
+        Fact::Holds { .. } | Fact::Uses { .. } | Fact::Leads { .. } | Fact::Taken { .. } => false,
     }
 }
 
@@ -198,7 +199,8 @@ fn put_frame(
     }
 }
 
-/// Appends that something never happened, where it might.
+/// Appends that something never happened, where it might. Of lines that were never taken nothing is said here: they
+/// are told together.
 fn put_never_of(
     out: &mut Vec<u8>,
     devices: &[Device],
@@ -233,6 +235,7 @@ fn put_never_of(
             b" sends a page request\n",
         ),
         Fact::Leads { line, frame } => put_frame(out, frame, lines, line),
+        Fact::Taken { .. } => Ok(()),
     }
 }
 
@@ -279,8 +282,9 @@ pub(crate) fn put_untried(out: &mut Vec<u8>, tried: bool) -> Result<(), AllocErr
     )
 }
 
-/// Appends what never happened, although a budget or a line allows it.
+/// Appends what never happened, although a budget or a line allows it, and which lines were never taken.
 pub(crate) fn put_nevers(
+    alloc: Global,
     out: &mut Vec<u8>,
     text: &Text,
     looked: &[Looked],
@@ -290,10 +294,9 @@ pub(crate) fn put_nevers(
     if !is_tried(looked) {
         return Ok(());
     }
-    put_each(
-        out,
-        text.driver.devices.as_slice(),
-        text.driver.lines.as_slice(),
-        looked,
-    )
+    let lines = text.driver.lines.as_slice();
+    let never = untaken(alloc, text.driver.taken.as_slice(), lines, looked)?;
+    put_each(out, text.driver.devices.as_slice(), lines, looked)?;
+    put_untaken(out, never.as_slice())?;
+    Ok(())
 }

@@ -2,7 +2,9 @@
 
 ghost use Rattle.std.specs.Prelude.{◌≡◌, ◌++◌, OnOk, slice_get};
 ghost use Rattle.sva_judge.specs.Choices as choices;
+ghost use Rattle.sva_driver_words.specs.Pieces.{with_endpoint};
 ghost use Rattle.sva_driver_reports.specs.Reports as reports;
+ghost use Rattle.sva_driver_reports.specs.Witness.{said_if};
 
 use crate::fronts::put_if;
 use crate::witness::put_line_who;
@@ -57,6 +59,7 @@ fn put_within(
     put_if(out, device.is_silent, b", silent")?;
     put_if(out, conduct.lies, b", lies")?;
     put_if(out, conduct.awaits, b", awaits")?;
+    put_if(out, device.leaves, b", leaves")?;
     put_unmade(out, lines, endpoint, device)?;
     out.extend_from_slice(b"\n")?;
     Ok(())
@@ -194,23 +197,93 @@ fn put_groups(
     Ok(())
 }
 
-fn put_disabled(out: &mut Vec<u8>, endpoint: usize) -> Result<(), AllocError>
-    ensures { OnOk result (out.new.items ≡ out.old.items ++ reports.disabled_text endpoint) }
+/// Appends what is off at an endpoint, where it is.
+fn put_off(out: &mut Vec<u8>, endpoint: usize, is_on: bool, what: &[u8]) -> Result<(), AllocError>
+    ensures { OnOk result (out.new.items ≡ out.old.items ++ reports.off_text endpoint is_on what.now) }
 {
+    if is_on {
+        return Ok(());
+    }
     put_endpoint(out, b"# endpoint", endpoint)?;
-    out.extend_from_slice(b" may send no page request: a response was a Response Failure\n")
+    out.extend_from_slice(what)
 }
 
-/// Appends what an endpoint is at.
+/// Appends what is turned off at an endpoint, and whether it is gone.
+fn put_turned(
+    out: &mut Vec<u8>,
+    endpoint: usize,
+    has_ats: bool,
+    has_requests: bool,
+    is_master: bool,
+    is_gone: bool,
+) -> Result<(), AllocError>
+    ensures { OnOk result (out.new.items
+        ≡ out.old.items ++ reports.turned_text endpoint has_ats has_requests is_master is_gone) }
+{
+    put_off(
+        out,
+        endpoint,
+        has_ats,
+        b" has ATS off, and answers no invalidation that comes\n",
+    )?;
+    put_off(out, endpoint, has_requests, b" has page requests off\n")?;
+    put_off(out, endpoint, is_master, b" has bus mastering off\n")?;
+    put_off(out, endpoint, !is_gone, b" is gone, and answers nothing\n")?;
+    Ok(())
+}
+
+/// Appends what something of an endpoint is at, where it is.
+fn put_where(
+    out: &mut Vec<u8>,
+    so: bool,
+    of: &[u8],
+    endpoint: usize,
+    what: &[u8],
+) -> Result<(), AllocError>
+    ensures { OnOk result (out.new.items
+        ≡ out.old.items ++ said_if so (with_endpoint of.now endpoint ++ what.now)) }
+{
+    if !so {
+        return Ok(());
+    }
+    put_endpoint(out, of, endpoint)?;
+    out.extend_from_slice(what)
+}
+
+/// Appends that the unit of an endpoint has stopped at a time-out, where it has.
+fn put_stalled(out: &mut Vec<u8>, endpoint: usize, is_stalled: bool) -> Result<(), AllocError>
+    ensures { OnOk result (out.new.items ≡ out.old.items ++ reports.stalled_text endpoint is_stalled) }
+{
+    put_where(
+        out,
+        is_stalled,
+        b"# unit of endpoint",
+        endpoint,
+        b" has stopped at a time-out\n",
+    )
+}
+
+/// Appends what an endpoint is at, and its unit.
 fn put_part(out: &mut Vec<u8>, endpoint: usize, part: &Part) -> Result<(), AllocError>
     ensures { OnOk result (out.new.items ≡ out.old.items ++ reports.part_text endpoint part.now) }
 {
     put_rows(out, endpoint, part.rows.as_slice())?;
     put_groups(out, endpoint, part.groups.as_slice())?;
-    if part.is_enabled {
-        return Ok(());
-    }
-    put_disabled(out, endpoint)?;
+    put_off(
+        out,
+        endpoint,
+        part.is_enabled,
+        b" may send no page request: a response was a Response Failure\n",
+    )?;
+    put_turned(
+        out,
+        endpoint,
+        part.has_ats,
+        part.has_requests,
+        part.is_master,
+        part.is_gone,
+    )?;
+    put_stalled(out, endpoint, part.is_stalled)?;
     Ok(())
 }
 

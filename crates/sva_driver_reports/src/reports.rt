@@ -5,7 +5,7 @@ ghost use Rattle.sva_open_safe.specs.Wrongs as wrongs;
 ghost use Rattle.sva_driver_reports.specs.Reports as reports;
 
 use crate::findings::put_wrong;
-use crate::fronts::put_front;
+use crate::fronts::{put_front, put_if};
 use crate::limits::put_limits;
 use crate::nevers::{is_tried, put_nevers, put_untried};
 use crate::notes::{put_budgets, put_others, put_state, put_waiting};
@@ -116,29 +116,38 @@ fn put_stuck(
     Ok(())
 }
 
-/// Appends the first line of a driver that is safe: whether anything was tried that could go wrong too.
-fn put_safe_line(out: &mut Vec<u8>, moments: usize, tried: bool) -> Result<(), AllocError>
-    ensures { OnOk result (out.new.items ≡ out.old.items ++ reports.safe_line moments tried) }
+/// Appends the first line of a driver that is safe: whether that was found endpoint by endpoint, and whether anything was
+/// tried that could go wrong too.
+fn put_safe_line(
+    out: &mut Vec<u8>,
+    moments: usize,
+    is_apart: bool,
+    tried: bool,
+) -> Result<(), AllocError>
+    ensures { OnOk result (out.new.items ≡ out.old.items ++ reports.safe_line moments is_apart tried) }
 {
     out.extend_from_slice(b"safe in all ")?;
     put_counted(out, moments as u64, "moment", "moments")?;
+    put_if(out, is_apart, b", endpoint by endpoint")?;
     put_untried(out, tried)?;
     out.extend_from_slice(b"\n")
 }
 
 fn put_safe(
+    alloc: Global,
     out: &mut Vec<u8>,
     text: &Text,
     moments: usize,
+    is_apart: bool,
     looked: &[Looked],
 ) -> Result<(), AllocError>
     ensures { OnOk result (out.new.items
-        ≡ out.old.items ++ reports.safe_text text.now moments looked.now) }
+        ≡ out.old.items ++ reports.safe_text text.now moments is_apart looked.now) }
 {
-    put_safe_line(out, moments, is_tried(looked))?;
+    put_safe_line(out, moments, is_apart, is_tried(looked))?;
     put_budgets(out, b"", text)?;
     put_limits(out, text)?;
-    put_nevers(out, text, looked)?;
+    put_nevers(alloc, out, text, looked)?;
     Ok(())
 }
 
@@ -157,7 +166,7 @@ pub fn ruling_of(verdict: &Verdict) -> Ruling
     ensures { result ≡ reports.ruling_of verdict.now }
 {
     match verdict {
-        Verdict::Safe { looked, .. } => {
+        Verdict::Safe { looked, .. } | Verdict::SafeApart { looked, .. } => {
             if is_tried(looked.as_slice()) {
                 Ruling::Safe
             } else {
@@ -180,7 +189,12 @@ pub fn put_report(
     ensures { OnOk result (out.new.items ≡ out.old.items ++ reports.report_text text.now verdict.now) }
 {
     match verdict {
-        Verdict::Safe { moments, looked } => put_safe(out, text, *moments, looked.as_slice()),
+        Verdict::Safe { moments, looked } => {
+            put_safe(alloc, out, text, *moments, false, looked.as_slice())
+        }
+        Verdict::SafeApart { moments, looked } => {
+            put_safe(alloc, out, text, *moments, true, looked.as_slice())
+        }
         Verdict::Unsafe { witness } => put_unsafe(alloc, out, text, witness.as_slice()),
         Verdict::Stuck { witness, .. } => put_stuck(alloc, out, text, witness.as_slice()),
         Verdict::CutOff { moments, events } => put_cut(out, *moments, *events),

@@ -46,6 +46,8 @@ fn is_wait(act: &LocalAct) -> bool
             | LocalAct::AwaitQueueOf { .. }
             | LocalAct::AwaitGroups { .. }
             | LocalAct::AwaitResets
+            | LocalAct::AwaitIdle
+            | LocalAct::AwaitGone
     )
 }
 
@@ -160,13 +162,13 @@ fn put_who(out: &mut Vec<u8>, doing: Doing, at: usize) -> Result<(), AllocError>
     match doing {
         Doing::Line => Ok(()),
         Doing::Deliver => out.extend_from_slice(b"link"),
-        Doing::Pump | Doing::Write | Doing::ForgetEntry | Doing::Forget => put_endpoint(
-            out, b"unit", at,
-        ),
+        Doing::Pump | Doing::Expire | Doing::Write | Doing::ForgetEntry | Doing::Forget =>
+            put_endpoint(out, b"unit", at),
         Doing::Serve | Doing::Answer | Doing::Fail => out.extend_from_slice(b"worker"),
         Doing::End
         | Doing::Finish
         | Doing::Quit
+        | Doing::Leave
         | Doing::Complete
         | Doing::Ask
         | Doing::Use

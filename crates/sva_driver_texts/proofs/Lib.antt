@@ -4,6 +4,9 @@ pub mod Pages
 pub mod Parts
 pub mod Runs
 pub mod Takings
+pub mod Written
+pub mod BodyLemmas
+pub mod Plain
 pub mod Firsts
 pub mod Lists
 pub mod OpenBlocks

@@ -10,7 +10,7 @@ use Rattle.sva_driver_words.specs.declared.faults.BranchWanted.TheVariants as br
 use Rattle.sva_driver_words.specs.declared.faults.DriverWanted.TheVariants as wanted
 use Rattle.sva_driver_words.specs.declared.faults.DriverWrong.{DriverWrong}
 use Rattle.sva_driver_words.specs.declared.kept.Under.{Under}
-use Rattle.sva_driver_texts.specs.Blocks.{BlockSaid, block_seen, branched, else_at, end_at, is_of, last_of, open_text, open_texts, turned, turned_at, under_of, under_one}
+use Rattle.sva_driver_texts.specs.Blocks.{BlockSaid, block_seen, branched, else_at, end_at, has_line_of, last_of, open_text, open_texts, turned, turned_at, under_of, under_one}
 use Rattle.sva_driver_texts.specs.declared.blocks.Block.{Block}
 use Rattle.sva_driver_texts.proofs.Anys.{put_seen}
 
@@ -32,7 +32,7 @@ under_next thread blocks i blank old new whole inside is so_far =
     let left = seen (drop (i + 1) blocks) in
     ap (λ l. l ++ under_of thread left) is ∙ append_assoc old (under_one thread block) (under_of thread left)
     ∙ sym (ap (λ l. old ++ under_of thread (seen l)) (drop_more blocks i blank inside)
-    ∙ ap (λ l. old ++ l) (split (is_of thread block) block (filter (is_of thread) left)))
+    ∙ ap (λ l. old ++ l) (split (has_line_of thread block) block (filter (has_line_of thread) left)))
     ∙ so_far
 
 pub under_end : (thread : List ℕ) (blocks : List Block) (i : ℕ) (old whole : List Under) → length blocks ≤ i

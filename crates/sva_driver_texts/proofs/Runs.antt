@@ -1,12 +1,14 @@
 -- Lines, one after another.
-use Rattle.std.proofs.Common.{◌≡◌, ◌∙◌, ap, refl, sym, ℕ, List, [], ◌∷◌}
+use Rattle.std.proofs.Common.{◌≡◌, ◌∙◌, ◌<◌, ◌≤◌, ◌+◌, ap, refl, sym, ℕ, List, [], ◌∷◌, drop, get_or, length}
 use Rattle.std.specs.Prelude.{Ok, Err}
 use Rattle.sva_step.specs.declared.limits.Config.{Config}
-use Rattle.sva_script.specs.Lines.{parts_of, script_words}
+use Rattle.std.proofs.lemmas.List.{drop_all, drop_more}
+use Rattle.sva_script.specs.Lines.{parts_of}
 use Rattle.sva_script.specs.Names.{Known}
-use Rattle.sva_script_reading.specs.Begins.{Line}
 use Rattle.sva_driver_words.specs.declared.faults.DriverWrong.{DriverWrong}
-use Rattle.sva_driver_texts.specs.Readings.{Reading, behind, behind_lines, behind_words, line_by, with_fault}
+use Rattle.sva_driver_texts.specs.Bodies.{lines_seen, worded_seen}
+use Rattle.sva_driver_texts.specs.declared.bodies.WordedLine.{WordedLine}
+use Rattle.sva_driver_texts.specs.Readings.{Reading, behind, behind_lines, behind_words, line_by, with_fault, with_wrong_block}
 
 -- one that was taken
 pub took : (config : Config) (known : Known) (old new : Reading) (line : ℕ) (words : List (List ℕ)) → (words ≡ [] → ⊥)
@@ -20,23 +22,25 @@ pub silent : (config : Config) (known : Known) (old : Reading) (line : ℕ) (wor
 silent config known old line words none = sym (ap (behind_words config known old line) none)
 
 -- one that is wrong
-pub told : (config : Config) (known : Known) (old mid new : Reading) (line : ℕ) (words : List (List ℕ)) (wrong : DriverWrong)
-    → (words ≡ [] → ⊥) → line_by config old line words (parts_of words) ≡ Err wrong → mid ≡ old → new ≡ with_fault mid known line words wrong
+pub told : (config : Config) (known : Known) (old mid blocked new : Reading) (line : ℕ) (words : List (List ℕ)) (wrong : DriverWrong)
+    → (words ≡ [] → ⊥) → line_by config old line words (parts_of words) ≡ Err wrong → mid ≡ old
+    → blocked ≡ with_wrong_block mid line (parts_of words) → new ≡ with_fault blocked known line words wrong
     → new ≡ behind_words config known old line words
-told config known old mid new line [] wrong some is same tells = absurd (some refl)
-told config known old mid new line (word ∷ words) wrong some is same tells =
-    tells ∙ ap (λ read. with_fault read known line (word ∷ words) wrong) same ∙ sym (ap (behind old known line (word ∷ words)) is)
+told config known old mid blocked new line [] wrong some is same opens tells = absurd (some refl)
+told config known old mid blocked new line (word ∷ words) wrong some is same opens tells =
+    tells ∙ ap (λ read. with_fault read known line (word ∷ words) wrong)
+    (opens ∙ ap (λ read. with_wrong_block read line (parts_of (word ∷ words))) same)
+    ∙ sym (ap (behind old known line (word ∷ words)) is)
 
-pub behind_next : (config : Config) (known : Known) (old new : Reading) (now left : List Line) (line : Line) (words : List (List ℕ))
-    → now ≡ line ∷ left → words ≡ script_words line.1 → new ≡ behind_words config known old line.0 words
-    → behind_lines config known old now ≡ behind_lines config known new left
+pub behind_next : (config : Config) (known : Known) (old new : Reading) (lines : List WordedLine) (i : ℕ) (blank : WordedLine) → i < length lines
+    → new ≡ behind_words config known old (worded_seen (get_or lines i blank)).0 (worded_seen (get_or lines i blank)).1
+    → behind_lines config known old (lines_seen (drop i lines)) ≡ behind_lines config known new (lines_seen (drop (i + 1) lines))
 unfolding behind_lines
-behind_next config known old new now left line words is same taken =
-    ap (behind_lines config known old) is
-    ∙ ap (λ ws. behind_lines config known (behind_words config known old line.0 ws) left) (sym same)
-    ∙ ap (λ read. behind_lines config known read left) (sym taken)
+behind_next config known old new lines i blank inside taken =
+    ap (λ l. behind_lines config known old (lines_seen l)) (drop_more lines i blank inside)
+    ∙ ap (λ read. behind_lines config known read (lines_seen (drop (i + 1) lines))) (sym taken)
 
-pub behind_end : (config : Config) (known : Known) (reading : Reading) (now : List Line) → now ≡ []
-    → behind_lines config known reading now ≡ reading
+pub behind_end : (config : Config) (known : Known) (reading : Reading) (lines : List WordedLine) (i : ℕ) → length lines ≤ i
+    → behind_lines config known reading (lines_seen (drop i lines)) ≡ reading
 unfolding behind_lines
-behind_end config known reading now is = ap (behind_lines config known reading) is
+behind_end config known reading lines i past = ap (λ l. behind_lines config known reading (lines_seen l)) (drop_all i lines past)

@@ -1,5 +1,5 @@
 -- A whole text, by what its parts are read as.
-use Rattle.std.proofs.Common.{◌≡◌, ◌∙◌, ◌+◌, ap, refl, sym, subst, ℕ, List, [], ◌∷◌, ◌++◌, true, false, cond, length}
+use Rattle.std.proofs.Common.{◌≡◌, ◌∙◌, ◌+◌, ap, refl, sym, subst, ℕ, List, [], ◌∷◌, ◌++◌, Bool, true, false, cond, length}
 use Rattle.std.specs.Prelude.{IfOk, Option, Some, None, Result, Ok, Err}
 use Rattle.std.specs.declared.alloc.AllocError.{AllocError}
 use Rattle.sva_step.specs.declared.limits.Config.{Config}
@@ -11,7 +11,9 @@ use Rattle.sva_script_reading.specs.Faults as scripts
 use Rattle.sva_script_reading.specs.Reading.{HasConfig}
 use Rattle.sva_race_texts.specs.Limits.{limits_text}
 use Rattle.sva_driver_texts.specs.declared.kept.Read.{Read}
-use Rattle.sva_driver_texts.specs.Texts.{IsRead, DriverRead, ReadsText, if_right, driver_behind, driver_of, driver_read, driver_with, right_or_said}
+use Rattle.sva_driver_texts.specs.Texts.{IsRead, DriverRead, ReadsText, if_right, driver_behind, driver_of, driver_read, driver_with, driver_written}
+use Rattle.sva_driver_texts.specs.Texts.{right_or_said}
+use Rattle.sva_driver_texts.specs.WrittenOut.{Worded, written_out}
 use Rattle.sva_driver_texts.specs.Texts.{too_large}
 use Rattle.sva_race_texts.specs.Texts.{names_from}
 use Rattle.sva_driver_texts.specs.Readings.{Reading, behind_all, nothing}
@@ -33,20 +35,32 @@ said_right read kept out right is none = subst (λ said. ReadsText (if_right rea
 
 -- ---- A config with the lines behind it
 
+abbrev by_fit : Config → (all lines : List Line) → Bool → Result DriverRead (List ℕ)
+by_fit config all lines b = cond b (driver_written config all (written_out lines)) (Err (limits_text config all))
+
 pub with_unfit : (config : Config) (all lines : List Line) (out new : List ℕ) → out ≡ [] → is_fit config ≡ false
     → new ≡ out ++ limits_text config all → ReadsText (driver_with config all lines) None new
 with_unfit config all lines out new none unfit is =
-    subst (λ b. ReadsText (cond b (right_or_said (driver_read config all lines)) (Err (limits_text config all))) None new) (sym unfit)
-    (is ∙ ap (λ l. l ++ limits_text config all) none)
+    subst (λ b. ReadsText (by_fit config all lines b) None new) (sym unfit) (is ∙ ap (λ l. l ++ limits_text config all) none)
 
-pub with_fit : (config : Config) (all lines : List Line) (read : DriverRead) (found : Option Read) (new : List ℕ) → is_fit config ≡ true
-    → read ≡ driver_read config all lines → ReadsText (right_or_said read) found new → ReadsText (driver_with config all lines) found new
-with_fit config all lines read found new fit is reads =
-    subst (λ b. ReadsText (cond b (right_or_said (driver_read config all lines)) (Err (limits_text config all))) found new) (sym fit)
+pub with_fit : (config : Config) (all lines : List Line) (found : Option Read) (new : List ℕ) → is_fit config ≡ true
+    → ReadsText (driver_written config all (written_out lines)) found new → ReadsText (driver_with config all lines) found new
+with_fit config all lines found new fit reads = subst (λ b. ReadsText (by_fit config all lines b) found new) (sym fit) reads
+
+-- its lines are written out, or what is wrong with them is said
+pub with_wrong : (config : Config) (all : List Line) (written : Result (List Worded) (List ℕ)) (new : List ℕ) → written ≡ Err new
+    → ReadsText (driver_written config all written) None new
+with_wrong config all written new wrong = subst (λ it. ReadsText (driver_written config all it) None new) (sym wrong) refl
+
+pub with_right : (config : Config) (all : List Line) (written : Result (List Worded) (List ℕ)) (lines : List Worded) (read : DriverRead)
+    (found : Option Read) (new : List ℕ) → written ≡ Ok lines → read ≡ driver_read config all lines → ReadsText (right_or_said read) found new
+    → ReadsText (driver_written config all written) found new
+with_right config all written lines read found new right is reads =
+    subst (λ it. ReadsText (driver_written config all it) found new) (sym right)
     (subst (λ read. ReadsText (right_or_said read) found new) is reads)
 
 -- what was read, call by call
-pub driver_is : (config : Config) (all lines : List Line) (names : Known) (next : ℕ) (first last : Reading) → names ≡ names_from [] all
+pub driver_is : (config : Config) (all : List Line) (lines : List Worded) (names : Known) (next : ℕ) (first last : Reading) → names ≡ names_from [] all
     → next ≡ length all + 1 → first ≡ nothing config → last ≡ behind_all config names first lines
     → record { config = config; known = names; next = next; reading = last } ≡ driver_read config all lines
 driver_is config all lines names next first last named counted start is = λ i. record {

@@ -1,5 +1,5 @@
 -- The blocks that are open.
-use Rattle.std.specs.Prelude.{◌≡◌, ℕ, if◌then◌else◌, Bool, true, false, List, [], ◌∷◌, ◌++◌, codes, filter, map, remove, slice_get, slice_set}
+use Rattle.std.specs.Prelude.{◌≡◌, ℕ, ◌&&◌, if◌then◌else◌, Bool, true, false, List, [], ◌∷◌, ◌++◌, codes, filter, map, remove, slice_get, slice_set}
 use Rattle.std.specs.Prelude.{Option, Some, None, Result, Ok, Err}
 use Rattle.std.specs.Str.{bytes_eq}
 use Rattle.sva_script.specs.Names.{Known}
@@ -18,20 +18,27 @@ pub record BlockSaid : Type 0 where
   pub thread : List ℕ
   pub number : ℕ
   pub under : Under
+  -- is its `if` right?
+  pub is_right : Bool
 
 -- as code keeps it
 abbrev pub block_seen : Block → BlockSaid
-block_seen block = record { thread = block.thread.items; number = block.number; under = block.under }
+block_seen block =
+    record { thread = block.thread.items; number = block.number; under = block.under; is_right = block.is_right }
 
 abbrev pub is_of : (thread : List ℕ) → BlockSaid → Bool
 is_of thread block = bytes_eq block.thread thread
 
+-- in that of a wrong `if` none does
+abbrev pub has_line_of : (thread : List ℕ) → BlockSaid → Bool
+has_line_of thread block = is_of thread block && block.is_right
+
 -- those in which a line of a thread stands, the outermost first
 abbrev pub under_of : (thread : List ℕ) → List BlockSaid → List Under
-under_of thread blocks = map (λ block. block.under) (filter (is_of thread) blocks)
+under_of thread blocks = map (λ block. block.under) (filter (has_line_of thread) blocks)
 
 abbrev pub under_one : (thread : List ℕ) → BlockSaid → List Under
-under_one thread block = if is_of thread block then block.under ∷ [] else []
+under_one thread block = if has_line_of thread block then block.under ∷ [] else []
 
 -- the place of the one of a thread that was opened last
 abbrev pub last_of : (thread : List ℕ) → List BlockSaid → Option ℕ
@@ -41,7 +48,13 @@ last_of thread blocks = last_from (is_of thread) 0 None blocks
 
 -- behind `if` the lines of its thread stand in its first branch
 abbrev pub opened_by : (thread : List ℕ) → (number place : ℕ) → BlockSaid
-opened_by thread number place = record { thread = thread; number = number; under = record { line = place; so = true } }
+opened_by thread number place =
+    record { thread = thread; number = number; under = record { line = place; so = true }; is_right = true }
+
+-- a wrong `if` opens one too, so that its `else` and `end` aren't told
+abbrev pub opened_wrong : (thread : List ℕ) → (number : ℕ) → BlockSaid
+opened_wrong thread number =
+    record { thread = thread; number = number; under = record { line = 0; so = true }; is_right = false }
 
 abbrev pub with_block : List BlockSaid → (thread : List ℕ) → (number place : ℕ) → List (List ℕ) → List BlockSaid
 with_block blocks thread number place words =
@@ -69,10 +82,13 @@ abbrev pub branched : List BlockSaid → (thread word : List ℕ) → Result (Li
 branched blocks thread word =
     if bytes_eq word (codes "else") then else_at blocks (last_of thread blocks) else end_at blocks (last_of thread blocks)
 
--- ---- Blocks that aren't ended: each is told at its `if`
+-- ---- Blocks that aren't ended: each is told at its `if`, unless that is wrong
 
 abbrev pub open_text : Known → BlockSaid → List ℕ
-open_text known block = fault_text known block.number (codes "if" ∷ []) (record { at = 0; wanted = wanted.Branch branch.End })
+open_text known block =
+    if block.is_right
+    then fault_text known block.number (codes "if" ∷ []) (record { at = 0; wanted = wanted.Branch branch.End })
+    else []
 
 unfoldable pub open_texts : Known → List BlockSaid → List ℕ
 open_texts known [] = []

@@ -7,6 +7,7 @@ use Rattle.sva_grammar.specs.Grammar.{◌>>=◌}
 use Rattle.sva_open.specs.declared.settings.Settings.{Settings}
 use Rattle.sva_open.specs.declared.settings.Link.TheVariants.{Free, Posted}
 use Rattle.sva_open.specs.declared.settings.Stopped.TheVariants.{Marker, Status, Known}
+use Rattle.sva_open.specs.declared.settings.Timeouts.TheVariants as timeouts
 use Rattle.sva_open.specs.declared.drivers.Budget.{Budget}
 use Rattle.sva_open.specs.declared.drivers.Workers.{Workers}
 use Rattle.sva_driver_words.specs.Taking.{Fails, appended}
@@ -29,6 +30,8 @@ unsaid = record {
   stopped = Marker;
   allows_no_group = false;
   has_workers = false;
+  clears_controls = false;
+  timeouts = timeouts.Off;
 }
 
 abbrev pub is_setting : (word : List ℕ) → Bool
@@ -39,6 +42,8 @@ is_setting word =
     || bytes_eq word (codes "drain")
     || bytes_eq word (codes "caches")
     || bytes_eq word (codes "stopped")
+    || bytes_eq word (codes "enables")
+    || bytes_eq word (codes "timeouts")
     || bytes_eq word (codes "refuses")
     || bytes_eq word (codes "allow")
 
@@ -82,6 +87,21 @@ stopped_set settings words =
     if says 1 (codes "known") words then Ok (record settings { stopped = Known }) else
     wrong_at 1 wanted.Stopped
 
+-- what becomes of ATS, page requests and bus mastering by a reset
+abbrev pub enables_set : Settings → List (List ℕ) → Result Settings DriverWrong
+enables_set settings words =
+    if says 1 (codes "kept") words then Ok (record settings { clears_controls = false }) else
+    if says 1 (codes "cleared") words then Ok (record settings { clears_controls = true }) else
+    wrong_at 1 wanted.Enables
+
+-- what becomes of an invalidation that isn't answered
+abbrev pub timeouts_set : Settings → List (List ℕ) → Result Settings DriverWrong
+timeouts_set settings words =
+    if says 1 (codes "off") words then Ok (record settings { timeouts = timeouts.Off }) else
+    if says 1 (codes "on") words then Ok (record settings { timeouts = timeouts.On }) else
+    if says 1 (codes "stop") words then Ok (record settings { timeouts = timeouts.Stop }) else
+    wrong_at 1 wanted.Timeouts
+
 abbrev pub refuses_set : Settings → List (List ℕ) → Result Settings DriverWrong
 refuses_set settings words =
     if says 1 (codes "drain") words then Ok (record settings { refuses_drain = true }) else wrong_at 1 wanted.Refused
@@ -90,9 +110,11 @@ abbrev pub allow_set : Settings → List (List ℕ) → Result Settings DriverWr
 allow_set settings words =
     if says 1 (codes "no-group") words then Ok (record settings { allows_no_group = true }) else wrong_at 1 wanted.Allowed
 
--- those that are no pair, or else by what an endpoint says that it has stopped
+-- what a reset leaves, what runs out of time, those that are no pair, or else by what an endpoint says that it has stopped
 abbrev pub set_other : Settings → List (List ℕ) → Result Settings DriverWrong
 set_other settings words =
+    if says 0 (codes "enables") words then enables_set settings words else
+    if says 0 (codes "timeouts") words then timeouts_set settings words else
     if says 0 (codes "refuses") words then refuses_set settings words else
     if says 0 (codes "allow") words then allow_set settings words else
     stopped_set settings words
@@ -146,6 +168,7 @@ pub record DeviceSaid : Type 0 where
   pub is_silent : Bool
   pub lies : Bool
   pub awaits : Bool
+  pub leaves : Bool
 
 abbrev pub untold : DeviceSaid
 untold = record {
@@ -156,6 +179,7 @@ untold = record {
   is_silent = false;
   lies = false;
   awaits = false;
+  leaves = false;
 }
 
 abbrev pub device_seen : DeviceRead → DeviceSaid
@@ -167,6 +191,7 @@ device_seen device = record {
   is_silent = device.is_silent;
   lies = device.lies;
   awaits = device.awaits;
+  leaves = device.leaves;
 }
 
 -- a budget with what a word counts
@@ -183,13 +208,15 @@ is_flag at words =
     || says at (codes "silent") words
     || says at (codes "lies") words
     || says at (codes "awaits") words
+    || says at (codes "leaves") words
 
 abbrev pub flagged : DeviceSaid → (at : ℕ) → List (List ℕ) → DeviceSaid
 flagged device at words =
     if says at (codes "evicts") words then record device { evicts = true } else
     if says at (codes "silent") words then record device { is_silent = true } else
     if says at (codes "lies") words then record device { lies = true } else
-    record device { awaits = true }
+    if says at (codes "awaits") words then record device { awaits = true } else
+    record device { leaves = true }
 
 -- all that stands behind `pages` is a page: so many words from a place on
 unfoldable pub pages_by : (at : ℕ) → (pages : List ℕ) → (rest : List (List ℕ)) → List (List ℕ) → Result (List ℕ) DriverWrong

@@ -1,5 +1,7 @@
 pub mod Devices
 pub mod Blocks
+pub mod WrittenOut
+pub mod Bodies
 pub mod Readings
 pub mod Needs
 pub mod Plans

@@ -79,6 +79,7 @@ pub record Planned : Type 0 where
   pub faults : List Fault
   pub evicts : Bool
   pub is_silent : Bool
+  pub leaves : Bool
 
 abbrev pub planned : List LineSaid → (endpoint : ℕ) → DeviceSaid → Planned
 planned lines endpoint device = record {
@@ -87,6 +88,7 @@ planned lines endpoint device = record {
   faults = begun_by (pages_of lines endpoint device);
   evicts = device.evicts;
   is_silent = device.is_silent;
+  leaves = device.leaves;
 }
 
 -- all endpoints, from a place on
@@ -101,4 +103,5 @@ device_seen device = record {
   faults = device.faults.items;
   evicts = device.evicts;
   is_silent = device.is_silent;
+  leaves = device.leaves;
 }

@@ -1,5 +1,5 @@
 -- What is read of a driver, line by line.
-use Rattle.std.specs.Prelude.{ℕ, ◌+◌, ◌&&◌, ◌||◌, not, nat_lt, if◌then◌else◌, Bool, true, false, List, [], ◌∷◌}
+use Rattle.std.specs.Prelude.{ℕ, ◌+◌, ◌==◌, ◌&&◌, ◌||◌, not, nat_lt, if◌then◌else◌, Bool, true, false, List, [], ◌∷◌}
 use Rattle.std.specs.Prelude.{◌++◌, codes, length}
 use Rattle.std.specs.Prelude.{◌≡◌, replicate, slice_get, slice_set, Option, Some, None, is_some, Result, Ok, Err}
 use Rattle.std.specs.List.{list_any}
@@ -7,15 +7,15 @@ use Rattle.std.specs.Str.{bytes_eq}
 use Rattle.sva_step.specs.declared.limits.Config.{Config}
 use Rattle.sva_grammar.specs.Grammar.{◌>>=◌}
 use Rattle.sva_script.specs.declared.faults.Wanted.TheVariants as script
-use Rattle.sva_script.specs.Lines.{Parts, parts_of, script_words, step_begins}
+use Rattle.sva_script.specs.Lines.{Parts, parts_of, step_begins}
 use Rattle.sva_script.specs.Names.{Known, is_name}
-use Rattle.sva_script_reading.specs.Begins.{Line, joined_words}
+use Rattle.sva_script_reading.specs.Begins.{joined_words}
 use Rattle.sva_open.specs.declared.settings.Settings.{Settings}
 use Rattle.sva_open.specs.declared.drivers.Workers.{Workers}
 use Rattle.sva_race_texts.specs.Words.{word_at}
 use Rattle.sva_race_texts.specs.declared.faults.RaceWanted.TheVariants as race
 use Rattle.sva_driver_words.specs.Awaits.{LineSaid, is_named}
-use Rattle.sva_driver_texts.specs.Blocks.{BlockSaid, branched, open_texts, under_of, with_block}
+use Rattle.sva_driver_texts.specs.Blocks.{BlockSaid, branched, open_texts, opened_wrong, under_of, with_block}
 use Rattle.sva_driver_texts.specs.Devices.{DeviceSaid, is_setting, parts_from, setting_line, unsaid, untold, workers_of}
 use Rattle.sva_driver_words.specs.Faults.{fault_text, wrong_at, no_more, placed}
 use Rattle.sva_driver_words.specs.Fields.{endpoint_at, has_word, says}
@@ -26,6 +26,8 @@ use Rattle.sva_driver_words.specs.declared.faults.DriverStop.{DriverStop}
 use Rattle.sva_driver_words.specs.declared.faults.DriverStop.TheVariants as stop
 use Rattle.sva_driver_words.specs.declared.faults.DriverWrong.{DriverWrong}
 use Rattle.sva_driver_words.specs.declared.kept.Under.{Under}
+use Rattle.sva_driver_words.specs.declared.written.WrittenWanted.TheVariants as written
+use Rattle.sva_driver_texts.specs.WrittenOut.{Worded, is_title}
 
 pub record Reading : Type 0 where
   -- the thread of the heading above; empty where there is none
@@ -47,8 +49,9 @@ pub record Reading : Type 0 where
   -- what workers answer, if that was said, and what each endpoint was told
   pub workers : Option Workers
   pub devices : List DeviceSaid
-  -- what is wrong with the lines
+  -- what is wrong with the lines, and the numbers of these
   pub said : List ℕ
+  pub told : List ℕ
 
 abbrev pub nothing : Config → Reading
 nothing config = record {
@@ -64,10 +67,14 @@ nothing config = record {
   workers = None;
   devices = replicate config.endpoints untold;
   said = [];
+  told = [];
 }
 
+-- a line that is written out several times is told once
 abbrev pub with_fault : Reading → Known → (line : ℕ) → List (List ℕ) → DriverWrong → Reading
-with_fault reading known line words wrong = record reading { said = reading.said ++ fault_text known line words wrong }
+with_fault reading known line words wrong =
+    if list_any (λ own. own == line) reading.told then reading else
+    record reading { said = reading.said ++ fault_text known line words wrong; told = reading.told ++ line ∷ [] }
 
 -- ---- Whose an act is, where no heading says it
 
@@ -80,9 +87,14 @@ is_of_endpoint word =
     || bytes_eq word (codes "fault")
     || bytes_eq word (codes "finish")
     || bytes_eq word (codes "quit")
+    || bytes_eq word (codes "gone")
 
 abbrev pub is_of_unit : (word : List ℕ) → Bool
-is_of_unit word = bytes_eq word (codes "pump") || bytes_eq word (codes "write") || bytes_eq word (codes "forget")
+is_of_unit word =
+    bytes_eq word (codes "pump")
+    || bytes_eq word (codes "expire")
+    || bytes_eq word (codes "write")
+    || bytes_eq word (codes "forget")
 
 abbrev pub role_of : (word first : List ℕ) → List ℕ
 role_of word first =
@@ -129,7 +141,12 @@ with_line reading number name thread words saying = record reading {
 
 -- a line's name is one, and no line before has it; it is no word behind `await`
 abbrev pub is_awaited_word : (name : List ℕ) → Bool
-is_awaited_word name = bytes_eq name (codes "stopped") || bytes_eq name (codes "queue") || bytes_eq name (codes "groups")
+is_awaited_word name =
+    bytes_eq name (codes "stopped")
+    || bytes_eq name (codes "queue")
+    || bytes_eq name (codes "groups")
+    || bytes_eq name (codes "idle")
+    || bytes_eq name (codes "gone")
 
 abbrev pub name_judged : List LineSaid → (name : Option (List ℕ)) → Result (Unit {0}) DriverWrong
 name_judged lines None = Ok tt
@@ -211,7 +228,7 @@ race_line reading words =
 
 abbrev pub heading_line : Reading → List (List ℕ) → Result Reading DriverWrong
 heading_line reading words =
-    if not (is_name (word_at 1 words)) then wrong_at 1 (wanted.Race (race.Script script.Name)) else
+    if not (is_title (word_at 1 words)) then wrong_at 1 (wanted.Written written.Name) else
     (no_more 2 words >>= λ done. Ok (record reading { heading = word_at 1 words }))
 
 -- `else`, and `end` alone, are of the thread of which an `if` is there
@@ -270,29 +287,35 @@ line_by config reading number words parts =
 
 -- ---- All lines behind the config
 
+abbrev pub with_wrong_block : Reading → (number : ℕ) → Parts → Reading
+with_wrong_block reading number parts =
+    if says 0 (codes "if") parts.step
+    then record reading { blocks = reading.blocks ++ opened_wrong (thread_of reading parts.step) number ∷ [] }
+    else reading
+
 abbrev pub behind : Reading → Known → (line : ℕ) → List (List ℕ) → Result Reading DriverWrong → Reading
 behind reading known line words (Ok read) = read
-behind reading known line words (Err wrong) = with_fault reading known line words wrong
+behind reading known line words (Err wrong) = with_fault (with_wrong_block reading line (parts_of words)) known line words wrong
 
 abbrev pub behind_words : Config → Known → Reading → (line : ℕ) → List (List ℕ) → Reading
 behind_words config known reading line [] = reading
 behind_words config known reading line words =
     behind reading known line words (line_by config reading line words (parts_of words))
 
-unfoldable pub behind_lines : Config → Known → Reading → List Line → Reading
+unfoldable pub behind_lines : Config → Known → Reading → List Worded → Reading
 behind_lines config known reading [] = reading
 behind_lines config known reading (line ∷ lines) =
-    behind_lines config known (behind_words config known reading line.0 (script_words line.1)) lines
+    behind_lines config known (behind_words config known reading line.0 line.1) lines
 
 -- and behind the last of them, where each block that is open is told
 abbrev pub with_open : Known → Reading → Reading
 with_open known reading = record reading { said = reading.said ++ open_texts known reading.blocks }
 
-abbrev pub behind_all : Config → Known → Reading → List Line → Reading
+abbrev pub behind_all : Config → Known → Reading → List Worded → Reading
 behind_all config known reading lines = with_open known (behind_lines config known reading lines)
 
 -- of a driver with all these lines; a wrong name is told with a near one of any line
-abbrev pub read_of : Config → Known → List Line → Reading
+abbrev pub read_of : Config → Known → List Worded → Reading
 read_of config known lines = behind_all config known (nothing config) lines
 
 -- ---- As code keeps it

@@ -35,6 +35,7 @@ use Rattle.sva_driver_texts.specs.Readings.{Reading, read_of}
 use Rattle.sva_driver_texts.specs.Needs.{need_of}
 use Rattle.sva_driver_texts.specs.Pasids.{pasids_of}
 use Rattle.sva_driver_texts.specs.Plans.{device_seen, planned_from}
+use Rattle.sva_driver_texts.specs.WrittenOut.{Worded, written_out}
 use Rattle.sva_driver_texts.specs.Ways.{firsts_of, is_past, way_seen, ways_of}
 use Rattle.sva_driver_texts.specs.declared.kept.Begun.{Begun}
 use Rattle.sva_driver_texts.specs.declared.kept.Begun.TheVariants as begun
@@ -148,7 +149,7 @@ pub record DriverRead : Type 0 where
   pub next : ℕ
   pub reading : Reading
 
-abbrev pub driver_read : Config → (all lines : List Line) → DriverRead
+abbrev pub driver_read : Config → (all : List Line) → (lines : List Worded) → DriverRead
 driver_read config all lines = record {
   config = config;
   known = names_from [] all;
@@ -164,10 +165,15 @@ if_right read said = Err said
 abbrev pub right_or_said : DriverRead → Result DriverRead (List ℕ)
 right_or_said read = if_right read read.reading.said
 
--- what is wrong with the config is told alone
+-- what is wrong with definitions, calls and repeats is told alone
+abbrev pub driver_written : Config → (all : List Line) → Result (List Worded) (List ℕ) → Result DriverRead (List ℕ)
+driver_written config all (Ok lines) = right_or_said (driver_read config all lines)
+driver_written config all (Err said) = Err said
+
+-- so is what is wrong with the config
 abbrev pub driver_with : Config → (all lines : List Line) → Result DriverRead (List ℕ)
 driver_with config all lines =
-    if is_fit config then right_or_said (driver_read config all lines) else Err (limits_text config all)
+    if is_fit config then driver_written config all (written_out lines) else Err (limits_text config all)
 
 abbrev pub driver_behind : (all : List Line) → Result (Config × List Line) Fault → Result DriverRead (List ℕ)
 driver_behind all (Err fault) = Err (scripts.fault_text fault)

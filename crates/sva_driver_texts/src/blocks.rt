@@ -17,6 +17,8 @@ pub struct Block {
     pub number: u64,
     /// The place of its `if`, and in which of its branches the lines that follow stand.
     pub under: Under,
+    /// Whether its `if` is right. In the block of a wrong one no line stands.
+    pub is_right: bool,
 }
 
 /// The word of its first line.
@@ -33,7 +35,7 @@ fn add_one(under: &mut Vec<Under>, thread: &[u8], block: &Block) -> Result<(), A
     ensures { IfOk result (λ _. under.new.items
         ≡ under.old.items ++ blocks.under_one thread.now (block_seen block.now)) }
 {
-    if is_of(thread, block) {
+    if is_of(thread, block) && block.is_right {
         under.push(block.under)?;
     }
     Ok(())
@@ -112,11 +114,14 @@ pub(crate) fn branch(list: &mut Vec<Block>, thread: &[u8], word: &[u8]) -> Resul
     Ok(())
 }
 
-/// Tells of a block that it isn't ended, at its `if`.
+/// Tells of a block that it isn't ended, at its `if`, unless that is wrong.
 fn put_one(block: &Block, names: &Names, out: &mut Vec<u8>) -> Result<(), AllocError>
     ensures { OnOk result (out.new.items
         ≡ out.old.items ++ blocks.open_text names.now (block_seen block.now)) }
 {
+    if !block.is_right {
+        return Ok(());
+    }
     let wrong = wrong_at(0, DriverWanted::Branch(BranchWanted::End));
     put_fault(out, &wrong, block.number, &IF, names)
 }

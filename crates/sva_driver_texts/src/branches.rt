@@ -3,6 +3,7 @@
 ghost use Rattle.std.specs.Prelude.{◌≡◌, ◌++◌, ◌∷◌, [], IfOk, map};
 ghost use Rattle.std.specs.List.{list_any};
 ghost use Rattle.std.specs.Str.{bytes_eq};
+ghost use Rattle.sva_script.specs.Lines.{parts_of};
 ghost use Rattle.sva_driver_texts.specs.Blocks as blocks;
 ghost use Rattle.sva_driver_texts.specs.Readings as readings;
 ghost use Rattle.sva_driver_texts.specs.Readings.{Takes};
@@ -12,7 +13,7 @@ use crate::readings::{Reading, is_among};
 use std::alloc::{AllocError, Global};
 use sva_driver_words::{DriverStop, Under, flag_place, names_flag, says};
 use sva_race_texts::word_at;
-use sva_script::Names;
+use sva_script::{Names, parts_of};
 
 impl Reading {
     /// The blocks in which a line of a thread stands that comes next, the outermost first.
@@ -68,7 +69,41 @@ impl Reading {
                 line: place,
                 so: true,
             },
+            is_right: true,
         })?;
+        Ok(())
+    }
+
+    /// Adds the block of a wrong `if`.
+    fn push_wrong_block(&mut self, thread: Vec<u8>, number: u64) -> Result<(), AllocError>
+        ensures { IfOk result (λ _. self.new ≡ record self.old {
+          blocks = self.old.blocks ++ blocks.opened_wrong thread.items number ∷ [];
+        }) }
+    {
+        self.blocks.push(Block {
+            thread,
+            number,
+            under: Under { line: 0, so: true },
+            is_right: false,
+        })?;
+        Ok(())
+    }
+
+    /// Notes the block that a wrong line opens.
+    pub(crate) fn note_wrong_block(
+        &mut self,
+        alloc: Global,
+        number: u64,
+        words: &[&[u8]],
+    ) -> Result<(), AllocError>
+        ensures { IfOk result (λ _. self.new ≡ readings.with_wrong_block self.old number
+            (parts_of (map (λ word. word.now) words.now))) }
+    {
+        let parts = parts_of(words);
+        if says(parts.step, 0, b"if") {
+            let thread = self.thread_of(alloc, parts.step)?;
+            return self.push_wrong_block(thread, number);
+        }
         Ok(())
     }
 

@@ -80,6 +80,7 @@ fn is_flag(words: &[&[u8]], at: usize) -> bool
         || says(words, at, b"silent")
         || says(words, at, b"lies")
         || says(words, at, b"awaits")
+        || says(words, at, b"leaves")
 }
 
 /// The endpoint with what such a word says.
@@ -92,8 +93,10 @@ fn set_flag(device: &mut DeviceRead, words: &[&[u8]], at: usize)
         device.is_silent = true;
     } else if says(words, at, b"lies") {
         device.lies = true;
-    } else {
+    } else if says(words, at, b"awaits") {
         device.awaits = true;
+    } else {
+        device.leaves = true;
     }
 }
 

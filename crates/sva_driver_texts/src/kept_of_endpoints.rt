@@ -19,4 +19,6 @@ pub struct DeviceRead {
     pub lies: bool,
     /// Whether it says that it has stopped only once its page requests are answered.
     pub awaits: bool,
+    /// Whether it may be removed, at any moment.
+    pub leaves: bool,
 }

@@ -3,10 +3,12 @@
 #![tactic(auto)]
 
 mod blocks;
+mod bodies;
 mod branches;
 mod budgets;
 mod devices;
 mod first;
+mod given;
 mod kept;
 mod kept_of_endpoints;
 mod lines;
@@ -18,9 +20,14 @@ mod plans;
 mod readings;
 mod settings;
 mod texts;
+mod titles;
 mod ways;
+mod writing;
+mod written_out;
+mod wrong_bodies;
 
 pub use blocks::Block;
+pub use bodies::{Body, Definition, Opener, WordedLine, WrongLine};
 pub use budgets::{asks_in, has_budget, is_pageless, is_unasked, is_unstarted};
 pub use first::take_lines;
 pub use kept::{Begun, Halt, Read, Said, Text};
@@ -29,3 +36,5 @@ pub use opening::opening_of;
 pub use readings::Reading;
 pub use texts::{put_refused, read_driver, read_text};
 pub use ways::is_past;
+pub use writing::Writing;
+pub use written_out::plain_lines_stay;

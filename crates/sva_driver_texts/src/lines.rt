@@ -6,34 +6,72 @@ ghost use Rattle.std.specs.Str.{bytes_eq};
 ghost use Rattle.sva_driver_words.specs.Says.{is_act};
 ghost use Rattle.sva_driver_words.specs.Sayings.{SayingSaid, saying_seen};
 ghost use Rattle.sva_driver_words.specs.Taking.{Fails, Gives};
+ghost use Rattle.sva_driver_texts.specs.Bodies.{lines_seen, worded_seen};
 ghost use Rattle.sva_driver_texts.specs.Devices.{device_seen};
 ghost use Rattle.sva_driver_texts.specs.Readings as readings;
 ghost use Rattle.sva_driver_texts.specs.Readings.{Takes};
 ghost use Rattle.sva_driver_words.specs.Faults.{placed};
 ghost use Rattle.sva_driver_words.specs.declared.faults.DriverWrong.{DriverWrong};
 ghost use Rattle.sva_script.specs.Lines.{parts_of};
-ghost use Rattle.sva_script_reading.specs.Begins.{lines_from};
 
+use crate::bodies::WordedLine;
 use crate::devices::add_parts;
 use crate::kept_of_endpoints::DeviceRead;
 use crate::readings::{Reading, untold};
 use crate::settings::{is_setting, workers_of};
+use crate::titles::is_title;
+use crate::writing::written_at;
 use std::alloc::{AllocError, Global};
 use sva_driver_words::{
-    DriverStop, DriverWanted, DriverWrong, endpoint_at, has_word, judge_end, says, wrong_at,
+    DriverStop, DriverWanted, DriverWrong, WrittenWanted, endpoint_at, has_word, judge_end, says,
+    wrong_at,
 };
 use sva_open::Saying;
 use sva_race_texts::{RaceWanted, count_of, word_at};
-use sva_script::{Names, Wanted, is, is_name, name_in, parts_of, split};
-use sva_script_reading::Lines;
+use sva_script::{Names, is, name_in, parts_of};
 use sva_step::Config;
 
 /// The words that begin an act.
-const ACTS: [&[u8]; 33] = [
-    b"pte", b"entry", b"replace", b"start", b"stop", b"reset", b"submit", b"await", b"serve",
-    b"respond", b"discard", b"close", b"open", b"skip", b"free", b"freeze", b"lock", b"unlock",
-    b"mark", b"ask", b"use", b"end", b"evict", b"fault", b"finish", b"quit", b"pump", b"write",
-    b"deliver", b"forget", b"set", b"clear", b"if",
+const ACTS: [&[u8]; 39] = [
+    b"pte",
+    b"entry",
+    b"replace",
+    b"start",
+    b"stop",
+    b"reset",
+    b"submit",
+    b"await",
+    b"serve",
+    b"respond",
+    b"discard",
+    b"close",
+    b"open",
+    b"skip",
+    b"free",
+    b"freeze",
+    b"lock",
+    b"unlock",
+    b"mark",
+    b"ask",
+    b"use",
+    b"end",
+    b"evict",
+    b"fault",
+    b"finish",
+    b"quit",
+    b"pump",
+    b"write",
+    b"deliver",
+    b"forget",
+    b"set",
+    b"clear",
+    b"if",
+    b"ats",
+    b"pri",
+    b"mastering",
+    b"gone",
+    b"resume",
+    b"expire",
 ];
 
 /// The word that opens a block.
@@ -219,11 +257,8 @@ fn take_heading(alloc: Global, reading: &mut Reading, words: &[&[u8]]) -> Result
         reading.old reading.new result }
 {
     let name = word_at(words, 1);
-    if !is_name(name) {
-        return Err(DriverStop::Wrong(wrong_at(
-            1,
-            DriverWanted::Race(RaceWanted::Script(Wanted::Name)),
-        )));
+    if !is_title(name) {
+        return Err(DriverStop::Wrong(written_at(1, WrittenWanted::Name)));
     }
     judge_end(words, 2).map_err(DriverStop::Wrong)?;
     match reading.head(alloc, name) {
@@ -364,9 +399,33 @@ fn read_words(
     }
     match take_line(alloc, config, reading, number, words) {
         Ok(()) => Ok(()),
-        Err(DriverStop::Wrong(wrong)) => reading.tell(&wrong, number, words, names),
+        Err(DriverStop::Wrong(wrong)) => {
+            reading.note_wrong_block(alloc, number, words)?;
+            reading.tell(&wrong, number, words, names)
+        }
         Err(DriverStop::Memory) => Err(AllocError),
     }
+}
+
+/// Reads a line.
+fn read_line(
+    alloc: Global,
+    config: &Config,
+    names: &Names,
+    line: &WordedLine<'_>,
+    reading: &mut Reading,
+) -> Result<(), AllocError>
+    ensures { IfOk result (λ _. reading.new ≡ readings.behind_words config.now names.now reading.old
+        (worded_seen line.now).0 (worded_seen line.now).1) }
+{
+    read_words(
+        alloc,
+        config,
+        names,
+        reading,
+        line.number,
+        line.words.as_slice(),
+    )
 }
 
 /// Reads the lines behind the config, one after another.
@@ -374,18 +433,14 @@ fn read_each(
     alloc: Global,
     config: &Config,
     names: &Names,
-    from: Lines<'_>,
+    lines: &[WordedLine<'_>],
     reading: &mut Reading,
 ) -> Result<(), AllocError>
     ensures { IfOk result (λ _. reading.new
-        ≡ readings.behind_lines config.now names.now reading.old
-        (lines_from (from.entry.number + 1) from.entry.rest.now)) }
+        ≡ readings.behind_lines config.now names.now reading.old (lines_seen lines.now)) }
 {
-    let mut lines = from;
-    let mut words = Vec::new(alloc);
-    while let Some((number, line)) = lines.next() {
-        split(line, &mut words)?;
-        read_words(alloc, config, names, reading, number, words.as_slice())?;
+    for line in lines {
+        read_line(alloc, config, names, line, reading)?;
     }
     Ok(())
 }
@@ -395,13 +450,12 @@ pub fn read_lines(
     alloc: Global,
     config: &Config,
     names: &Names,
-    from: Lines<'_>,
+    lines: &[WordedLine<'_>],
     reading: &mut Reading,
 ) -> Result<(), AllocError>
     ensures { IfOk result (λ _. reading.new
-        ≡ readings.behind_all config.now names.now reading.old
-        (lines_from (from.entry.number + 1) from.entry.rest.now)) }
+        ≡ readings.behind_all config.now names.now reading.old (lines_seen lines.now)) }
 {
-    read_each(alloc, config, names, from, reading)?;
+    read_each(alloc, config, names, lines, reading)?;
     reading.tell_open(names)
 }

@@ -14,7 +14,11 @@ use sva_script::{Wanted, is, is_name};
 fn is_awaited_word(name: &[u8]) -> bool
     ensures { result ≡ readings.is_awaited_word name.now }
 {
-    is(name, b"stopped") || is(name, b"queue") || is(name, b"groups")
+    is(name, b"stopped")
+        || is(name, b"queue")
+        || is(name, b"groups")
+        || is(name, b"idle")
+        || is(name, b"gone")
 }
 
 /// Whether a line has the name.
@@ -78,13 +82,14 @@ fn is_of_endpoint(word: &[u8]) -> bool
         || is(word, b"fault")
         || is(word, b"finish")
         || is(word, b"quit")
+        || is(word, b"gone")
 }
 
 /// Whether an act is a unit's.
 fn is_of_unit(word: &[u8]) -> bool
     ensures { result ≡ readings.is_of_unit word.now }
 {
-    is(word, b"pump") || is(word, b"write") || is(word, b"forget")
+    is(word, b"pump") || is(word, b"expire") || is(word, b"write") || is(word, b"forget")
 }
 
 /// A role with the number of who has it.

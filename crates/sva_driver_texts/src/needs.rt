@@ -17,6 +17,8 @@ fn need_at(act: &LocalAct) -> Need
         | LocalAct::Start { .. }
         | LocalAct::Stop { .. }
         | LocalAct::Reset
+        | LocalAct::Resume
+        | LocalAct::Turn { .. }
         | LocalAct::Respond { .. }
         | LocalAct::RespondAll { .. }
         | LocalAct::Discard { .. }
@@ -31,6 +33,8 @@ fn need_at(act: &LocalAct) -> Need
         LocalAct::AwaitQueueOf { .. } => Need::NoneQueued,
         LocalAct::AwaitGroups { .. } => Need::Answered,
         LocalAct::AwaitResets => Need::ResetsDone,
+        LocalAct::AwaitIdle => Need::Quiet,
+        LocalAct::AwaitGone => Need::Gone,
         LocalAct::Serve => Need::Queued,
         LocalAct::Ask { .. } => Need::On,
         LocalAct::Use { .. } => Need::Usable,
@@ -40,7 +44,9 @@ fn need_at(act: &LocalAct) -> Need
         LocalAct::More { .. } => Need::Unfinished,
         LocalAct::Finish { .. } => Need::Covered,
         LocalAct::Quit { .. } => Need::Idle,
+        LocalAct::Leave => Need::There,
         LocalAct::Pump => Need::Head,
+        LocalAct::Expire { .. } => Need::Unanswered,
         LocalAct::Write => Need::Received,
         LocalAct::ForgetEntry { .. } => Need::KeptEntry,
         LocalAct::Forget { .. } => Need::KeptTranslation,

@@ -161,6 +161,7 @@ pub fn opening_of(
         workers,
         devices: told,
         said: _,
+        told: _,
     } = reading;
     let own = told.as_slice();
     let acts = read.as_slice();

@@ -47,14 +47,20 @@ fn pasid_of(act: &LocalAct) -> usize
         | LocalAct::Close
         | LocalAct::Reopen
         | LocalAct::Skip
+        | LocalAct::Resume
         | LocalAct::AwaitWait { .. }
         | LocalAct::AwaitQueue
         | LocalAct::AwaitResets
+        | LocalAct::Turn { .. }
+        | LocalAct::AwaitIdle
+        | LocalAct::AwaitGone
         | LocalAct::Serve
         | LocalAct::End { .. }
         | LocalAct::More { .. }
         | LocalAct::Finish { .. }
+        | LocalAct::Leave
         | LocalAct::Pump
+        | LocalAct::Expire { .. }
         | LocalAct::Write
         | LocalAct::ForgetEntry { .. }
         | LocalAct::Forget { .. }
@@ -67,7 +73,7 @@ fn pasid_looked_at(condition: Condition) -> usize
     ensures { result ≡ seen.pasid_looked_at condition }
 {
     match condition {
-        Condition::Flag { .. } => 0,
+        Condition::Flag { .. } | Condition::Gone { .. } | Condition::Failed { .. } => 0,
         Condition::Present { pasid, .. } => pasid,
         Condition::Stopped { pasid, .. } => pasid,
         Condition::Filed { pasid, .. } => or_zero(pasid),

@@ -87,12 +87,16 @@ fn started_by(is_there: bool, act: &LocalAct) -> Option<u64>
         | LocalAct::Close
         | LocalAct::Reopen
         | LocalAct::Skip
+        | LocalAct::Resume
         | LocalAct::AwaitWait { .. }
         | LocalAct::AwaitStopped { .. }
         | LocalAct::AwaitQueue
         | LocalAct::AwaitQueueOf { .. }
         | LocalAct::AwaitGroups { .. }
         | LocalAct::AwaitResets
+        | LocalAct::Turn { .. }
+        | LocalAct::AwaitIdle
+        | LocalAct::AwaitGone
         | LocalAct::Serve
         | LocalAct::Respond { .. }
         | LocalAct::RespondAll { .. }
@@ -106,7 +110,9 @@ fn started_by(is_there: bool, act: &LocalAct) -> Option<u64>
         | LocalAct::More { .. }
         | LocalAct::Finish { .. }
         | LocalAct::Quit { .. }
+        | LocalAct::Leave
         | LocalAct::Pump
+        | LocalAct::Expire { .. }
         | LocalAct::Write
         | LocalAct::ForgetEntry { .. }
         | LocalAct::Forget { .. }
@@ -259,6 +265,7 @@ fn planned(
         faults,
         evicts: device.evicts,
         is_silent: device.is_silent,
+        leaves: device.leaves,
     })
 }
 

@@ -1,6 +1,6 @@
 //! What is read of a driver, line by line.
 
-ghost use Rattle.std.specs.Prelude.{◌≡◌, ◌++◌, ◌∷◌, [], IfOk, Some, is_some, length, map, nat_lt, option_map};
+ghost use Rattle.std.specs.Prelude.{◌≡◌, ◌==◌, ◌++◌, ◌∷◌, [], IfOk, Some, is_some, length, map, nat_lt, option_map};
 ghost use Rattle.std.specs.Prelude.{replicate, slice_get, slice_set, true};
 ghost use Rattle.std.specs.List.{list_any};
 ghost use Rattle.std.specs.Str.{bytes_eq};
@@ -17,7 +17,7 @@ use crate::settings::setting_line;
 use std::alloc::{AllocError, Global};
 use std::marker::Model;
 use sva_driver_words::{DriverStop, DriverWrong, LineRead, Under, put_fault, read_saying};
-use sva_open::{Budget, Link, Saying, Settings, Stopped, Workers};
+use sva_open::{Budget, Link, Saying, Settings, Stopped, Timeouts, Workers};
 use sva_race_texts::{joined, word_at};
 use sva_script::{Names, is};
 use sva_step::Config;
@@ -49,6 +49,8 @@ pub struct Reading {
     pub devices: Vec<DeviceRead>,
     /// What is wrong with the lines.
     pub said: Vec<u8>,
+    /// The numbers of these.
+    pub told: Vec<u64>,
 }
 
 impl Model for Reading {
@@ -73,6 +75,7 @@ impl Model for Reading {
       workers = reading.workers;
       devices = map device_seen reading.devices.items;
       said = reading.said.items;
+      told = reading.told.items;
     } };
 }
 
@@ -92,6 +95,7 @@ pub(crate) fn untold() -> DeviceRead
         is_silent: false,
         lies: false,
         awaits: false,
+        leaves: false,
     }
 }
 
@@ -158,11 +162,14 @@ impl Reading {
                 stopped: Stopped::Marker,
                 allows_no_group: false,
                 has_workers: false,
+                clears_controls: false,
+                timeouts: Timeouts::Off,
             },
             set: Vec::new(alloc),
             workers: None,
             devices: all_untold(alloc, config.endpoints as usize)?,
             said: Vec::new(alloc),
+            told: Vec::new(alloc),
         })
     }
 
@@ -180,7 +187,14 @@ impl Reading {
         Vec::from_slice(alloc, self.heading.as_slice())
     }
 
-    /// Tells that a line is wrong.
+    /// Whether something was told of a line.
+    fn is_told_of(&self, line: u64) -> bool
+        ensures { result ≡ list_any (λ own. own == line) self.now.told }
+    {
+        self.told.iter().any(|own| *own == line)
+    }
+
+    /// Tells that a line is wrong, unless something was told of it: it may be written out several times.
     pub(crate) fn tell(
         &mut self,
         wrong: &DriverWrong,
@@ -191,7 +205,12 @@ impl Reading {
         ensures { IfOk result (λ _. self.new
             ≡ readings.with_fault self.old names.now line (map (λ word. word.now) words.now) wrong.now) }
     {
-        put_fault(&mut self.said, wrong, line, words, names)
+        if self.is_told_of(line) {
+            return Ok(());
+        }
+        put_fault(&mut self.said, wrong, line, words, names)?;
+        self.told.push(line)?;
+        Ok(())
     }
 
     /// The lines that follow stand under this heading.

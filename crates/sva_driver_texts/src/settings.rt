@@ -4,7 +4,7 @@ ghost use Rattle.std.specs.Prelude.{◌≡◌, map};
 ghost use Rattle.sva_driver_texts.specs.Devices as devices;
 
 use sva_driver_words::{DriverWanted, DriverWrong, has_word, judge_end, says, wrong_at};
-use sva_open::{Link, Settings, Stopped, Workers};
+use sva_open::{Link, Settings, Stopped, Timeouts, Workers};
 use sva_script::is;
 
 /// Whether it begins a setting.
@@ -17,6 +17,8 @@ pub(crate) fn is_setting(word: &[u8]) -> bool
         || is(word, b"drain")
         || is(word, b"caches")
         || is(word, b"stopped")
+        || is(word, b"enables")
+        || is(word, b"timeouts")
         || is(word, b"refuses")
         || is(word, b"allow")
 }
@@ -142,6 +144,50 @@ fn stopped_set(settings: Settings, words: &[&[u8]]) -> Result<Settings, DriverWr
     Err(wrong_at(1, DriverWanted::Stopped))
 }
 
+/// What becomes of ATS, page requests and bus mastering by a reset.
+fn enables_set(settings: Settings, words: &[&[u8]]) -> Result<Settings, DriverWrong>
+    ensures { result ≡ devices.enables_set settings (map (λ word. word.now) words.now) }
+{
+    if says(words, 1, b"kept") {
+        return Ok(Settings {
+            clears_controls: false,
+            ..settings
+        });
+    }
+    if says(words, 1, b"cleared") {
+        return Ok(Settings {
+            clears_controls: true,
+            ..settings
+        });
+    }
+    Err(wrong_at(1, DriverWanted::Enables))
+}
+
+/// What becomes of an invalidation that isn't answered.
+fn timeouts_set(settings: Settings, words: &[&[u8]]) -> Result<Settings, DriverWrong>
+    ensures { result ≡ devices.timeouts_set settings (map (λ word. word.now) words.now) }
+{
+    if says(words, 1, b"off") {
+        return Ok(Settings {
+            timeouts: Timeouts::Off,
+            ..settings
+        });
+    }
+    if says(words, 1, b"on") {
+        return Ok(Settings {
+            timeouts: Timeouts::On,
+            ..settings
+        });
+    }
+    if says(words, 1, b"stop") {
+        return Ok(Settings {
+            timeouts: Timeouts::Stop,
+            ..settings
+        });
+    }
+    Err(wrong_at(1, DriverWanted::Timeouts))
+}
+
 fn refuses_set(settings: Settings, words: &[&[u8]]) -> Result<Settings, DriverWrong>
     ensures { result ≡ devices.refuses_set settings (map (λ word. word.now) words.now) }
 {
@@ -166,10 +212,17 @@ fn allow_set(settings: Settings, words: &[&[u8]]) -> Result<Settings, DriverWron
     Err(wrong_at(1, DriverWanted::Allowed))
 }
 
-/// The settings that are no pair, or else by what endpoints say that they have stopped.
+/// What a reset leaves, what runs out of time, the settings that are no pair, or else by what endpoints say that they
+/// have stopped.
 fn set_other(settings: Settings, words: &[&[u8]]) -> Result<Settings, DriverWrong>
     ensures { result ≡ devices.set_other settings (map (λ word. word.now) words.now) }
 {
+    if says(words, 0, b"enables") {
+        return enables_set(settings, words);
+    }
+    if says(words, 0, b"timeouts") {
+        return timeouts_set(settings, words);
+    }
     if says(words, 0, b"refuses") {
         return refuses_set(settings, words);
     }

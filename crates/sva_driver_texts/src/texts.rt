@@ -12,6 +12,7 @@ use crate::lines::read_lines;
 use crate::needs::need_of;
 use crate::opening::opening_of;
 use crate::readings::Reading;
+use crate::written_out::write_out;
 use std::alloc::{AllocError, Global};
 use sva_driver_words::{DriverWanted, put_fault, wrong_at};
 use sva_judge::{Spot, start};
@@ -99,10 +100,13 @@ fn read_all(
         put_limits(alloc, &config, all, out)?;
         return Ok(None);
     }
+    let Some(written) = write_out(alloc, lines, out)? else {
+        return Ok(None);
+    };
     let names = names_of(alloc, all)?;
     let next = next_number(all);
     let mut reading = Reading::nothing(alloc, &config)?;
-    read_lines(alloc, &config, &names, lines, &mut reading)?;
+    read_lines(alloc, &config, &names, written.as_slice(), &mut reading)?;
     read_of(alloc, config, names, next, reading, out)
 }
 

@@ -118,7 +118,7 @@ awaits_name lines words = do
 abbrev pub await_named : List LineSaid → List (List ℕ) → Result SayingSaid DriverWrong
 await_named lines words = if has_word 1 words then awaits_name lines words else wrong_at 1 wanted.Awaited
 
--- ---- `await stopped E P`, `await queue E [P]`, `await groups E [P]`, `await reset E`
+-- ---- `await stopped E P`, `await queue E [P]`, `await groups E [P]`, `await reset E`, `await idle E`, `await gone E`
 
 abbrev pub await_stopped : Config → List (List ℕ) → Result SayingSaid DriverWrong
 await_stopped config words = do
@@ -151,6 +151,18 @@ await_reset config words = do
   _ ← no_more 3 words
   Ok (did endpoint local.AwaitResets)
 
+abbrev pub await_idle : Config → List (List ℕ) → Result SayingSaid DriverWrong
+await_idle config words = do
+  endpoint ← endpoint_at config 2 words
+  _ ← no_more 3 words
+  Ok (did endpoint local.AwaitIdle)
+
+abbrev pub await_gone : Config → List (List ℕ) → Result SayingSaid DriverWrong
+await_gone config words = do
+  endpoint ← endpoint_at config 2 words
+  _ ← no_more 3 words
+  Ok (did endpoint local.AwaitGone)
+
 abbrev pub await_line : Config → (under : List Under) → (thread : List ℕ) → List LineSaid → List (List ℕ) → Result SayingSaid DriverWrong
 await_line config under thread lines words =
     if says 1 (codes "wait") words then await_wait config under thread lines words else
@@ -158,4 +170,6 @@ await_line config under thread lines words =
     if says 1 (codes "queue") words then await_queue config words else
     if says 1 (codes "groups") words then await_groups config words else
     if says 1 (codes "reset") words then await_reset config words else
+    if says 1 (codes "idle") words then await_idle config words else
+    if says 1 (codes "gone") words then await_gone config words else
     await_named lines words

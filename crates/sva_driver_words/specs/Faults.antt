@@ -15,7 +15,10 @@ use Rattle.sva_driver_words.specs.declared.faults.DriverWanted.TheVariants as wa
 use Rattle.sva_driver_words.specs.declared.faults.SubmitWanted.{SubmitWanted}
 use Rattle.sva_driver_words.specs.declared.faults.SubmitWanted.TheVariants as submit
 use Rattle.sva_driver_words.specs.declared.faults.DriverWrong.{DriverWrong}
+use Rattle.sva_driver_words.specs.declared.written.WrittenWanted.{WrittenWanted}
+use Rattle.sva_driver_words.specs.declared.written.WrittenWanted.TheVariants as written
 use Rattle.sva_driver_words.specs.Needs.{need_text}
+use Rattle.sva_driver_words.specs.Written.{written_text}
 
 -- what a line is read as that is wrong at this word
 abbrev pub wrong_at : {A : Type 0} → (at : ℕ) → DriverWanted → Result A DriverWrong
@@ -44,11 +47,12 @@ submit_text submit.DrainOrPlus = codes "drain or +"
 -- of a line of a branch, or of one that names a flag
 abbrev pub branch_text : BranchWanted → List ℕ
 branch_text branch.Flag = codes "the name of a flag"
-branch_text branch.Condition = codes "a flag, not, present, stopped, filed or queued"
-branch_text branch.BehindNot = codes "a flag, present, stopped, filed or queued"
+branch_text branch.Condition = codes "a flag, not, present, stopped, filed, queued, gone or failed"
+branch_text branch.BehindNot = codes "a flag, present, stopped, filed, queued, gone or failed"
 branch_text branch.Longer = codes "a condition of more words, or no word behind a flag"
 branch_text branch.Few = codes "no more than 16 blocks within one another"
 branch_text branch.OnEachWay = codes "an endpoint whose last wait above in this thread is submitted on each way to here"
+branch_text branch.AwaitOnEachWay = codes "an await of a wait above in this thread, the last on each way to here"
 branch_text branch.If = codes "an if above in this thread"
 branch_text branch.NoElse = codes "no second else"
 branch_text branch.End = codes "an end below in this thread"
@@ -71,6 +75,8 @@ wanted_text wanted.Caches = codes "off or on"
 wanted_text wanted.Stopped = codes "marker, status or known"
 wanted_text wanted.Refused = codes "drain"
 wanted_text wanted.Allowed = codes "no-group"
+wanted_text wanted.Enables = codes "kept or cleared"
+wanted_text wanted.Timeouts = codes "off, on or stop"
 wanted_text wanted.Frame = codes "a frame of the config"
 wanted_text wanted.Freed = codes "a frame of the config, space, domain or pasid"
 wanted_text wanted.Pasid = codes "a PASID, 0 to 32"
@@ -80,20 +86,23 @@ wanted_text wanted.FrameOrNone = codes "a frame of the config or none"
 wanted_text wanted.Page = codes "the number of a page"
 wanted_text wanted.Order = codes "an order, 0 to 9"
 wanted_text wanted.Index = codes "the index of a group"
+wanted_text wanted.Itag = codes "an ITag, 0 to 31"
 wanted_text wanted.Count = codes "a number, 0 to 65535"
 wanted_text wanted.Access = codes "r or w"
 wanted_text wanted.Asked = codes "r, w or rw"
 wanted_text wanted.GroupOrNew = codes "new or the index of a group"
+wanted_text wanted.OnOrOff = codes "on or off"
 wanted_text wanted.MoreOrLast = codes "more or last"
 wanted_text wanted.Code = codes "success, invalid or failure"
 wanted_text wanted.Kind = codes "the kind of a message"
 wanted_text (wanted.Submit want) = submit_text want
 wanted_text wanted.Descriptor = codes "range, pasid, iotlb, entry or wait"
-wanted_text wanted.Awaited = codes "wait, stopped, queue, groups, reset or the name of a line above"
+wanted_text wanted.Awaited = codes "wait, stopped, queue, groups, reset, idle, gone or the name of a line above"
 wanted_text wanted.WaitAbove = codes "an endpoint at which a line above in this thread submits a wait"
 wanted_text wanted.Lock = codes "the name of a lock"
 wanted_text (wanted.Branch want) = branch_text want
-wanted_text wanted.Part = codes "a number, 0 to 65535, evicts, silent, lies, awaits or pages"
+wanted_text (wanted.Written want) = written_text want
+wanted_text wanted.Part = codes "a number, 0 to 65535, evicts, silent, lies, awaits, leaves or pages"
 wanted_text wanted.Counted = codes "asks, uses or faults"
 wanted_text (wanted.Permitted need) = codes "an act that is permitted now"
 
@@ -105,12 +114,13 @@ act_words =
     codes "await" ∷ codes "serve" ∷ codes "respond" ∷ codes "discard" ∷ codes "close" ∷ codes "open" ∷ codes "skip" ∷ codes "free" ∷
     codes "freeze" ∷ codes "lock" ∷ codes "unlock" ∷ codes "mark" ∷ codes "ask" ∷ codes "use" ∷ codes "end" ∷
     codes "evict" ∷ codes "fault" ∷ codes "finish" ∷ codes "quit" ∷ codes "pump" ∷ codes "write" ∷ codes "deliver" ∷ codes "forget" ∷
-    codes "set" ∷ codes "clear" ∷ codes "if" ∷ []
+    codes "set" ∷ codes "clear" ∷ codes "if" ∷ codes "ats" ∷ codes "pri" ∷ codes "mastering" ∷ codes "gone" ∷
+    codes "resume" ∷ codes "expire" ∷ []
 
 unfoldable pub setting_words : List (List ℕ)
 setting_words =
     codes "platform" ∷ codes "link" ∷ codes "waits" ∷ codes "drain" ∷ codes "caches" ∷ codes "stopped" ∷
-    codes "refuses" ∷ codes "allow" ∷ []
+    codes "refuses" ∷ codes "allow" ∷ codes "enables" ∷ codes "timeouts" ∷ []
 
 -- the words that stand behind `platform`
 unfoldable pub platform_words : List (List ℕ)
@@ -118,10 +128,12 @@ platform_words = codes "vt-d" ∷ codes "free" ∷ []
 
 -- the words that begin another line before `race`, and behind it
 unfoldable pub before_words : List (List ℕ)
-before_words = codes "workers" ∷ codes "device" ∷ codes "race" ∷ codes "else" ∷ []
+before_words =
+    codes "workers" ∷ codes "device" ∷ codes "race" ∷ codes "else" ∷ codes "def" ∷ codes "call" ∷ codes "repeat" ∷ []
 
 unfoldable pub behind_words : List (List ℕ)
-behind_words = codes "thread" ∷ codes "workers" ∷ codes "device" ∷ codes "else" ∷ []
+behind_words =
+    codes "thread" ∷ codes "workers" ∷ codes "device" ∷ codes "else" ∷ codes "def" ∷ codes "call" ∷ codes "repeat" ∷ []
 
 -- the kinds of messages that scripts don't have
 unfoldable pub more_kind_words : List (List ℕ)
@@ -136,11 +148,13 @@ freed_words = codes "space" ∷ codes "domain" ∷ codes "pasid" ∷ []
 
 -- the words that stand behind `await`, where a name doesn't
 unfoldable pub awaited_words : List (List ℕ)
-awaited_words = codes "wait" ∷ codes "stopped" ∷ codes "queue" ∷ codes "groups" ∷ codes "reset" ∷ []
+awaited_words =
+    codes "wait" ∷ codes "stopped" ∷ codes "queue" ∷ codes "groups" ∷ codes "reset" ∷ codes "idle" ∷ codes "gone" ∷ []
 
 -- the words that stand behind `if`, where a flag doesn't
 unfoldable pub condition_words : List (List ℕ)
-condition_words = codes "not" ∷ codes "present" ∷ codes "stopped" ∷ codes "filed" ∷ codes "queued" ∷ []
+condition_words =
+    codes "not" ∷ codes "present" ∷ codes "stopped" ∷ codes "filed" ∷ codes "queued" ∷ codes "gone" ∷ codes "failed" ∷ []
 
 -- where what is looked at was wanted
 abbrev pub near_branch : (word : List ℕ) → BranchWanted → Option (List ℕ)
@@ -148,6 +162,11 @@ near_branch word branch.Condition = near_among condition_words word
 near_branch word branch.BehindNot = near_among condition_words word
 near_branch word branch.Longer = near_among condition_words word
 near_branch word _ = None
+
+-- where a definition was wanted, the names are those of definitions
+abbrev pub near_written : Known → (word : List ℕ) → WrittenWanted → Option (List ℕ)
+near_written known word written.Defined = near_name known word
+near_written known word _ = None
 
 -- the word that is near to the wrong one, of those that were wanted
 abbrev pub near_wanted : Known → (word : List ℕ) → DriverWanted → Option (List ℕ)
@@ -161,6 +180,7 @@ near_wanted known word wanted.Descriptor = near_among descriptor_words word
 near_wanted known word wanted.Freed = near_among freed_words word
 near_wanted known word wanted.Awaited = or_else (near_name known word) (near_among awaited_words word)
 near_wanted known word (wanted.Branch want) = near_branch word want
+near_wanted known word (wanted.Written want) = near_written known word want
 near_wanted known word _ = None
 
 -- of an act that isn't permitted it is told what it needs

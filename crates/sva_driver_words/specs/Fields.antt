@@ -14,6 +14,7 @@ use Rattle.sva_driver_words.specs.Faults.{wrong_at}
 use Rattle.sva_driver_words.specs.declared.faults.DriverWanted.{DriverWanted}
 use Rattle.sva_driver_words.specs.declared.faults.DriverWanted.TheVariants as wanted
 use Rattle.sva_driver_words.specs.declared.faults.DriverWrong.{DriverWrong}
+use Rattle.sva_driver_words.specs.declared.written.WrittenWanted.TheVariants as written
 
 -- is the word at a place this one?
 abbrev pub says : (at : ℕ) → (word : List ℕ) → List (List ℕ) → Bool
@@ -68,9 +69,17 @@ order_at at words = number_at 0 10 at wanted.Order words
 abbrev pub index_at : (at : ℕ) → DriverWanted → List (List ℕ) → Result ℕ DriverWrong
 index_at at want words = number_at 0 512 at want words
 
+-- an ITag has five bits (PCI Express Base 5.0, section 10.3.1)
+abbrev pub itag_at : (at : ℕ) → List (List ℕ) → Result ℕ DriverWrong
+itag_at at words = number_at 0 32 at wanted.Itag words
+
 -- a number of events
 abbrev pub count_at : (at : ℕ) → List (List ℕ) → Result ℕ DriverWrong
 count_at at words = number_at 0 65536 at wanted.Part words
+
+-- how often lines are written out
+abbrev pub times_at : (at : ℕ) → List (List ℕ) → Result ℕ DriverWrong
+times_at at words = number_at 1 65537 at (wanted.Written written.Times) words
 
 -- how many are older; none where nothing is said
 abbrev pub older_at : (at : ℕ) → List (List ℕ) → Result ℕ DriverWrong
@@ -90,6 +99,13 @@ asked_at at words =
     if says at (codes "w") words then Ok true else
     if says at (codes "r") words then Ok false else
     wrong_at at wanted.Asked
+
+-- is it to be on?
+abbrev pub on_at : (at : ℕ) → List (List ℕ) → Result Bool DriverWrong
+on_at at words =
+    if says at (codes "on") words then Ok true else
+    if says at (codes "off") words then Ok false else
+    wrong_at at wanted.OnOrOff
 
 -- is it the last of its group?
 abbrev pub last_at : (at : ℕ) → List (List ℕ) → Result Bool DriverWrong

@@ -1,3 +1,4 @@
+pub mod Written
 pub mod Faults
 pub mod Fields
 pub mod Needs
@@ -5,6 +6,8 @@ pub mod Pieces
 pub mod Platforms
 pub mod Taking
 pub mod Sayings
+pub mod Controls
 pub mod Descriptors
 pub mod Awaits
+pub mod Timeouts
 pub mod Says

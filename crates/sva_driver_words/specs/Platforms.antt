@@ -1,11 +1,13 @@
 -- What a platform is like, in words: each setting of a pair, also where it is the one that holds where nothing is said; and what is
--- refused or allowed, where something is.
+-- cleared, runs out of time, is refused or allowed, where something is.
 use Rattle.std.specs.Prelude.{ℕ, ◌||◌, not, if◌then◌else◌, Bool, true, false, List, [], ◌∷◌, ◌++◌, codes}
 use Rattle.sva_open.specs.declared.settings.Settings.{Settings}
 use Rattle.sva_open.specs.declared.settings.Link.{Link}
 use Rattle.sva_open.specs.declared.settings.Link.TheVariants.{Free, Posted}
 use Rattle.sva_open.specs.declared.settings.Stopped.{Stopped}
 use Rattle.sva_open.specs.declared.settings.Stopped.TheVariants.{Marker, Status, Known}
+use Rattle.sva_open.specs.declared.settings.Timeouts.{Timeouts}
+use Rattle.sva_open.specs.declared.settings.Timeouts.TheVariants as timeouts
 
 abbrev pub link_words : Link → List ℕ
 link_words Free = codes "with link free"
@@ -19,6 +21,11 @@ stopped_words Marker = codes ", stopped marker"
 stopped_words Status = codes ", stopped status"
 stopped_words Known = codes ", stopped known"
 
+abbrev pub timeouts_words : Timeouts → List ℕ
+timeouts_words timeouts.Off = codes ""
+timeouts_words timeouts.On = codes ", timeouts on"
+timeouts_words timeouts.Stop = codes ", timeouts stop"
+
 -- the settings of a pair
 abbrev pub pairs_text : Settings → List ℕ
 pairs_text settings =
@@ -28,10 +35,12 @@ pairs_text settings =
     ++ one_of settings.has_caches (codes ", caches on") (codes ", caches off")
     ++ stopped_words settings.stopped
 
--- the settings that are no pair, where they are said
+-- the settings that are told only where they are said
 abbrev pub unpaired_text : Settings → List ℕ
 unpaired_text settings =
-    one_of settings.refuses_drain (codes ", refuses drain") (codes "")
+    one_of settings.clears_controls (codes ", enables cleared") (codes "")
+    ++ timeouts_words settings.timeouts
+    ++ one_of settings.refuses_drain (codes ", refuses drain") (codes "")
     ++ one_of settings.allows_no_group (codes ", allow no-group") (codes "")
     ++ 10 ∷ []
 
@@ -41,7 +50,9 @@ platform_text settings = pairs_text settings ++ unpaired_text settings
 -- ---- What leaves more open than the settings do, and so wasn't asked
 -- A link that keeps posted requests in order is what PCI Express has: that `link free` leaves more open isn't told. A unit that refuses
 -- waits which drain takes fewer descriptors than another, and where a response may find no group nothing comes that else doesn't: so
--- neither of these two leaves more open.
+-- neither of these two leaves more open. Behind a reset that clears what is enabled an endpoint does less, and more of what it is asked
+-- goes without an answer: that leaves other things open, and not more. Where invalidations run out of time a wait ends that else is
+-- awaited for ever: that is another promise, and a driver that never looks whether a wait was aborted isn't asked for it.
 
 -- a status may come where no marker may: past page requests, and at a closed unit
 abbrev pub may_be_status : Stopped → Bool

@@ -62,7 +62,7 @@ mark_line words = do
   _ ← no_more 1 words
   Ok (DoesSaid act.Mark)
 
--- ---- `reset E`, `serve E`, `close E`, `open E`, `skip E`, `write E`, `pump E`
+-- ---- `reset E`, `serve E`, `close E`, `open E`, `skip E`, `resume E`, `gone E`, `write E`, `pump E`
 
 abbrev pub takes_endpoint : (word : List ℕ) → Bool
 takes_endpoint word =
@@ -71,6 +71,8 @@ takes_endpoint word =
     || bytes_eq word (codes "close")
     || bytes_eq word (codes "open")
     || bytes_eq word (codes "skip")
+    || bytes_eq word (codes "resume")
+    || bytes_eq word (codes "gone")
     || bytes_eq word (codes "write")
     || bytes_eq word (codes "pump")
 
@@ -81,6 +83,8 @@ of_endpoint word endpoint =
     if bytes_eq word (codes "close") then did endpoint local.Close else
     if bytes_eq word (codes "open") then did endpoint local.Reopen else
     if bytes_eq word (codes "skip") then did endpoint local.Skip else
+    if bytes_eq word (codes "resume") then did endpoint local.Resume else
+    if bytes_eq word (codes "gone") then did endpoint local.Leave else
     if bytes_eq word (codes "write") then did endpoint local.Write else
     did endpoint local.Pump
 

@@ -18,11 +18,13 @@ use Rattle.sva_driver_words.specs.declared.faults.DriverWanted.TheVariants as wa
 use Rattle.sva_driver_words.specs.declared.kept.Under.{Under}
 use Rattle.sva_driver_words.specs.declared.faults.DriverWrong.{DriverWrong}
 use Rattle.sva_driver_words.specs.Awaits.{LineSaid, await_line}
+use Rattle.sva_driver_words.specs.Controls.{turn_line, turns}
 use Rattle.sva_driver_words.specs.Descriptors.{submit_line}
 use Rattle.sva_driver_words.specs.Sayings.{SayingSaid, deliver_line, discard_line, end_line, endpoint_line, entry_line, fault_line, finish_line, forget_line}
 use Rattle.sva_driver_words.specs.Sayings.{free_line, freeze_line, mark_line, page_line, pasid_line, replace_line, respond_line, table_line}
 use Rattle.sva_driver_words.specs.Sayings.{takes_endpoint, takes_page, takes_pasid}
 use Rattle.sva_driver_words.specs.Sayings.SayingSaid.{LocksSaid, LooksSaid, SetsSaid, UnlocksSaid}
+use Rattle.sva_driver_words.specs.Timeouts.{expire_line, failed_at, failed_behind}
 
 -- ---- Locks
 
@@ -62,6 +64,8 @@ is_condition_word word =
     || bytes_eq word (codes "stopped")
     || bytes_eq word (codes "filed")
     || bytes_eq word (codes "queued")
+    || bytes_eq word (codes "gone")
+    || bytes_eq word (codes "failed")
 
 abbrev pub is_flag : (word : List ℕ) → Bool
 is_flag word = is_name word && not (is_condition_word word)
@@ -72,7 +76,8 @@ set_line flags words =
     then (no_more 2 words >>= λ done. Ok (SetsSaid (place_in flags (word_at 1 words)) (says 0 (codes "set") words)))
     else wrong_at 1 (wanted.Branch branch.Flag)
 
--- ---- What is looked at: `if NAME`, `if present E P`, `if stopped E P`, `if filed E [P]`, `if queued E [P]`, each behind `not` too
+-- ---- What is looked at: `if NAME`, `if present E P`, `if stopped E P`, `if filed E [P]`, `if queued E [P]`, `if gone E`, `if failed`,
+-- each behind `not` too
 
 -- a flag stands alone
 abbrev pub flag_at : (flags : List (List ℕ)) → (at : ℕ) → BranchWanted → List (List ℕ) → Result Condition DriverWrong
@@ -95,24 +100,42 @@ some_looked config at words = do
   _ ← no_more (at + 3) words
   Ok (endpoint, pasid)
 
-abbrev pub condition_at : Config → (flags : List (List ℕ)) → (at : ℕ) → BranchWanted → List (List ℕ) → Result Condition DriverWrong
-condition_at config flags at want words =
+abbrev pub endpoint_looked : Config → (at : ℕ) → List (List ℕ) → Result ℕ DriverWrong
+endpoint_looked config at words = do
+  endpoint ← endpoint_at config (at + 1) words
+  _ ← no_more (at + 2) words
+  Ok endpoint
+
+-- of `failed` it is said what that looks at, if it may stand here
+abbrev pub gone_failed_or_flag_at : Config → (flags : List (List ℕ)) → (failed : Option Condition) → (at : ℕ) → BranchWanted → List (List ℕ)
+    → Result Condition DriverWrong
+gone_failed_or_flag_at config flags failed at want words =
+    if says at (codes "gone") words then (endpoint_looked config at words >>= λ endpoint. Ok (condition.Gone endpoint)) else
+    if says at (codes "failed") words then failed_at failed at words else
+    flag_at flags at want words
+
+abbrev pub condition_at : Config → (flags : List (List ℕ)) → (failed : Option Condition) → (at : ℕ) → BranchWanted → List (List ℕ)
+    → Result Condition DriverWrong
+condition_at config flags failed at want words =
     if says at (codes "present") words then (pasid_looked config at words >>= λ its. Ok (condition.Present its.0 its.1)) else
     if says at (codes "stopped") words then (pasid_looked config at words >>= λ its. Ok (condition.Stopped its.0 its.1)) else
     if says at (codes "filed") words then (some_looked config at words >>= λ its. Ok (condition.Filed its.0 its.1)) else
     if says at (codes "queued") words then (some_looked config at words >>= λ its. Ok (condition.Queued its.0 its.1)) else
-    flag_at flags at want words
+    gone_failed_or_flag_at config flags failed at want words
 
-abbrev pub looked : Config → (flags : List (List ℕ)) → List (List ℕ) → Result SayingSaid DriverWrong
-looked config flags words =
+abbrev pub looked : Config → (flags : List (List ℕ)) → (failed : Option Condition) → List (List ℕ) → Result SayingSaid DriverWrong
+looked config flags failed words =
     if says 1 (codes "not") words
-    then (condition_at config flags 2 branch.BehindNot words >>= λ its. Ok (LooksSaid its false))
-    else (condition_at config flags 1 branch.Condition words >>= λ its. Ok (LooksSaid its true))
+    then (condition_at config flags failed 2 branch.BehindNot words >>= λ its. Ok (LooksSaid its false))
+    else (condition_at config flags failed 1 branch.Condition words >>= λ its. Ok (LooksSaid its true))
 
 -- it stands in fewer than 16 blocks
-abbrev pub look_line : Config → (flags : List (List ℕ)) → (under : List Under) → List (List ℕ) → Result SayingSaid DriverWrong
-look_line config flags under words =
-    if nat_le 16 (length under) then wrong_at 0 (wanted.Branch branch.Few) else looked config flags words
+abbrev pub look_line : Config → (lines : List LineSaid) → (flags : List (List ℕ)) → (under : List Under) → (thread : List ℕ)
+    → List (List ℕ) → Result SayingSaid DriverWrong
+look_line config lines flags under thread words =
+    if nat_le 16 (length under)
+    then wrong_at 0 (wanted.Branch branch.Few)
+    else looked config flags (failed_behind thread under lines) words
 
 -- does a line name a flag that is set, cleared or looked at? Its word, which is the first behind `not` where that stands there
 abbrev pub flag_place : List (List ℕ) → ℕ
@@ -134,20 +157,29 @@ with_flag flags words =
 abbrev pub is_act : (word : List ℕ) → Bool
 is_act word = list_any (bytes_eq word) act_words
 
--- of link, units and endpoints, of an entry that is replaced, of a flag or a lock, of what is looked at, or of nothing
-abbrev pub other_by : Config → (locks flags : List (List ℕ)) → (under : List Under) → List (List ℕ) → (word : List ℕ) → Result SayingSaid DriverWrong
-other_by config locks flags under words word =
+-- of a flag or a lock, of what is looked at, or of nothing
+abbrev pub own_by : Config → (lines : List LineSaid) → (locks flags : List (List ℕ)) → (under : List Under) → (thread : List ℕ)
+    → List (List ℕ) → (word : List ℕ) → Result SayingSaid DriverWrong
+own_by config lines locks flags under thread words word =
+    if bytes_eq word (codes "mark") then mark_line words else
+    if sets_flag word then set_line flags words else
+    if bytes_eq word (codes "if") then look_line config lines flags under thread words else
+    lock_line locks words
+
+-- of link, units and endpoints, of an entry that is replaced, or else
+abbrev pub other_by : Config → (lines : List LineSaid) → (locks flags : List (List ℕ)) → (under : List Under) → (thread : List ℕ)
+    → List (List ℕ) → (word : List ℕ) → Result SayingSaid DriverWrong
+other_by config lines locks flags under thread words word =
     if bytes_eq word (codes "fault") then fault_line config words else
     if bytes_eq word (codes "end") then end_line config words else
     if bytes_eq word (codes "finish") then finish_line config words else
     if bytes_eq word (codes "deliver") then deliver_line config words else
     if bytes_eq word (codes "forget") then forget_line config words else
     if bytes_eq word (codes "replace") then replace_line config words else
-    if bytes_eq word (codes "mark") then mark_line words else
     if bytes_eq word (codes "discard") then discard_line config words else
-    if sets_flag word then set_line flags words else
-    if bytes_eq word (codes "if") then look_line config flags under words else
-    lock_line locks words
+    if bytes_eq word (codes "expire") then expire_line config words else
+    if turns word then turn_line config words else
+    own_by config lines locks flags under thread words word
 
 -- all but `submit`
 abbrev pub plain_by : Config → (lines : List LineSaid) → (locks flags : List (List ℕ)) → (under : List Under) → (thread : List ℕ)
@@ -162,7 +194,7 @@ plain_by config lines locks flags under thread words word =
     if bytes_eq word (codes "respond") then respond_line config words else
     if bytes_eq word (codes "free") then free_line config words else
     if bytes_eq word (codes "freeze") then freeze_line config words else
-    other_by config locks flags under words word
+    other_by config lines locks flags under thread words word
 
 -- the waits of a line have its place for a name
 abbrev pub saying_by : Config → (lines : List LineSaid) → (locks flags : List (List ℕ)) → (under : List Under) → (thread : List ℕ)

@@ -32,6 +32,8 @@ pub(crate) fn takes_endpoint(word: &[u8]) -> bool
         || is(word, b"close")
         || is(word, b"open")
         || is(word, b"skip")
+        || is(word, b"resume")
+        || is(word, b"gone")
         || is(word, b"write")
         || is(word, b"pump")
 }
@@ -63,6 +65,12 @@ fn of_endpoint(word: &[u8], endpoint: usize) -> Saying
     }
     if is(word, b"skip") {
         return did(endpoint, LocalAct::Skip);
+    }
+    if is(word, b"resume") {
+        return did(endpoint, LocalAct::Resume);
+    }
+    if is(word, b"gone") {
+        return did(endpoint, LocalAct::Leave);
     }
     if is(word, b"write") {
         return did(endpoint, LocalAct::Write);

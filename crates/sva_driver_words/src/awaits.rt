@@ -48,12 +48,16 @@ fn wait_of(endpoint: usize, act: &LocalAct) -> Option<usize>
         | LocalAct::Close
         | LocalAct::Reopen
         | LocalAct::Skip
+        | LocalAct::Resume
         | LocalAct::AwaitWait { .. }
         | LocalAct::AwaitStopped { .. }
         | LocalAct::AwaitQueue
         | LocalAct::AwaitQueueOf { .. }
         | LocalAct::AwaitGroups { .. }
         | LocalAct::AwaitResets
+        | LocalAct::Turn { .. }
+        | LocalAct::AwaitIdle
+        | LocalAct::AwaitGone
         | LocalAct::Serve
         | LocalAct::Respond { .. }
         | LocalAct::RespondAll { .. }
@@ -67,7 +71,9 @@ fn wait_of(endpoint: usize, act: &LocalAct) -> Option<usize>
         | LocalAct::More { .. }
         | LocalAct::Finish { .. }
         | LocalAct::Quit { .. }
+        | LocalAct::Leave
         | LocalAct::Pump
+        | LocalAct::Expire { .. }
         | LocalAct::Write
         | LocalAct::ForgetEntry { .. }
         | LocalAct::Forget { .. }
@@ -141,7 +147,7 @@ fn stands_in(under: &[Under], block: Under) -> bool
 }
 
 /// Whether a line that stands in these blocks stands in each of those.
-fn stands_in_all(under: &[Under], blocks: &[Under]) -> bool
+pub(crate) fn stands_in_all(under: &[Under], blocks: &[Under]) -> bool
     ensures { result ≡ list_all (awaits.stands_in under.now) blocks.now }
 {
     blocks.iter().all(|block| stands_in(under, *block))
@@ -298,6 +304,34 @@ fn await_reset(config: &Config, words: &[&[u8]]) -> Result<Saying, DriverWrong>
     })
 }
 
+/// Reads `await idle E`.
+fn await_idle(config: &Config, words: &[&[u8]]) -> Result<Saying, DriverWrong>
+    ensures { read_seen result ≡ awaits.await_idle config.now (map (λ word. word.now) words.now) }
+{
+    let endpoint = endpoint_at(config, words, 2)?;
+    judge_end(words, 3)?;
+    Ok(Saying::Does {
+        act: Act::At {
+            endpoint,
+            act: LocalAct::AwaitIdle,
+        },
+    })
+}
+
+/// Reads `await gone E`.
+fn await_gone(config: &Config, words: &[&[u8]]) -> Result<Saying, DriverWrong>
+    ensures { read_seen result ≡ awaits.await_gone config.now (map (λ word. word.now) words.now) }
+{
+    let endpoint = endpoint_at(config, words, 2)?;
+    judge_end(words, 3)?;
+    Ok(Saying::Does {
+        act: Act::At {
+            endpoint,
+            act: LocalAct::AwaitGone,
+        },
+    })
+}
+
 /// Reads `await ..`, with the lines above.
 pub(crate) fn await_line(
     config: &Config,
@@ -323,6 +357,12 @@ pub(crate) fn await_line(
     }
     if says(words, 1, b"reset") {
         return await_reset(config, words);
+    }
+    if says(words, 1, b"idle") {
+        return await_idle(config, words);
+    }
+    if says(words, 1, b"gone") {
+        return await_gone(config, words);
     }
     await_named(lines, words)
 }

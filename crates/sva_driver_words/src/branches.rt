@@ -1,13 +1,15 @@
 //! The lines of flags, and those that look at something.
 
 ghost use Rattle.std.specs.Prelude.{◌≡◌, ◌≤◌, map};
+ghost use Rattle.sva_driver_words.specs.Awaits.{line_seen};
 ghost use Rattle.sva_driver_words.specs.Says as says;
 ghost use Rattle.sva_driver_words.specs.Sayings.{read_seen};
 
 use crate::faults::{BranchWanted, DriverWanted, DriverWrong, judge_end, wrong_at};
 use crate::fields::{endpoint_at, has_word, pasid_at, says, some_pasid_at};
-use crate::kept::Under;
+use crate::kept::{LineRead, Under};
 use crate::locks::place_in;
+use crate::timeouts::{failed_at, failed_behind};
 use sva_open::{Condition, Saying};
 use sva_race_texts::word_at;
 use sva_script::{is, is_name};
@@ -29,6 +31,8 @@ fn is_condition_word(word: &[u8]) -> bool
         || is(word, b"stopped")
         || is(word, b"filed")
         || is(word, b"queued")
+        || is(word, b"gone")
+        || is(word, b"failed")
 }
 
 /// Whether a word is the name of a flag.
@@ -100,16 +104,50 @@ fn some_looked(
     Ok((endpoint, pasid))
 }
 
-/// Reads what is looked at.
-fn condition_at(
+/// Reads the end of `gone E`.
+fn endpoint_looked(config: &Config, words: &[&[u8]], at: usize) -> Result<usize, DriverWrong>
+    requires { at ≤ 2 }
+    ensures { result ≡ says.endpoint_looked config.now at (map (λ word. word.now) words.now) }
+{
+    let endpoint = endpoint_at(config, words, at + 1)?;
+    judge_end(words, at + 2)?;
+    Ok(endpoint)
+}
+
+/// Reads `gone E`, `failed`, or else a flag that is looked at.
+fn gone_failed_or_flag_at(
     config: &Config,
     flags: &[Vec<u8>],
+    failed: Option<Condition>,
     words: &[&[u8]],
     at: usize,
     wanted: BranchWanted,
 ) -> Result<Condition, DriverWrong>
     requires { at ≤ 2 }
-    ensures { result ≡ says.condition_at config.now (map (λ flag. flag.items) flags.now) at wanted
+    ensures { result ≡ says.gone_failed_or_flag_at config.now (map (λ flag. flag.items) flags.now) failed at wanted
+        (map (λ word. word.now) words.now) }
+{
+    if says(words, at, b"gone") {
+        let endpoint = endpoint_looked(config, words, at)?;
+        return Ok(Condition::Gone { endpoint });
+    }
+    if says(words, at, b"failed") {
+        return failed_at(failed, words, at);
+    }
+    flag_at(flags, words, at, wanted)
+}
+
+/// Reads what is looked at.
+fn condition_at(
+    config: &Config,
+    flags: &[Vec<u8>],
+    failed: Option<Condition>,
+    words: &[&[u8]],
+    at: usize,
+    wanted: BranchWanted,
+) -> Result<Condition, DriverWrong>
+    requires { at ≤ 2 }
+    ensures { result ≡ says.condition_at config.now (map (λ flag. flag.items) flags.now) failed at wanted
         (map (λ word. word.now) words.now) }
 {
     if says(words, at, b"present") {
@@ -128,42 +166,50 @@ fn condition_at(
         let (endpoint, pasid) = some_looked(config, words, at)?;
         return Ok(Condition::Queued { endpoint, pasid });
     }
-    flag_at(flags, words, at, wanted)
+    gone_failed_or_flag_at(config, flags, failed, words, at, wanted)
 }
 
 /// Reads what is looked at, behind `not` too.
-fn looked(config: &Config, flags: &[Vec<u8>], words: &[&[u8]]) -> Result<Saying, DriverWrong>
-    ensures { read_seen result ≡ says.looked config.now (map (λ flag. flag.items) flags.now)
+fn looked(
+    config: &Config,
+    flags: &[Vec<u8>],
+    failed: Option<Condition>,
+    words: &[&[u8]],
+) -> Result<Saying, DriverWrong>
+    ensures { read_seen result ≡ says.looked config.now (map (λ flag. flag.items) flags.now) failed
         (map (λ word. word.now) words.now) }
 {
     if says(words, 1, b"not") {
-        let condition = condition_at(config, flags, words, 2, BranchWanted::BehindNot)?;
+        let condition = condition_at(config, flags, failed, words, 2, BranchWanted::BehindNot)?;
         return Ok(Saying::Looks {
             condition,
             so: false,
         });
     }
-    let condition = condition_at(config, flags, words, 1, BranchWanted::Condition)?;
+    let condition = condition_at(config, flags, failed, words, 1, BranchWanted::Condition)?;
     Ok(Saying::Looks {
         condition,
         so: true,
     })
 }
 
-/// Reads `if CONDITION` and `if not CONDITION`, which stands in these blocks.
+/// Reads `if CONDITION` and `if not CONDITION`, which stands in these blocks, behind these lines.
 pub(crate) fn look_line(
     config: &Config,
+    lines: &[LineRead],
     flags: &[Vec<u8>],
     under: &[Under],
+    thread: &[u8],
     words: &[&[u8]],
 ) -> Result<Saying, DriverWrong>
-    ensures { read_seen result ≡ says.look_line config.now (map (λ flag. flag.items) flags.now) under.now
-        (map (λ word. word.now) words.now) }
+    ensures { read_seen result ≡ says.look_line config.now (map line_seen lines.now)
+        (map (λ flag. flag.items) flags.now) under.now thread.now (map (λ word. word.now) words.now) }
 {
     if under.len() >= 16 {
         return Err(wrong_at(0, DriverWanted::Branch(BranchWanted::Few)));
     }
-    looked(config, flags, words)
+    let failed = failed_behind(thread, under, lines);
+    looked(config, flags, failed, words)
 }
 
 /// At which of its words a line names a flag, if it names one.

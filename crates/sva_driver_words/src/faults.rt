@@ -7,6 +7,7 @@ ghost use Rattle.sva_driver_words.specs.Faults.{wanted_text, where_text};
 
 use crate::nears::near;
 use crate::needs::{Need, need_words};
+use crate::written::{WrittenWanted, written_words};
 use std::alloc::AllocError;
 use sva_race_texts::{RaceWanted, count_of, put_near, put_number, put_word, word_in};
 use sva_script::{Names, Wanted};
@@ -43,6 +44,8 @@ pub enum BranchWanted {
     Few,
     /// An endpoint whose last wait above in this thread is submitted on each way to here.
     OnEachWay,
+    /// A line above in this thread that awaits waits, the last such one on each way to here.
+    AwaitOnEachWay,
     /// An `if` above that is open, in this thread.
     If,
     /// No further `else`.
@@ -88,6 +91,10 @@ pub enum DriverWanted {
     Refused,
     /// What is no finding.
     Allowed,
+    /// What becomes of ATS, page requests and bus mastering by a reset.
+    Enables,
+    /// What becomes of an invalidation that isn't answered.
+    Timeouts,
     /// A frame that the config has.
     Frame,
     /// What may be freed.
@@ -106,6 +113,8 @@ pub enum DriverWanted {
     Order,
     /// The index of a group.
     Index,
+    /// An ITag.
+    Itag,
     /// How many are older, 0 to 65535.
     Count,
     /// `r` or `w`.
@@ -114,6 +123,8 @@ pub enum DriverWanted {
     Asked,
     /// `new`, or the index of a group.
     GroupOrNew,
+    /// `on` or `off`.
+    OnOrOff,
     /// `more` or `last`.
     MoreOrLast,
     /// The code of a response.
@@ -132,6 +143,8 @@ pub enum DriverWanted {
     Lock,
     /// What a line of a branch wants, or one that names a flag.
     Branch(BranchWanted),
+    /// What a line of a definition, a call or a repeat wants.
+    Written(WrittenWanted),
     /// What an endpoint is told: a number of events, 0 to 65535, or a word that stands alone.
     Part,
     /// The events that a number counts.
@@ -199,12 +212,14 @@ fn branch_words(wanted: &BranchWanted) -> &'static str
 {
     match wanted {
         BranchWanted::Flag => "the name of a flag",
-        BranchWanted::Condition => "a flag, not, present, stopped, filed or queued",
-        BranchWanted::BehindNot => "a flag, present, stopped, filed or queued",
+        BranchWanted::Condition => "a flag, not, present, stopped, filed, queued, gone or failed",
+        BranchWanted::BehindNot => "a flag, present, stopped, filed, queued, gone or failed",
         BranchWanted::Longer => "a condition of more words, or no word behind a flag",
         BranchWanted::Few => "no more than 16 blocks within one another",
         BranchWanted::OnEachWay =>
             "an endpoint whose last wait above in this thread is submitted on each way to here",
+        BranchWanted::AwaitOnEachWay =>
+            "an await of a wait above in this thread, the last on each way to here",
         BranchWanted::If => "an if above in this thread",
         BranchWanted::NoElse => "no second else",
         BranchWanted::End => "an end below in this thread",
@@ -233,6 +248,8 @@ fn words_of(wanted: &DriverWanted) -> &'static str
         DriverWanted::Stopped => "marker, status or known",
         DriverWanted::Refused => "drain",
         DriverWanted::Allowed => "no-group",
+        DriverWanted::Enables => "kept or cleared",
+        DriverWanted::Timeouts => "off, on or stop",
         DriverWanted::Frame => "a frame of the config",
         DriverWanted::Freed => "a frame of the config, space, domain or pasid",
         DriverWanted::Pasid => "a PASID, 0 to 32",
@@ -242,21 +259,25 @@ fn words_of(wanted: &DriverWanted) -> &'static str
         DriverWanted::Page => "the number of a page",
         DriverWanted::Order => "an order, 0 to 9",
         DriverWanted::Index => "the index of a group",
+        DriverWanted::Itag => "an ITag, 0 to 31",
         DriverWanted::Count => "a number, 0 to 65535",
         DriverWanted::Access => "r or w",
         DriverWanted::Asked => "r, w or rw",
         DriverWanted::GroupOrNew => "new or the index of a group",
+        DriverWanted::OnOrOff => "on or off",
         DriverWanted::MoreOrLast => "more or last",
         DriverWanted::Code => "success, invalid or failure",
         DriverWanted::Kind => "the kind of a message",
         DriverWanted::Submit(wanted) => submit_words(wanted),
         DriverWanted::Descriptor => "range, pasid, iotlb, entry or wait",
-        DriverWanted::Awaited => "wait, stopped, queue, groups, reset or the name of a line above",
+        DriverWanted::Awaited =>
+            "wait, stopped, queue, groups, reset, idle, gone or the name of a line above",
         DriverWanted::WaitAbove =>
             "an endpoint at which a line above in this thread submits a wait",
         DriverWanted::Lock => "the name of a lock",
         DriverWanted::Branch(wanted) => branch_words(wanted),
-        DriverWanted::Part => "a number, 0 to 65535, evicts, silent, lies, awaits or pages",
+        DriverWanted::Written(wanted) => written_words(wanted),
+        DriverWanted::Part => "a number, 0 to 65535, evicts, silent, lies, awaits, leaves or pages",
         DriverWanted::Counted => "asks, uses or faults",
         DriverWanted::Permitted(_) => "an act that is permitted now",
     }

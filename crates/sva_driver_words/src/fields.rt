@@ -4,6 +4,7 @@ ghost use Rattle.std.specs.Prelude.{◌≡◌, map};
 ghost use Rattle.sva_driver_words.specs.Fields as field;
 
 use crate::faults::{DriverWanted, DriverWrong, wrong_at};
+use crate::written::WrittenWanted;
 use sva_grammar::{Cause, number_in};
 use sva_open::Kind;
 use sva_race_texts::{RaceWanted, count_of, word_at};
@@ -146,11 +147,32 @@ pub fn index_at(words: &[&[u8]], at: usize, wanted: DriverWanted) -> Result<usiz
     Ok(value as usize)
 }
 
+/// An ITag, 0 to 31.
+pub fn itag_at(words: &[&[u8]], at: usize) -> Result<usize, DriverWrong>
+    ensures { result ≡ field.itag_at at (map (λ word. word.now) words.now) }
+{
+    let value = number_at(words, at, 0, 32, DriverWanted::Itag)?;
+    Ok(value as usize)
+}
+
 /// A number of events, 0 to 65535.
 pub fn count_at(words: &[&[u8]], at: usize) -> Result<u64, DriverWrong>
     ensures { result ≡ field.count_at at (map (λ word. word.now) words.now) }
 {
     number_at(words, at, 0, 65_536, DriverWanted::Part)
+}
+
+/// How often lines are written out, 1 to 65536.
+pub fn times_at(words: &[&[u8]], at: usize) -> Result<u64, DriverWrong>
+    ensures { result ≡ field.times_at at (map (λ word. word.now) words.now) }
+{
+    number_at(
+        words,
+        at,
+        1,
+        65_537,
+        DriverWanted::Written(WrittenWanted::Times),
+    )
 }
 
 /// How many are older, 0 to 65535; none where nothing is said.
@@ -191,6 +213,19 @@ pub fn asked_at(words: &[&[u8]], at: usize) -> Result<bool, DriverWrong>
         return Ok(false);
     }
     Err(wrong_at(at, DriverWanted::Asked))
+}
+
+/// Whether it is to be on.
+pub fn on_at(words: &[&[u8]], at: usize) -> Result<bool, DriverWrong>
+    ensures { result ≡ field.on_at at (map (λ word. word.now) words.now) }
+{
+    if says(words, at, b"on") {
+        return Ok(true);
+    }
+    if says(words, at, b"off") {
+        return Ok(false);
+    }
+    Err(wrong_at(at, DriverWanted::OnOrOff))
 }
 
 /// Whether it is the last of its group.

@@ -5,6 +5,7 @@
 mod acts;
 mod awaits;
 mod branches;
+mod controls;
 mod descriptors;
 mod faults;
 mod fields;
@@ -16,13 +17,15 @@ mod others;
 mod pieces;
 mod platforms;
 mod sayings;
+mod timeouts;
+mod written;
 
 pub use branches::{flag_place, names_flag};
 pub use faults::{
     BranchWanted, DriverStop, DriverWanted, DriverWrong, SubmitWanted, judge_end, put_fault,
     wrong_at,
 };
-pub use fields::{count_at, endpoint_at, has_word, page_at, says};
+pub use fields::{count_at, endpoint_at, has_word, page_at, says, times_at};
 pub use kept::{LineRead, Under};
 pub use needs::Need;
 pub use pieces::{
@@ -31,3 +34,4 @@ pub use pieces::{
 };
 pub use platforms::{put_not_asked, put_platform};
 pub use sayings::read_saying;
+pub use written::WrittenWanted;

@@ -3,26 +3,62 @@
 ghost use Rattle.std.specs.Prelude.{◌≡◌, option_map};
 ghost use Rattle.sva_driver_words.specs.Faults.{act_words, awaited_words, before_words, behind_words, condition_words};
 ghost use Rattle.sva_driver_words.specs.Faults.{descriptor_words, freed_words, more_kind_words, near_branch};
-ghost use Rattle.sva_driver_words.specs.Faults.{near_wanted, platform_words, setting_words};
+ghost use Rattle.sva_driver_words.specs.Faults.{near_wanted, near_written, platform_words, setting_words};
 ghost use Rattle.sva_race_texts.specs.ScriptFaults.{or_else};
 ghost use Rattle.sva_script.specs.Names.{near_name};
 ghost use Rattle.sva_script.specs.Near.{near_among};
 ghost use Rattle.sva_script.specs.Reserved.{kind_words};
 
 use crate::faults::{BranchWanted, DriverWanted};
+use crate::written::WrittenWanted;
 use sva_race_texts::first_near;
 use sva_script::{Names, near_kind};
 
 /// The words that begin an act.
-const ACT_WORDS: [&[u8]; 33] = [
-    b"pte", b"entry", b"replace", b"start", b"stop", b"reset", b"submit", b"await", b"serve",
-    b"respond", b"discard", b"close", b"open", b"skip", b"free", b"freeze", b"lock", b"unlock",
-    b"mark", b"ask", b"use", b"end", b"evict", b"fault", b"finish", b"quit", b"pump", b"write",
-    b"deliver", b"forget", b"set", b"clear", b"if",
+const ACT_WORDS: [&[u8]; 39] = [
+    b"pte",
+    b"entry",
+    b"replace",
+    b"start",
+    b"stop",
+    b"reset",
+    b"submit",
+    b"await",
+    b"serve",
+    b"respond",
+    b"discard",
+    b"close",
+    b"open",
+    b"skip",
+    b"free",
+    b"freeze",
+    b"lock",
+    b"unlock",
+    b"mark",
+    b"ask",
+    b"use",
+    b"end",
+    b"evict",
+    b"fault",
+    b"finish",
+    b"quit",
+    b"pump",
+    b"write",
+    b"deliver",
+    b"forget",
+    b"set",
+    b"clear",
+    b"if",
+    b"ats",
+    b"pri",
+    b"mastering",
+    b"gone",
+    b"resume",
+    b"expire",
 ];
 
 /// The words that begin a setting.
-const SETTING_WORDS: [&[u8]; 8] = [
+const SETTING_WORDS: [&[u8]; 10] = [
     b"platform",
     b"link",
     b"waits",
@@ -31,16 +67,22 @@ const SETTING_WORDS: [&[u8]; 8] = [
     b"stopped",
     b"refuses",
     b"allow",
+    b"enables",
+    b"timeouts",
 ];
 
 /// The words that stand behind `platform`.
 const PLATFORM_WORDS: [&[u8]; 2] = [b"vt-d", b"free"];
 
 /// The words that begin another line before `race`.
-const BEFORE_WORDS: [&[u8]; 4] = [b"workers", b"device", b"race", b"else"];
+const BEFORE_WORDS: [&[u8]; 7] = [
+    b"workers", b"device", b"race", b"else", b"def", b"call", b"repeat",
+];
 
 /// The words that begin another line behind `race`.
-const BEHIND_WORDS: [&[u8]; 4] = [b"thread", b"workers", b"device", b"else"];
+const BEHIND_WORDS: [&[u8]; 7] = [
+    b"thread", b"workers", b"device", b"else", b"def", b"call", b"repeat",
+];
 
 /// The kinds of messages that scripts don't have.
 const MORE_KINDS: [&[u8]; 1] = [b"status"];
@@ -52,10 +94,14 @@ const DESCRIPTOR_WORDS: [&[u8]; 5] = [b"range", b"pasid", b"iotlb", b"entry", b"
 const FREED_WORDS: [&[u8]; 3] = [b"space", b"domain", b"pasid"];
 
 /// The words that stand behind `await`, where a name doesn't.
-const AWAITED_WORDS: [&[u8]; 5] = [b"wait", b"stopped", b"queue", b"groups", b"reset"];
+const AWAITED_WORDS: [&[u8]; 7] = [
+    b"wait", b"stopped", b"queue", b"groups", b"reset", b"idle", b"gone",
+];
 
 /// The words that stand behind `if`, where a flag doesn't.
-const CONDITION_WORDS: [&[u8]; 5] = [b"not", b"present", b"stopped", b"filed", b"queued"];
+const CONDITION_WORDS: [&[u8]; 7] = [
+    b"not", b"present", b"stopped", b"filed", b"queued", b"gone", b"failed",
+];
 
 fn near_act(word: &[u8]) -> Option<&'static [u8]>
     ensures { option_map (λ near. near.now) result ≡ near_among act_words word.now }
@@ -176,6 +222,16 @@ fn near_branch(wanted: &BranchWanted, word: &[u8]) -> Option<&'static [u8]>
     }
 }
 
+/// The definition that is near to a wrong word, where one was wanted: the names are those of definitions.
+fn near_written<'n>(wanted: &WrittenWanted, names: &'n Names, word: &[u8]) -> Option<&'n [u8]>
+    ensures { option_map (λ near. near.now) result ≡ near_written names.now word.now wanted.now }
+{
+    match wanted {
+        WrittenWanted::Defined => names.near(word),
+        _ => None,
+    }
+}
+
 /// The word that is near to a wrong one, of those that were wanted.
 pub(crate) fn near<'n>(wanted: &DriverWanted, names: &'n Names, word: &[u8]) -> Option<&'n [u8]>
     ensures { option_map (λ near. near.now) result ≡ near_wanted names.now word.now wanted.now }
@@ -190,6 +246,7 @@ pub(crate) fn near<'n>(wanted: &DriverWanted, names: &'n Names, word: &[u8]) -> 
         DriverWanted::Freed => near_freed(word),
         DriverWanted::Awaited => near_awaited(names, word),
         DriverWanted::Branch(wanted) => near_branch(wanted, word),
+        DriverWanted::Written(wanted) => near_written(wanted, names, word),
         _ => None,
     }
 }

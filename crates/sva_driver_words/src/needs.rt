@@ -28,6 +28,15 @@ pub enum Need {
     Answered,
     /// To await resets: that each one is done.
     ResetsDone,
+    /// To await that an endpoint is idle: no translation request that is out, and no use that runs.
+    Quiet,
+    /// To await that an endpoint is gone: that it is, and that nothing of it is on its way up.
+    Gone,
+    /// To remove an endpoint: that it is there.
+    There,
+    /// That an invalidation runs out of time: that it may, that it is out and no completion of it is on its way, and that
+    /// its unit is open, hasn't stopped and can take nothing more.
+    Unanswered,
     /// To write a page request into the queue: one that the unit has received.
     Received,
     /// To file a page request: one in the queue.
@@ -44,9 +53,9 @@ pub enum Need {
     KeptEntry,
     /// To drop a translation: that the unit keeps it.
     KeptTranslation,
-    /// To ask: the PASID on.
+    /// To ask: the PASID, ATS and bus mastering on.
     On,
-    /// To use: the PASID on, and a held translation.
+    /// To use: the same, and a held translation.
     Usable,
     /// To evict: a held translation.
     Held,
@@ -56,9 +65,9 @@ pub enum Need {
     Covered,
     /// To quit a PASID: a stop that has come, and nothing of the PASID that has to end.
     Idle,
-    /// To begin a group: the PASID on, and page requests enabled.
+    /// To begin a group: the PASID and page requests on, and no Response Failure since.
     Enabled,
-    /// To go on with a group: that it is unfinished, and page requests enabled.
+    /// To go on with a group: that it is unfinished, and no Response Failure since page requests came on.
     Unfinished,
 }
 
@@ -78,6 +87,11 @@ pub(crate) fn need_words(need: Need) -> &'static str
         Need::NoneQueued => ": await needs no page request of the PASID in the queue",
         Need::Answered => ": await needs each whole group answered",
         Need::ResetsDone => ": await needs each reset done",
+        Need::Quiet => ": await needs no translation request out and no use that runs",
+        Need::Gone => ": await needs the endpoint gone, and nothing of it on its way up",
+        Need::There => ": gone needs an endpoint that is there",
+        Need::Unanswered =>
+            ": expire needs timeouts, an open unit that can take no more, and that ITag out with no completion coming",
         Need::Received => ": write needs a page request that the unit has received",
         Need::Queued => ": serve needs a page request in the queue",
         Need::FreeLock => ": lock needs a free lock",
@@ -87,17 +101,18 @@ pub(crate) fn need_words(need: Need) -> &'static str
         Need::Head => ": pump needs an open unit, and a descriptor at the head that may go",
         Need::KeptEntry => ": forget needs the entry kept by the unit",
         Need::KeptTranslation => ": forget needs the translation kept by the unit",
-        Need::On => ": ask needs the PASID on at the endpoint",
+        Need::On => ": ask needs the PASID, ATS and bus mastering on at the endpoint",
         Need::Usable =>
-            ": use needs the PASID on at the endpoint, and a held translation of the page",
+            ": use needs the PASID, ATS and bus mastering on at the endpoint, and a held translation of the page",
         Need::Held => ": evict needs a held translation of the page",
         Need::Running => ": end needs a use that runs",
         Need::Covered =>
             ": finish needs an invalidation that has come, with no older use of what it covers",
         Need::Idle =>
             ": quit needs a stop that has come, and no group, request or use of the PASID to end",
-        Need::Enabled => ": fault needs the PASID on at the endpoint, and page requests enabled",
+        Need::Enabled =>
+            ": fault needs the PASID and page requests on at the endpoint, and no Response Failure since",
         Need::Unfinished =>
-            ": fault needs that group of the PASID unfinished, and page requests enabled",
+            ": fault needs that group of the PASID unfinished, and no Response Failure since page requests came on",
     }
 }

@@ -4,7 +4,7 @@ ghost use Rattle.std.specs.Prelude.{◌≡◌, ◌++◌, ◌||◌, OnOk};
 ghost use Rattle.sva_driver_words.specs.Platforms as platforms;
 
 use std::alloc::AllocError;
-use sva_open::{Link, Settings, Stopped};
+use sva_open::{Link, Settings, Stopped, Timeouts};
 
 fn link_words(link: Link) -> &'static str
     ensures { result.now ≡ platforms.link_words link }
@@ -32,6 +32,17 @@ fn stopped_words(stopped: Stopped) -> &'static str
     }
 }
 
+/// What becomes of an invalidation that isn't answered, where that is said.
+fn timeouts_words(timeouts: Timeouts) -> &'static str
+    ensures { result.now ≡ platforms.timeouts_words timeouts }
+{
+    match timeouts {
+        Timeouts::Off => "",
+        Timeouts::On => ", timeouts on",
+        Timeouts::Stop => ", timeouts stop",
+    }
+}
+
 /// Appends each setting of a pair, also where it is the one that holds where nothing is said.
 fn put_pairs(out: &mut Vec<u8>, settings: &Settings) -> Result<(), AllocError>
     ensures { OnOk result (out.new.items ≡ out.old.items ++ platforms.pairs_text settings.now) }
@@ -47,11 +58,14 @@ fn put_pairs(out: &mut Vec<u8>, settings: &Settings) -> Result<(), AllocError>
     Ok(())
 }
 
-/// Appends what is refused and what is allowed, where something is, and ends the line:
-/// `, refuses drain, allow no-group`.
+/// Appends what is cleared, what runs out of time, what is refused and what is allowed, where something is, and ends
+/// the line: `, enables cleared, timeouts on, refuses drain, allow no-group`.
 fn put_unpaired(out: &mut Vec<u8>, settings: &Settings) -> Result<(), AllocError>
     ensures { OnOk result (out.new.items ≡ out.old.items ++ platforms.unpaired_text settings.now) }
 {
+    let cleared = one_of(settings.clears_controls, ", enables cleared", "");
+    out.extend_from_slice(cleared.as_bytes())?;
+    out.extend_from_slice(timeouts_words(settings.timeouts).as_bytes())?;
     let refused = one_of(settings.refuses_drain, ", refuses drain", "");
     out.extend_from_slice(refused.as_bytes())?;
     let allowed = one_of(settings.allows_no_group, ", allow no-group", "");
@@ -61,8 +75,9 @@ fn put_unpaired(out: &mut Vec<u8>, settings: &Settings) -> Result<(), AllocError
 }
 
 /// Appends a line with each setting of a pair, also where it is the one that holds where nothing is said:
-/// `with link free, waits fence, drain empty, caches off, stopped marker`; and behind them what is refused and what is
-/// allowed, where something is: `, refuses drain, allow no-group`.
+/// `with link free, waits fence, drain empty, caches off, stopped marker`; and behind them what is cleared, what runs
+/// out of time, what is refused and what is allowed, where something is: `, enables cleared, timeouts on, refuses
+/// drain, allow no-group`.
 pub fn put_platform(out: &mut Vec<u8>, settings: &Settings) -> Result<(), AllocError>
     ensures { OnOk result (out.new.items ≡ out.old.items ++ platforms.platform_text settings.now) }
 {

@@ -12,11 +12,13 @@ use crate::acts::{
 };
 use crate::awaits::await_line;
 use crate::branches::{look_line, set_line, sets_flag};
+use crate::controls::{turn_line, turns};
 use crate::descriptors::submit_line;
 use crate::faults::{DriverStop, DriverWrong};
 use crate::kept::{LineRead, Under};
 use crate::locks::lock_line;
 use crate::others::{deliver_line, end_line, fault_line, finish_line, forget_line};
+use crate::timeouts::expire_line;
 use std::alloc::Global;
 use sva_open::Saying;
 use sva_script::is;
@@ -64,21 +66,23 @@ fn read_plain(
     if is(word, b"freeze") {
         return freeze_line(config, words);
     }
-    read_other(config, locks, flags, under, words, word)
+    read_other(config, lines, locks, flags, under, thread, words, word)
 }
 
-/// What a line says of link, units and endpoints, of an entry that is replaced, of a flag or a lock, of what is looked
-/// at, or of nothing.
+/// What a line says of link, units and endpoints, of an entry that is replaced, or else.
 fn read_other(
     config: &Config,
+    lines: &[LineRead],
     locks: &[Vec<u8>],
     flags: &[Vec<u8>],
     under: &[Under],
+    thread: &[u8],
     words: &[&[u8]],
     word: &[u8],
 ) -> Result<Saying, DriverWrong>
-    ensures { read_seen result ≡ says.other_by config.now (map (λ lock. lock.items) locks.now)
-        (map (λ flag. flag.items) flags.now) under.now (map (λ word. word.now) words.now) word.now }
+    ensures { read_seen result ≡ says.other_by config.now (map line_seen lines.now)
+        (map (λ lock. lock.items) locks.now) (map (λ flag. flag.items) flags.now) under.now thread.now
+        (map (λ word. word.now) words.now) word.now }
 {
     if is(word, b"fault") {
         return fault_line(config, words);
@@ -98,17 +102,41 @@ fn read_other(
     if is(word, b"replace") {
         return replace_line(config, words);
     }
-    if is(word, b"mark") {
-        return mark_line(words);
-    }
     if is(word, b"discard") {
         return discard_line(config, words);
+    }
+    if is(word, b"expire") {
+        return expire_line(config, words);
+    }
+    if turns(word) {
+        return turn_line(config, words);
+    }
+    read_own(config, lines, locks, flags, under, thread, words, word)
+}
+
+/// What a line says of a flag or a lock, of what is looked at, or of nothing.
+fn read_own(
+    config: &Config,
+    lines: &[LineRead],
+    locks: &[Vec<u8>],
+    flags: &[Vec<u8>],
+    under: &[Under],
+    thread: &[u8],
+    words: &[&[u8]],
+    word: &[u8],
+) -> Result<Saying, DriverWrong>
+    ensures { read_seen result ≡ says.own_by config.now (map line_seen lines.now)
+        (map (λ lock. lock.items) locks.now) (map (λ flag. flag.items) flags.now) under.now thread.now
+        (map (λ word. word.now) words.now) word.now }
+{
+    if is(word, b"mark") {
+        return mark_line(words);
     }
     if sets_flag(word) {
         return set_line(flags, words);
     }
     if is(word, b"if") {
-        return look_line(config, flags, under, words);
+        return look_line(config, lines, flags, under, thread, words);
     }
     lock_line(locks, words)
 }

@@ -73,11 +73,11 @@ abbrev pub ends_its_group : Part → Sent → (index : ℕ) → Bool
 ends_its_group part one index = is_its_end one.number (slice_get part.groups index)
 
 abbrev pub ends_none : Settings → Part → (index : ℕ) → Bool
-ends_none settings part index = settings.allows_no_group && is_none (group_at (slice_get part.groups index))
+ends_none settings part index = (settings.allows_no_group || part.is_gone) && is_none (group_at (slice_get part.groups index))
 
 abbrev pub is_right : Settings → List Tenure → Part → Sent → Message → Bool
-is_right settings frames part one (message.Start pasid) = is_present part pasid one.owner
-is_right settings frames part one (message.Stop pasid) = is_present part pasid one.owner
+is_right settings frames part one (message.Start pasid) = part.is_gone || is_present part pasid one.owner
+is_right settings frames part one (message.Stop pasid) = part.is_gone || is_present part pasid one.owner
 is_right settings frames part one (message.Completion tag page target) = is_its_own frames part one page target (slice_get part.requests tag)
 is_right settings frames part one (message.Response index fails filed) = (filed && ends_its_group part one index) || ends_none settings part index
 is_right settings frames part one (message.PageRequest request) = not part.is_open || is_present part request.pasid one.owner

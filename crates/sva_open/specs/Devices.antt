@@ -18,26 +18,33 @@ use Rattle.sva_open.specs.declared.works.Request.{Request}
 use Rattle.sva_open.specs.declared.works.Group.{Group}
 use Rattle.sva_open.specs.declared.works.Work.{Work}
 use Rattle.sva_open.specs.declared.works.Work.TheVariants.{Use, Taken}
+use Rattle.sva_open.specs.declared.acts.Control.{Control}
+use Rattle.sva_open.specs.declared.acts.Control.TheVariants.{Ats, PageRequests, Mastering}
+use Rattle.sva_open.specs.declared.settings.Settings.{Settings}
 use Rattle.sva_open.specs.declared.settings.Stopped.{Stopped}
 use Rattle.sva_open.specs.declared.settings.Stopped.TheVariants.{Marker, Status, Known}
 use Rattle.sva_open.specs.World.{Part, covers, if_so, is_of, is_stopping, is_used, lowest_free, put, sent, with_row, with_translation, without_covered}
 
 -- ---- to ask, to use, to let go
 
+-- does it send memory requests that need a translation?
+abbrev pub may_access : Part → Row → Bool
+may_access part row = is_used row.state && (part.has_ats && part.is_master)
+
 -- a translation request goes out under the lowest free tag, for the owner whose start or stop of the PASID came last
 abbrev pub ask : Part → (pasid page : ℕ) → Option Row → Option Part
 ask part pasid page None = None
 ask part pasid page (Some row) =
-    if_so (is_used row.state)
+    if_so (may_access part row)
     (sent
     (record part { requests = put part.requests (record { pasid = pasid; page = page; owner = row.user; is_doomed = false }) })
     row.user part.time (message.Request (lowest_free part.requests) pasid page))
 
--- a use needs a PASID that is used, and a held translation of the page
+-- a use needs the same, and a held translation of the page
 abbrev pub begin_use : Part → Option Row → Option Translation → Option Part
 begin_use part None held = None
 begin_use part (Some row) None = None
-begin_use part (Some row) (Some translation) = if_so (is_used row.state) (record part { works = part.works ++ Use translation ∷ [] })
+begin_use part (Some row) (Some translation) = if_so (may_access part row) (record part { works = part.works ++ Use translation ∷ [] })
 
 abbrev pub use_of : Part → (pasid page : ℕ) → Option Part
 use_of part pasid page = begin_use part (slice_get part.rows pasid) (find (is_of pasid page) part.held)
@@ -92,16 +99,20 @@ abbrev pub fresh_number : Part → ℕ
 fresh_number part = number_above part (lowest_free part.groups)
 
 -- the first page request of a group goes out under the lowest free index
+abbrev pub may_fault : Part → Row → Bool
+may_fault part row = is_used row.state && (part.is_enabled && part.has_requests)
+
 abbrev pub fault : Part → (pasid page : ℕ) → (write last : Bool) → (number : ℕ) → Option Row → Option Part
 fault part pasid page write last number None = None
 fault part pasid page write last number (Some row) =
-    if_so (is_used row.state && part.is_enabled)
+    if_so (may_fault part row)
     (sent
     (record part { groups = put part.groups (record { pasid = pasid; owner = row.user; number = number; is_finished = last }) })
     row.user number
     (message.PageRequest (record { pasid = pasid; index = lowest_free part.groups; page = page; write = write; last = last })))
 
--- a group that isn't finished goes on
+-- a group that isn't finished goes on, also where the page request interface was turned off since: that issues no new page requests, and
+-- has those that are queued for transmission
 abbrev pub more : Part → (index page : ℕ) → (write last : Bool) → Option (Option Group) → Option Part
 more part index page write last None = None
 more part index page write last (Some None) = None
@@ -189,16 +200,42 @@ invalidate part itag scope =
       works = part.works ++ Taken itag scope ∷ [];
     }
 
+-- where ATS is off it is dropped, and answered never
+abbrev pub invalidated : Part → (itag : ℕ) → Scope → Part
+invalidated part itag scope = if part.has_ats then invalidate part itag scope else part
+
 -- a response ends its group; a Response Failure disables the page request interface (section 10.4.2)
 abbrev pub end_group : Part → (index : ℕ) → (fails : Bool) → Part
 end_group part index fails = record part { groups = slice_set part.groups index None; is_enabled = part.is_enabled && not fails }
 
--- a reset leaves nothing of what the endpoint had, and is answered (section 6.6.2)
+-- ---- to be turned on and off, to be reset, and to go
+
+-- Once ATS is off nothing is held, and what is asked for won't be (section 10.3.7, "Implicit Invalidation Events"); a use that began
+-- runs on.
+abbrev pub over : Option Request → Option Request
+over None = None
+over (Some request) = Some (record request { is_doomed = true })
+
+abbrev pub turned_ats : Part → (on : Bool) → Part
+turned_ats part true = record part { has_ats = true }
+turned_ats part false = record part { has_ats = false; held = []; requests = map over part.requests }
+
+-- That a response has failed is forgotten where the page request interface is turned on from off (section 10.5.2.2).
+abbrev pub turned_requests : Part → (on : Bool) → Part
+turned_requests part true = record part { has_requests = true; is_enabled = part.is_enabled || not part.has_requests }
+turned_requests part false = record part { has_requests = false }
+
+abbrev pub turned : Part → Control → (on : Bool) → Part
+turned part Ats on = turned_ats part on
+turned part PageRequests on = turned_requests part on
+turned part Mastering on = record part { is_master = on }
+
 abbrev pub switched_off : Row → Row
 switched_off row = record row { state = Off }
 
-abbrev pub reset_taken : Part → Part
-reset_taken part =
+-- a reset leaves nothing of what the endpoint had, and is answered (section 6.6.2)
+abbrev pub reset_taken : Settings → Part → Part
+reset_taken settings part =
     sent
     (record part {
       rows = map switched_off part.rows;
@@ -207,6 +244,15 @@ reset_taken part =
       works = [];
       groups = [];
       is_enabled = true;
+      has_ats = not settings.clears_controls;
+      has_requests = not settings.clears_controls;
+      is_master = not settings.clears_controls;
       time = suc part.time;
     })
     0 (suc part.time) message.ResetDone
+
+-- Nor does it have anything once it is removed; what it has sent may still come.
+abbrev pub leave : Part → Option Part
+leave part =
+    if_so (not part.is_gone)
+    (record part { rows = map switched_off part.rows; requests = []; held = []; works = []; groups = []; is_gone = true })

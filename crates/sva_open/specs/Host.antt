@@ -14,6 +14,8 @@ use Rattle.sva_open.specs.declared.descriptors.Arrived.{Arrived}
 use Rattle.sva_open.specs.declared.descriptors.Filed.{Filed}
 use Rattle.sva_open.specs.declared.descriptors.Received.{Received}
 use Rattle.sva_open.specs.World.{Part, if_so, sent, with_row}
+use Rattle.sva_open.specs.Finding.{is_use}
+use Rattle.sva_open.specs.Order.{goes_up}
 use Rattle.sva_open.specs.Units.{is_drain, is_received, is_wait, is_waiting, shifted}
 
 -- ---- owners and entries
@@ -86,7 +88,8 @@ close part =
     (record part { is_open = false; received = filter is_drain_of_any part.received; arrived = []; filed = [] })
 
 abbrev pub reopen : Part → Option Part
-reopen part = if_so (not part.is_open) (record part { is_open = true; queue = []; issued = []; received = [] })
+reopen part =
+    if_so (not part.is_open) (record part { is_open = true; queue = []; issued = []; is_stalled = false; received = [] })
 
 -- The head is taken out of the queue, whatever it is: what it asked for is never done, and a wait is awaited no more. So a driver
 -- gets past a descriptor that the unit has refused (Intel VT-d, "Invalidation Queue Error").
@@ -94,12 +97,20 @@ abbrev pub skip : Part → Option Descriptor → Option Part
 skip part None = None
 skip part (Some head) = Some (shifted part)
 
+-- a unit that has stopped at a time-out goes on
+abbrev pub resume : Part → Part
+resume part = record part { is_stalled = false }
+
 -- ---- what the host sees
 
 -- a wait isn't done as long as it stands in the queue, behind an invalidation that has left it, or behind what it drains
 abbrev pub is_awaited : Part → (name : ℕ) → Bool
 is_awaited part name =
     list_any (is_wait name) part.queue || (list_any (is_waiting name) part.issued || list_any (is_drain name) part.received)
+
+-- was it aborted?
+abbrev pub is_aborted : Part → (name : ℕ) → Bool
+is_aborted part name = list_any (λ own. own == name) part.aborted
 
 abbrev pub await_wait : Part → (name : ℕ) → Option Part
 await_wait part name = if_so (not (is_awaited part name)) part
@@ -143,6 +154,20 @@ is_of_reset one = is_reset one.message
 
 abbrev pub await_resets : Part → Option Part
 await_resets part = if_so (not (list_any is_of_reset part.flight)) part
+
+-- no translation request is out, and no use runs
+abbrev pub is_idle : Part → Bool
+is_idle part = not (list_any is_some part.requests) && not (list_any is_use part.works)
+
+abbrev pub await_idle : Part → Option Part
+await_idle part = if_so (is_idle part) part
+
+-- the endpoint is gone, and nothing that it has sent is on its way up
+abbrev pub is_going_up : Sent → Bool
+is_going_up one = goes_up one.message
+
+abbrev pub await_gone : Part → Option Part
+await_gone part = if_so (part.is_gone && not (list_any is_going_up part.flight)) part
 
 -- ---- page requests
 

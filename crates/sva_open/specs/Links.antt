@@ -1,5 +1,5 @@
 -- What comes of a message that is delivered.
-use Rattle.std.specs.Prelude.{ℕ, if◌then◌else◌, Bool, List, [], ◌∷◌, ◌++◌, remove, slice_get, Option, Some, None}
+use Rattle.std.specs.Prelude.{ℕ, ◌&&◌, not, if◌then◌else◌, Bool, List, [], ◌∷◌, ◌++◌, remove, slice_get, Option, Some, None}
 use Rattle.sva_open.specs.declared.frames.Mapping.{Mapping}
 use Rattle.sva_open.specs.declared.rows.State.{State}
 use Rattle.sva_open.specs.declared.rows.State.TheVariants.{On}
@@ -12,8 +12,8 @@ use Rattle.sva_open.specs.declared.descriptors.Arrived.{Arrived}
 use Rattle.sva_open.specs.declared.descriptors.Received.TheVariants.{Request as Asked}
 use Rattle.sva_open.specs.declared.settings.Settings.{Settings}
 use Rattle.sva_open.specs.World.{Part, if_so, stopped_by, with_row}
-use Rattle.sva_open.specs.Order.{may_deliver}
-use Rattle.sva_open.specs.Devices.{complete, end_group, invalidate, reset_taken}
+use Rattle.sva_open.specs.Order.{goes_up, may_deliver}
+use Rattle.sva_open.specs.Devices.{complete, end_group, invalidated, reset_taken}
 use Rattle.sva_open.specs.Units.{answer, answered_stop, complete_itag}
 
 -- an endpoint is told of a PASID, by an owner of it
@@ -45,9 +45,9 @@ if_open part after = if part.is_open then after else part
 abbrev pub received : Settings → List Mapping → Part → Sent → Message → Part
 received settings mappings part one (message.Start pasid) = told part pasid On one.owner (slice_get part.rows pasid)
 received settings mappings part one (message.Stop pasid) = told_to_stop part pasid one.owner (slice_get part.rows pasid)
-received settings mappings part one message.Reset = reset_taken part
+received settings mappings part one message.Reset = reset_taken settings part
 received settings mappings part one (message.Completion tag page target) = complete part tag target (slice_get part.requests tag)
-received settings mappings part one (message.Invalidate itag scope) = invalidate part itag scope
+received settings mappings part one (message.Invalidate itag scope) = invalidated part itag scope
 received settings mappings part one (message.Response index fails filed) = end_group part index fails
 received settings mappings part one (message.Request tag pasid page) = if_open part (answer settings mappings part one tag pasid page)
 received settings mappings part one (message.Invalidated itag) = if_open part (complete_itag part itag)
@@ -56,10 +56,17 @@ received settings mappings part one (message.Marker pasid) = if_open part (answe
 received settings mappings part one (message.Status pasid) = answered_stop part pasid one.owner (slice_get part.rows pasid)
 received settings mappings part one message.ResetDone = part
 
+-- what goes down to an endpoint that is gone is dropped
+abbrev pub is_lost : Part → Message → Bool
+is_lost part its = part.is_gone && not (goes_up its)
+
+abbrev pub taken_in : Settings → List Mapping → Part → Sent → Part
+taken_in settings mappings part one = if is_lost part one.message then part else received settings mappings part one one.message
+
 abbrev pub without_sent : Part → (place : ℕ) → Part
 without_sent part place = record part { flight = remove part.flight place }
 
 abbrev pub deliver : Settings → List Mapping → Part → (place : ℕ) → Option Sent → Option Part
 deliver settings mappings part place None = None
 deliver settings mappings part place (Some one) =
-    if_so (may_deliver settings.link part.flight place one.message) (received settings mappings (without_sent part place) one one.message)
+    if_so (may_deliver settings.link part.flight place one.message) (taken_in settings mappings (without_sent part place) one)

@@ -1,7 +1,7 @@
 -- When a moment is safe: each translation that an endpoint may still use leads to a frame that nobody else has been given since;
 -- whatever is there of a PASID is of its present owner; no message would be taken for what it isn't of; no entry leads to a table
 -- whose memory was given away; and no worker has a group to serve by what is gone.
-use Rattle.std.specs.Prelude.{◌≡◌, ◌⊎◌, ℕ, ⊤, Bool, true, false, List, Option, Some, None, slice_get, Contains, IfSome}
+use Rattle.std.specs.Prelude.{◌≡◌, ◌⊎◌, ◌||◌, ℕ, ⊤, Bool, true, false, List, Option, Some, None, slice_get, Contains, IfSome}
 use Rattle.sva_open.specs.declared.frames.Tenure.{Tenure}
 use Rattle.sva_open.specs.declared.frames.Target.{Target}
 use Rattle.sva_open.specs.declared.frames.Translation.{Translation}
@@ -54,15 +54,16 @@ pub record EndsItsGroup (part : Part) (one : Sent) (index : ℕ) : Type 0 where
   pub number : one.number ≡ group.number
   pub finished : group.is_finished ≡ true
 
--- or, where the platform allows that, the endpoint has no group under that index, and the response ends none
+-- or, where the platform allows that, the endpoint has no group under that index, and the response ends none; so it is of one that is
+-- gone
 pub record EndsNone (settings : Settings) (part : Part) (index : ℕ) : Type 0 where
-  pub allowed : settings.allows_no_group ≡ true
+  pub allowed : (settings.allows_no_group || part.is_gone) ≡ true
   pub none : group_at (slice_get part.groups index) ≡ None
 
--- what is asked of a message in flight. What flies to a closed unit is dropped there.
+-- what is asked of a message in flight. What flies to a closed unit, or to an endpoint that is gone, is dropped there.
 abbrev pub IsRight : Settings → List Tenure → Part → Sent → Message → Type 0
-IsRight settings frames part one (message.Start pasid) = IsPresent part pasid one.owner
-IsRight settings frames part one (message.Stop pasid) = IsPresent part pasid one.owner
+IsRight settings frames part one (message.Start pasid) = part.is_gone ≡ false → IsPresent part pasid one.owner
+IsRight settings frames part one (message.Stop pasid) = part.is_gone ≡ false → IsPresent part pasid one.owner
 IsRight settings frames part one (message.Completion tag page target) =
     (request : Request) → slice_get part.requests tag ≡ Some (Some request) → IsItsOwn frames part one page target request
 IsRight settings frames part one (message.Response index fails filed) = ((filed ≡ true) × EndsItsGroup part one index) ⊎ EndsNone settings part index

@@ -1,7 +1,7 @@
 -- What a unit does by itself, and what it makes of what comes to it.
 use Rattle.std.specs.Prelude.{ℕ, zero, suc, ◌-◌, ◌==◌, ◌&&◌, ◌||◌, not, if◌then◌else◌, Bool, true, false, List, [], ◌∷◌, ◌++◌, filter, find, drop, length}
-use Rattle.std.specs.Prelude.{remove, position, slice_get, slice_set, Option, Some, None, option_map, is_some}
-use Rattle.std.specs.List.{list_any}
+use Rattle.std.specs.Prelude.{remove, position, slice_get, slice_set, Option, Some, None, option_map, is_none, is_some}
+use Rattle.std.specs.List.{flat_map, list_any}
 use Rattle.sva_step.specs.Limits
 use Rattle.sva_open.specs.declared.frames.Target.{Target}
 use Rattle.sva_open.specs.declared.frames.Mapping.{Mapping}
@@ -10,6 +10,7 @@ use Rattle.sva_open.specs.declared.scopes.Scope.{Scope}
 use Rattle.sva_open.specs.declared.rows.Entry.{Entry}
 use Rattle.sva_open.specs.declared.rows.KeptEntry.{KeptEntry}
 use Rattle.sva_open.specs.declared.rows.Row.{Row}
+use Rattle.sva_open.specs.declared.messages.Message.{Message}
 use Rattle.sva_open.specs.declared.messages.Message.TheVariants as message
 use Rattle.sva_open.specs.declared.messages.Sent.{Sent}
 use Rattle.sva_open.specs.declared.descriptors.Descriptor.{Descriptor}
@@ -18,7 +19,11 @@ use Rattle.sva_open.specs.declared.descriptors.Issued.{Issued}
 use Rattle.sva_open.specs.declared.descriptors.Issued.TheVariants.{Sent as Issue, Waiting}
 use Rattle.sva_open.specs.declared.descriptors.Received.{Received}
 use Rattle.sva_open.specs.declared.descriptors.Received.TheVariants.{Request as Asked, Drain}
+use Rattle.sva_open.specs.declared.works.Work.{Work}
+use Rattle.sva_open.specs.declared.works.Work.TheVariants.{Use, Taken}
 use Rattle.sva_open.specs.declared.settings.Settings.{Settings}
+use Rattle.sva_open.specs.declared.settings.Timeouts.{Timeouts}
+use Rattle.sva_open.specs.declared.settings.Timeouts.TheVariants.{Off, On, Stop}
 use Rattle.sva_open.specs.World.{Part, if_so, is_of, is_page, or_else, sent, with_translation, without_covered}
 
 -- ---- the invalidation queue
@@ -130,9 +135,101 @@ pump_head settings part (Some (descriptor.Translations scope)) = Some (record (s
 pump_head settings part (Some (descriptor.Entry pasid)) = Some (record (shifted part) { kept_entries = without_entry pasid part.kept_entries })
 pump_head settings part (Some (descriptor.Wait name drain fence)) = if_so (may_pass settings part drain fence) (pass part name drain)
 
--- a unit that is closed takes nothing
+-- a unit that is closed takes nothing, nor does one that has stopped at a time-out
 abbrev pub pump : Settings → Part → Option Part
-pump settings part = if part.is_open then pump_head settings part (slice_get part.queue 0) else None
+pump settings part = if part.is_open && not part.is_stalled then pump_head settings part (slice_get part.queue 0) else None
+
+-- ---- an invalidation that isn't answered in time
+
+-- is it of an ITag: the invalidation on its way down, or its completion on its way up?
+abbrev pub is_of_itag : (itag : ℕ) → Message → Bool
+is_of_itag itag (message.Invalidate own scope) = own == itag
+is_of_itag itag (message.Invalidated own) = own == itag
+is_of_itag itag _ = false
+
+abbrev pub is_sent_of : (itag : ℕ) → Sent → Bool
+is_sent_of itag one = is_of_itag itag one.message
+
+abbrev pub completes : (itag : ℕ) → Message → Bool
+completes itag (message.Invalidated own) = own == itag
+completes itag _ = false
+
+abbrev pub is_completion_of : (itag : ℕ) → Sent → Bool
+is_completion_of itag one = completes itag one.message
+
+abbrev pub is_taken_of : (itag : ℕ) → Work → Bool
+is_taken_of itag (Use translation) = false
+is_taken_of itag (Taken own scope) = own == itag
+
+-- Does nobody answer it? It was lost, or its endpoint is gone. An endpoint that may be silent may leave unanswered what has come to it,
+-- or comes; a completion that is on its way is in time.
+abbrev pub is_unanswered : Part → (itag : ℕ) → (silent : Bool) → Bool
+is_unanswered part itag true = not (list_any (is_completion_of itag) part.flight)
+is_unanswered part itag false = not (list_any (is_sent_of itag) part.flight || list_any (is_taken_of itag) part.works)
+
+abbrev pub is_timed : Timeouts → Bool
+is_timed Off = false
+is_timed On = true
+is_timed Stop = true
+
+abbrev pub stalls : Timeouts → Bool
+stalls Off = false
+stalls On = false
+stalls Stop = true
+
+-- time is long: before it runs out the unit has taken all that it can
+abbrev pub may_expire : Settings → Part → (itag : ℕ) → (silent : Bool) → Bool
+may_expire settings part itag silent =
+    (is_timed settings.timeouts && (part.is_open && not part.is_stalled))
+    && (is_none (pump settings part) && (list_any (has_itag itag) part.issued && is_unanswered part itag silent))
+
+-- the waits that have left the queue and aren't done
+abbrev pub wait_in : Issued → List ℕ
+wait_in (Issue itag) = []
+wait_in (Waiting name drain) = name ∷ []
+
+abbrev pub waits_in : List Issued → List ℕ
+waits_in issued = flat_map wait_in issued
+
+-- is a fence at the head, which awaits what is out?
+abbrev pub bars : Settings → Part → Option Descriptor → Bool
+bars settings part (Some (descriptor.Wait name drain fence)) = (settings.all_fence || fence) && not (length part.issued == 0)
+bars settings part _ = false
+
+abbrev pub name_of : Option Descriptor → List ℕ
+name_of (Some (descriptor.Wait name drain fence)) = name ∷ []
+name_of _ = []
+
+abbrev pub head_aborted : Settings → Part → Option Descriptor → List ℕ
+head_aborted settings part head = if bars settings part head then name_of head else []
+
+abbrev pub queue_left : Settings → Part → Option Descriptor → List Descriptor
+queue_left settings part head = if bars settings part head then remove part.queue 0 else part.queue
+
+abbrev pub isnt_sent_of : (itag : ℕ) → Sent → Bool
+isnt_sent_of itag one = not (is_sent_of itag one)
+
+abbrev pub isnt_taken_of : (itag : ℕ) → Work → Bool
+isnt_taken_of itag work = not (is_taken_of itag work)
+
+abbrev pub is_other_sent : (itag : ℕ) → Issued → Bool
+is_other_sent itag one = is_sent one && not (has_itag itag one)
+
+-- Its ITag is free, and nothing of it is left. The waits that the unit has taken and that aren't done are aborted, whoever submitted
+-- them, and so is a fence at the head that awaits what is out (Intel VT-d, "Fault Status Register", ITE).
+abbrev pub expired : Settings → Part → (itag : ℕ) → Part
+expired settings part itag =
+    record part {
+      works = filter (isnt_taken_of itag) part.works;
+      flight = filter (isnt_sent_of itag) part.flight;
+      queue = queue_left settings part (slice_get part.queue 0);
+      issued = filter (is_other_sent itag) part.issued;
+      aborted = part.aborted ++ (waits_in part.issued ++ head_aborted settings part (slice_get part.queue 0));
+      is_stalled = stalls settings.timeouts;
+    }
+
+abbrev pub expire : Settings → Part → (itag : ℕ) → (silent : Bool) → Option Part
+expire settings part itag silent = if_so (may_expire settings part itag silent) (expired settings part itag)
 
 -- ---- what it drops by itself
 

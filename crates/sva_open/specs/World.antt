@@ -37,8 +37,15 @@ pub record Part : Type 0 where
   pub works : List Work
   -- the groups of page requests that aren't answered, by index
   pub groups : List (Option Group)
-  -- may the endpoint send page requests?
+  -- may the endpoint send page requests? No more once a response has failed, until its page request interface is turned on again
   pub is_enabled : Bool
+  -- does it ask for translations and hold them; does it begin groups of page requests; and does it send memory requests? A host turns
+  -- these on and off
+  pub has_ats : Bool
+  pub has_requests : Bool
+  pub is_master : Bool
+  -- was it removed?
+  pub is_gone : Bool
   -- may it complete an invalidation while a use runs that this has to await?
   pub lies : Bool
   -- does it await the responses to its page requests before it says that it has stopped?
@@ -52,6 +59,9 @@ pub record Part : Type 0 where
   -- the invalidation queue, and what has left it and isn't done
   pub queue : List Descriptor
   pub issued : List Issued
+  -- the names of the waits that were aborted; and has it stopped at a time-out?
+  pub aborted : List ℕ
+  pub is_stalled : Bool
   -- what the unit keeps
   pub kept_entries : List KeptEntry
   pub kept : List Translation
@@ -190,6 +200,10 @@ part_opened pasids conduct =
       works = [];
       groups = [];
       is_enabled = true;
+      has_ats = true;
+      has_requests = true;
+      is_master = true;
+      is_gone = false;
       lies = conduct.lies;
       awaits = conduct.awaits;
       time = 0;
@@ -197,6 +211,8 @@ part_opened pasids conduct =
       is_open = true;
       queue = [];
       issued = [];
+      aborted = [];
+      is_stalled = false;
       kept_entries = [];
       kept = [];
       received = [];

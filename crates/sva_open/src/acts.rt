@@ -2,6 +2,18 @@
 
 use crate::descriptors::Descriptor;
 
+/// What a configuration write turns on or off at an endpoint.
+#[derive(Clone, Copy, PartialEq, Eq)]
+pub enum Control {
+    /// ATS: whether it asks for translations and holds them (PCI Express Base 5.0, section 10.5.1.3, "Enable").
+    Ats,
+    /// Its page request interface: whether it begins groups of page requests (section 10.5.2.2, "Enable").
+    PageRequests,
+    /// Bus mastering: whether it sends memory requests, of which translation requests are some (section 7.5.1.1.3,
+    /// "Bus Master Enable").
+    Mastering,
+}
+
 /// An act at one endpoint, its unit and its link.
 #[derive(Drop)]
 pub enum LocalAct {
@@ -47,6 +59,9 @@ pub enum LocalAct {
     Reopen,
     /// The host: takes the head out of the invalidation queue, whatever it is.
     Skip,
+    /// The host: clears the time-out of a unit that has stopped at one (Intel VT-d, "Fault Status Register", ITE), so that
+    /// it goes on.
+    Resume,
     /// The host: no wait of a name stands at the unit. That one was submitted is for those to see to who await it.
     AwaitWait {
         /// The name.
@@ -71,6 +86,18 @@ pub enum LocalAct {
     },
     /// The host: each reset is done.
     AwaitResets,
+    /// The host: turns something on or off at the endpoint, at once.
+    Turn {
+        /// What.
+        control: Control,
+        /// Whether it is on from now on.
+        on: bool,
+    },
+    /// The host: the endpoint has no translation request out and no use that runs (PCI Express Base 5.0, section
+    /// 7.5.3.5, "Transactions Pending").
+    AwaitIdle,
+    /// The host: the endpoint is gone, and nothing that it has sent is on its way up.
+    AwaitGone,
     /// The host: files the oldest page request.
     Serve,
     /// The host: answers a group.
@@ -157,8 +184,18 @@ pub enum LocalAct {
         /// The PASID.
         pasid: usize,
     },
+    /// The endpoint: is removed. What it had is gone with it.
+    Leave,
     /// The unit: takes the head of the invalidation queue.
     Pump,
+    /// The unit: an invalidation has run out of time (Intel VT-d, "Fault Status Register", ITE). Each wait that has left the
+    /// queue and isn't done is aborted, and so is a fence at its head that awaits what is out.
+    Expire {
+        /// Its ITag.
+        itag: usize,
+        /// Whether the endpoint may leave unanswered what has come to it.
+        silent: bool,
+    },
     /// The unit: writes the oldest page request that it has received into the page request queue.
     Write,
     /// The unit: drops an entry that it keeps.

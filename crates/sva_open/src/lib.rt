@@ -20,7 +20,7 @@ mod scopes;
 mod settings;
 mod works;
 
-pub use acts::{Act, LocalAct};
+pub use acts::{Act, Control, LocalAct};
 pub use descriptors::{Arrived, Descriptor, Filed, Issued, Received};
 pub use drivers::{Budget, Condition, Device, Driver, Fault, Line, Page, Saying, Workers};
 pub use finding::{found, is_of_kind, is_taken, is_use, kind_of};
@@ -32,5 +32,5 @@ pub use opens::Open;
 pub use parts::Part;
 pub use rows::{Entry, KeptEntry, Row, State};
 pub use scopes::Scope;
-pub use settings::{Conduct, Link, Settings, Stopped};
+pub use settings::{Conduct, Link, Settings, Stopped, Timeouts};
 pub use works::{Group, Request, Work};

@@ -21,6 +21,10 @@ pub struct Part {
     pub works: Vec<Work>,
     pub groups: Vec<Option<Group>>,
     pub is_enabled: bool,
+    pub has_ats: bool,
+    pub has_requests: bool,
+    pub is_master: bool,
+    pub is_gone: bool,
     pub lies: bool,
     pub awaits: bool,
     pub time: u64,
@@ -28,6 +32,8 @@ pub struct Part {
     pub is_open: bool,
     pub queue: Vec<Descriptor>,
     pub issued: Vec<Issued>,
+    pub aborted: Vec<usize>,
+    pub is_stalled: bool,
     pub kept_entries: Vec<KeptEntry>,
     pub kept: Vec<Translation>,
     pub received: Vec<Received>,
@@ -47,6 +53,10 @@ impl Model for Part {
       works = part.works.items;
       groups = part.groups.items;
       is_enabled = part.is_enabled;
+      has_ats = part.has_ats;
+      has_requests = part.has_requests;
+      is_master = part.is_master;
+      is_gone = part.is_gone;
       lies = part.lies;
       awaits = part.awaits;
       time = part.time;
@@ -54,6 +64,8 @@ impl Model for Part {
       is_open = part.is_open;
       queue = part.queue.items;
       issued = part.issued.items;
+      aborted = part.aborted.items;
+      is_stalled = part.is_stalled;
       kept_entries = part.kept_entries.items;
       kept = part.kept.items;
       received = part.received.items;

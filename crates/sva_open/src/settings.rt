@@ -20,6 +20,17 @@ pub enum Stopped {
     Known,
 }
 
+/// What becomes of an invalidation that its endpoint doesn't answer.
+#[derive(Clone, Copy, PartialEq, Eq)]
+pub enum Timeouts {
+    /// It is awaited for ever.
+    Off,
+    /// It runs out of time, and the unit goes on.
+    On,
+    /// It runs out of time, and the unit takes nothing more until it is resumed.
+    Stop,
+}
+
 /// How an endpoint goes about invalidations and stops.
 #[derive(Clone, Copy, PartialEq, Eq)]
 pub struct Conduct {
@@ -50,4 +61,8 @@ pub struct Settings {
     pub allows_no_group: bool,
     /// Whether workers answer whole groups.
     pub has_workers: bool,
+    /// Whether ATS, page requests and bus mastering are off behind a reset, until they are turned on.
+    pub clears_controls: bool,
+    /// What becomes of an invalidation that its endpoint doesn't answer.
+    pub timeouts: Timeouts,
 }

@@ -6,11 +6,14 @@ ghost use Rattle.sva_open.specs.Acts as acts;
 ghost use Rattle.sva_open.specs.Acts.{next_open, next_part};
 
 use crate::asking::{ask, begin_use, end_use, evict, fault, more};
+use crate::controls::{leave, turn};
 use crate::deliveries::deliver;
+use crate::expiring::{expire, resume};
 use crate::finishing::{finish, quit};
 use crate::hosting::{
-    await_groups, await_queue, await_queue_of, await_resets, await_stopped, await_wait,
-    clear_entry, close, free_pasid, reopen, replace, reset, set_entry, skip, start, stop, submit,
+    await_gone, await_groups, await_idle, await_queue, await_queue_of, await_resets, await_stopped,
+    await_wait, clear_entry, close, free_pasid, reopen, replace, reset, set_entry, skip, start,
+    stop, submit,
 };
 use crate::pumping::{forget, forget_entry, pump};
 use crate::receiving::write;
@@ -39,12 +42,19 @@ fn act_at_part(
         LocalAct::Close => Ok(close(part)),
         LocalAct::Reopen => Ok(reopen(part)),
         LocalAct::Skip => Ok(skip(part)),
+        LocalAct::Resume => Ok(resume(part)),
         LocalAct::AwaitWait { name } => Ok(await_wait(part, *name)),
         LocalAct::AwaitStopped { pasid } => Ok(await_stopped(part, *pasid)),
         LocalAct::AwaitQueue => Ok(await_queue(part)),
         LocalAct::AwaitQueueOf { pasid } => Ok(await_queue_of(part, *pasid)),
         LocalAct::AwaitGroups { pasid } => Ok(await_groups(part, *pasid)),
         LocalAct::AwaitResets => Ok(await_resets(part)),
+        LocalAct::Turn { control, on } => {
+            turn(part, *control, *on);
+            Ok(true)
+        }
+        LocalAct::AwaitIdle => Ok(await_idle(part)),
+        LocalAct::AwaitGone => Ok(await_gone(part)),
         LocalAct::Serve => serve(part),
         LocalAct::Respond {
             pasid,
@@ -81,7 +91,9 @@ fn act_at_part(
         } => more(part, *index, *page, *write, *last),
         LocalAct::Finish { place } => finish(part, *place),
         LocalAct::Quit { pasid } => quit(part, settings.stopped, *pasid),
+        LocalAct::Leave => Ok(leave(part)),
         LocalAct::Pump => pump(part, settings),
+        LocalAct::Expire { itag, silent } => expire(part, settings, *itag, *silent),
         LocalAct::Write => write(part),
         LocalAct::ForgetEntry { place } => Ok(forget_entry(part, *place)),
         LocalAct::Forget { place } => Ok(forget(part, *place)),

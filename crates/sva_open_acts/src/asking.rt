@@ -7,9 +7,16 @@ ghost use Rattle.sva_open.specs.Devices as device;
 
 use std::alloc::AllocError;
 use sva_open::{
-    Group, Message, PageRequest, Part, Request, Translation, Work, drop_at, lowest_free, put,
+    Group, Message, PageRequest, Part, Request, Row, Translation, Work, drop_at, lowest_free, put,
     set_at,
 };
+
+/// Whether it sends memory requests under a PASID that need a translation.
+fn may_access(part: &Part, row: &Row) -> bool
+    ensures { result ≡ device.may_access part.now row.now }
+{
+    row.state.is_used() && (part.has_ats && part.is_master)
+}
 
 pub(crate) fn ask(part: &mut Part, pasid: usize, page: u64) -> Result<bool, AllocError>
     ensures { IfOk result (λ done.
@@ -18,7 +25,7 @@ pub(crate) fn ask(part: &mut Part, pasid: usize, page: u64) -> Result<bool, Allo
     let Some(row) = part.row(pasid) else {
         return Ok(false);
     };
-    if !row.state.is_used() {
+    if !may_access(part, &row) {
         return Ok(false);
     }
     let time = part.time;
@@ -44,7 +51,7 @@ pub(crate) fn begin_use(part: &mut Part, pasid: usize, page: u64) -> Result<bool
     let Some(translation) = find_translation(part.held.as_slice(), pasid, page) else {
         return Ok(false);
     };
-    if !row.state.is_used() {
+    if !may_access(part, &row) {
         return Ok(false);
     }
     part.works.push(Work::Use(translation))?;
@@ -74,6 +81,13 @@ pub(crate) fn evict(part: &mut Part, pasid: usize, page: u64) -> bool
     true
 }
 
+/// Whether it begins groups of page requests under a PASID.
+fn may_fault(part: &Part, row: &Row) -> bool
+    ensures { result ≡ device.may_fault part.now row.now }
+{
+    row.state.is_used() && (part.is_enabled && part.has_requests)
+}
+
 pub(crate) fn fault(
     part: &mut Part,
     pasid: usize,
@@ -89,7 +103,7 @@ pub(crate) fn fault(
     let Some(row) = part.row(pasid) else {
         return Ok(false);
     };
-    if !(row.state.is_used() && part.is_enabled) {
+    if !may_fault(part, &row) {
         return Ok(false);
     }
     let index = lowest_free(part.groups.as_slice());

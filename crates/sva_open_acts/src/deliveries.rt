@@ -7,7 +7,7 @@ ghost use Rattle.sva_open.specs.Units.{answered_stop};
 ghost use Rattle.sva_open.specs.Links as link;
 
 use crate::answering::{answer, put_translation};
-use crate::order::may_deliver;
+use crate::order::{goes_up, may_deliver};
 use crate::pumping::{complete_itag, drop_covered};
 use std::alloc::AllocError;
 use sva_open::{
@@ -32,8 +32,29 @@ pub(crate) fn deliver(
         return Ok(false);
     }
     drop_at(&mut part.flight, place);
-    receive(part, settings, mappings, &one)?;
+    take_in(part, settings, mappings, &one)?;
     Ok(true)
+}
+
+/// Whether a message is dropped, since it goes down to an endpoint that is gone.
+fn is_lost(part: &Part, message: &Message) -> bool
+    ensures { result ≡ link.is_lost part.now message.now }
+{
+    part.is_gone && !goes_up(message)
+}
+
+fn take_in(
+    part: &mut Part,
+    settings: &Settings,
+    mappings: &[Mapping],
+    one: &Sent,
+) -> Result<(), AllocError>
+    ensures { IfOk result (λ _. part.new ≡ link.taken_in settings.now mappings.now part.old one.now) }
+{
+    if is_lost(part, &one.message) {
+        return Ok(());
+    }
+    receive(part, settings, mappings, one)
 }
 
 fn receive(
@@ -54,7 +75,7 @@ fn receive(
             tell_to_stop(part, pasid, one.owner);
             Ok(())
         }
-        Message::Reset => take_reset(part),
+        Message::Reset => take_reset(part, settings),
         Message::Completion { tag, target, .. } => complete(part, tag, target),
         Message::Invalidate { itag, scope } => invalidate(part, itag, scope),
         Message::Response { index, fails, .. } => {
@@ -170,8 +191,11 @@ fn complete(part: &mut Part, tag: usize, target: Option<Target>) -> Result<(), A
 }
 
 fn invalidate(part: &mut Part, itag: usize, scope: Scope) -> Result<(), AllocError>
-    ensures { IfOk result (λ _. part.new ≡ device.invalidate part.old itag scope) }
+    ensures { IfOk result (λ _. part.new ≡ device.invalidated part.old itag scope) }
 {
+    if !part.has_ats {
+        return Ok(());
+    }
     drop_covered(&mut part.held, &scope);
     doom(part.requests.as_mut_slice(), &scope);
     part.works.push(Work::Taken { itag, scope })?;
@@ -185,8 +209,8 @@ fn end_group(part: &mut Part, index: usize, fails: bool)
     part.is_enabled = part.is_enabled && !fails;
 }
 
-fn take_reset(part: &mut Part) -> Result<(), AllocError>
-    ensures { IfOk result (λ _. part.new ≡ device.reset_taken part.old) }
+fn take_reset(part: &mut Part, settings: &Settings) -> Result<(), AllocError>
+    ensures { IfOk result (λ _. part.new ≡ device.reset_taken settings.now part.old) }
 {
     let Some(time) = part.time.checked_add(1) else {
         return Err(AllocError);
@@ -197,6 +221,9 @@ fn take_reset(part: &mut Part) -> Result<(), AllocError>
     part.works.clear();
     part.groups.clear();
     part.is_enabled = true;
+    part.has_ats = !settings.clears_controls;
+    part.has_requests = !settings.clears_controls;
+    part.is_master = !settings.clears_controls;
     part.time = time;
     part.send(0, time, Message::ResetDone)
 }
@@ -254,7 +281,7 @@ fn switched_off(row: Row) -> Row
 }
 
 /// Turns each PASID off.
-fn switch_off(rows: &mut [Row])
+pub(crate) fn switch_off(rows: &mut [Row])
     ensures { rows.new ≡ map device.switched_off rows.old }
 {
     for row in rows.iter_mut() {

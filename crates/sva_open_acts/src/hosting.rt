@@ -1,13 +1,18 @@
 //! What the host does with entries, messages and its unit.
 
-ghost use Rattle.std.specs.Prelude.{◌≡◌, IfOk, Some, filter, slice_get};
+ghost use Rattle.std.specs.Prelude.{◌≡◌, IfOk, Some, filter, is_some, slice_get};
 ghost use Rattle.std.specs.List.{list_any};
 ghost use Rattle.sva_search.specs.Rules.{IsStep};
 ghost use Rattle.sva_open.specs.Host as host;
+ghost use Rattle.sva_open.specs.Finding as finding;
 ghost use Rattle.sva_open.specs.Units.{is_drain, is_wait, is_waiting};
 
+use crate::order::goes_up;
 use std::alloc::AllocError;
-use sva_open::{Arrived, Descriptor, Filed, Issued, Message, Part, Received, Row, Sent, drop_at};
+use sva_open::{
+    Arrived, Descriptor, Filed, Issued, Message, Part, Received, Request, Row, Sent, Work, drop_at,
+    is_use,
+};
 use sva_step::QUEUE_PLACES;
 
 pub(crate) fn set_entry(part: &mut Part, pasid: usize, space: u64) -> Result<bool, AllocError>
@@ -133,6 +138,7 @@ pub(crate) fn reopen(part: &mut Part) -> bool
     part.is_open = true;
     part.queue.clear();
     part.issued.clear();
+    part.is_stalled = false;
     part.received.clear();
     true
 }
@@ -200,6 +206,18 @@ pub(crate) fn await_resets(part: &Part) -> bool
     !is_resetting(part.flight.as_slice())
 }
 
+pub(crate) fn await_idle(part: &Part) -> bool
+    ensures { IsStep (host.await_idle part.now) result part.now part.now }
+{
+    !is_any_out(part.requests.as_slice()) && !is_any_running(part.works.as_slice())
+}
+
+pub(crate) fn await_gone(part: &Part) -> bool
+    ensures { IsStep (host.await_gone part.now) result part.now part.now }
+{
+    part.is_gone && !is_any_going_up(part.flight.as_slice())
+}
+
 fn is_queued(queue: &[Descriptor], name: usize) -> bool
     ensures { result ≡ list_any (is_wait name) queue.now }
 {
@@ -247,4 +265,25 @@ fn is_resetting(flight: &[Sent]) -> bool
     ensures { result ≡ list_any host.is_of_reset flight.now }
 {
     flight.iter().any(|one| is_of_reset(one))
+}
+
+/// Whether a translation request is out.
+fn is_any_out(requests: &[Option<Request>]) -> bool
+    ensures { result ≡ list_any is_some requests.now }
+{
+    requests.iter().any(|request| request.is_some())
+}
+
+/// Whether a use runs.
+fn is_any_running(works: &[Work]) -> bool
+    ensures { result ≡ list_any finding.is_use works.now }
+{
+    works.iter().any(|one| is_use(one))
+}
+
+/// Whether something is on its way up.
+fn is_any_going_up(flight: &[Sent]) -> bool
+    ensures { result ≡ list_any host.is_going_up flight.now }
+{
+    flight.iter().any(|one| goes_up(&one.message))
 }

@@ -4,7 +4,9 @@
 mod acting;
 mod answering;
 mod asking;
+mod controls;
 mod deliveries;
+mod expiring;
 mod finishing;
 mod hosting;
 mod order;

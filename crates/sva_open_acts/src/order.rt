@@ -7,7 +7,7 @@ ghost use Rattle.sva_open.specs.Order as order;
 use sva_open::{Link, Message, Sent, before};
 
 /// Whether it is sent by the endpoint.
-fn goes_up(message: &Message) -> bool
+pub(crate) fn goes_up(message: &Message) -> bool
     ensures { result ≡ order.goes_up message.now }
 {
     match message {

@@ -18,7 +18,7 @@ use sva_step::ITAGS;
 pub(crate) fn pump(part: &mut Part, settings: &Settings) -> Result<bool, AllocError>
     ensures { IfOk result (λ done. IsStep (unit.pump settings.now part.old) done part.old part.new) }
 {
-    if !part.is_open {
+    if !(part.is_open && !part.is_stalled) {
         return Ok(false);
     }
     let head = part.queue.get(0).copied();
@@ -106,7 +106,7 @@ fn is_out_before(issued: &[Issued], place: usize) -> bool
     }
 }
 
-fn may_pass(part: &Part, settings: &Settings, drain: bool, fence: bool) -> bool
+pub(crate) fn may_pass(part: &Part, settings: &Settings, drain: bool, fence: bool) -> bool
     ensures { result ≡ unit.may_pass settings.now part.now drain fence }
 {
     !(settings.refuses_drain && drain)
@@ -182,14 +182,14 @@ fn itag_place(issued: &[Issued], itag: usize) -> Option<usize>
     issued.iter().position(|one| one.has_itag(itag))
 }
 
-fn is_busy(issued: &[Issued], itag: usize) -> bool
+pub(crate) fn is_busy(issued: &[Issued], itag: usize) -> bool
     ensures { result ≡ list_any (unit.has_itag itag) issued.now }
 {
     issued.iter().any(|one| one.has_itag(itag))
 }
 
 /// The lowest free ITag.
-fn free_itag(issued: &[Issued]) -> Option<usize>
+pub(crate) fn free_itag(issued: &[Issued]) -> Option<usize>
     ensures { result ≡ unit.free_itag issued.now Limits.itags 0 }
 {
     for itag in 0..ITAGS {

@@ -1,6 +1,6 @@
 -- To be safe says enough of a world that is shown.
 use Rattle.std.proofs.Common.{◌≡◌, ◌≢◌, ◌⊎◌, inl, inr, refl, ap, sym, subst, ◌∙◌, ℕ, suc, ◌<◌, ◌≤◌, Bool, true, false, arith}
-use Rattle.std.specs.Prelude.{not, List, Option, Some, option_map, Contains, slice_get}
+use Rattle.std.specs.Prelude.{◌||◌, not, List, Option, Some, option_map, Contains, slice_get}
 use Rattle.std.proofs.lemmas.Option.{slice_get_within}
 use Rattle.sva_model.specs.Message.{Code}
 use Rattle.sva_model.specs.Words.{tabulate}
@@ -133,10 +133,10 @@ flies : (w : World) (e c : ℕ) (s : Subject) (one : Flying) → ShowsAll w → 
 flies w e c s one sh safe h k = let x = sh.flight e c s h in (safe_at w e sh safe x.0).flight one (x.2 one k)
 
 start_well : (w : World) (e c b : ℕ) → ShowsAll w → IsSafe (open_of w) → (w.part e).message c ≡ Some (StartOf b) → IsBearer (w.part e) b
-start_well w e c b sh s h = bears w e b sh (sh.flight e c (StartOf b) h).1 (flies w e c (StartOf b) _ sh s h (in_one _))
+start_well w e c b sh s h = bears w e b sh (sh.flight e c (StartOf b) h).1 (flies w e c (StartOf b) _ sh s h (in_one _) refl)
 
 stop_well : (w : World) (e c b : ℕ) → ShowsAll w → IsSafe (open_of w) → (w.part e).message c ≡ Some (StopOf b) → IsBearer (w.part e) b
-stop_well w e c b sh s h = bears w e b sh (sh.flight e c (StopOf b) h).1 (flies w e c (StopOf b) _ sh s h (in_one _))
+stop_well w e c b sh s h = bears w e b sh (sh.flight e c (StopOf b) h).1 (flies w e c (StopOf b) _ sh s h (in_one _) refl)
 
 marker_well : (w : World) (e c b : ℕ) → ShowsAll w → IsSafe (open_of w) → (w.part e).phase ≡ Open → (w.part e).message c ≡ Some (MarkerOf b)
     → IsBearer (w.part e) b
@@ -179,8 +179,9 @@ collects_not : (b : Bool) → not b ≡ true → b ≡ false
 collects_not false h = refl
 collects_not true h = absurd (cc)
 
--- on a platform that doesn't allow a response that ends none
-ends_one : (settings : Settings) (part : Part) (one : Flying) (index : ℕ) (filed : Bool) → settings.allows_no_group ≡ false
+-- on a platform that doesn't allow a response that ends none, of an endpoint that isn't gone
+ends_one : (settings : Settings) (part : Part) (one : Flying) (index : ℕ) (filed : Bool)
+    → (settings.allows_no_group || part.is_gone) ≡ false
     → ((filed ≡ true) × EndsItsGroup part one index) ⊎ EndsNone settings part index → (filed ≡ true) × EndsItsGroup part one index
 ends_one settings part one index filed never (inl own) = own
 ends_one settings part one index filed never (inr none) = absurd (cc (sym never ∙ none.allowed))

@@ -9,6 +9,7 @@ pub mod PageLists
 pub mod PagePlaces
 pub mod PageRuns
 pub mod PageSafety
+pub mod PageTimes
 pub mod PageWorlds
 pub mod Safety
 pub mod Shown

@@ -16,7 +16,10 @@ use Rattle.sva_open.specs.declared.descriptors.Descriptor.{Descriptor}
 use Rattle.sva_open.specs.declared.settings.Settings.{Settings}
 use Rattle.sva_open.specs.declared.settings.Stopped.{Stopped}
 use Rattle.sva_open.specs.declared.settings.Stopped.TheVariants.{Marker, Status, Known}
+use Rattle.sva_open.specs.declared.acts.Control.{Control}
+use Rattle.sva_open.specs.declared.acts.Control.TheVariants.{Ats, PageRequests, Mastering}
 use Rattle.sva_open.specs.declared.acts.LocalAct.{LocalAct}
+use Rattle.sva_open.specs.Finding.{is_use}
 use Rattle.sva_open.specs.World.{Part, if_so, sent, with_row}
 use Rattle.sva_open.specs.Acts.{next_part}
 use Rattle.sva_open.specs.Host as host
@@ -145,6 +148,15 @@ await_resets page part = where_so page _ _ _ _
     (also _ _ (ap not (any host.is_of_reset host.is_of_reset (its_sent page)
     (λ one. is_reset page one.message) part.flight))) refl
 
+-- what is turned off leaves nothing of a page that it doesn't leave of the whole
+pub turned : (page : ℕ) (part : Part) (control : Control) (on : Bool)
+    → its_part page (device.turned part control on) ≡ device.turned (its_part page part) control on
+turned page part Ats true = refl
+turned page part Ats false = refl
+turned page part PageRequests true = refl
+turned page part PageRequests false = refl
+turned page part Mastering on = refl
+
 pub serve : (page : ℕ) (part : Part) (o : Option Arrived) → IsLed page (host.serve part o) (host.serve (its_part page part) o)
 serve page part None = tt
 serve page part (Some one) = refl
@@ -214,7 +226,7 @@ quiet page part pasid =
     refl
     (fewer (is_work_at page) (device.is_use_under pasid) part.works)
 
-and_so : (a b c : Bool) → (b ≡ true → c ≡ true) → a && b ≡ true → a && c ≡ true
+pub and_so : (a b c : Bool) → (b ≡ true → c ≡ true) → a && b ≡ true → a && c ≡ true
 and_so true b c h k = h k
 and_so false b c h k = k
 
@@ -228,3 +240,16 @@ pub quit : (page : ℕ) (stopped : Stopped) (part : Part) (pasid : ℕ) (o : Opt
     → IsLed page (device.quit stopped part pasid o) (device.quit stopped (its_part page part) pasid o)
 quit page stopped part pasid None = tt
 quit page stopped part pasid (Some row) = where_so page _ _ _ _ (and_so _ _ _ (quiet page part pasid)) (said page stopped part pasid row)
+
+-- so it is of what the host sees: an endpoint that is idle is so of each page
+none_still : (b c : Bool) → (b ≡ false → c ≡ false) → not b ≡ true → not c ≡ true
+none_still false c h k = ap not (h refl)
+none_still true c h k = absurd (cc)
+
+pub await_idle : (page : ℕ) (part : Part) → IsLed page (host.await_idle part) (host.await_idle (its_part page part))
+await_idle page part =
+    where_so page _ _ _ _ (and_so _ _ _ (none_still _ _ (fewer (is_work_at page) is_use part.works))) refl
+
+-- it goes with all that it has
+pub leave : (page : ℕ) (part : Part) → IsLed page (device.leave part) (device.leave (its_part page part))
+leave page part = where_so page _ _ _ _ (λ h. h) refl

@@ -24,6 +24,7 @@ use Rattle.sva_open.specs.declared.works.Work.TheVariants.{Taken}
 use Rattle.sva_open.specs.declared.settings.Settings.{Settings}
 use Rattle.sva_open.specs.World.{Part, is_left, is_of, is_other, is_page, or_else, sent, with_translation}
 use Rattle.sva_open.specs.Devices as device
+use Rattle.sva_open.specs.Host as host
 use Rattle.sva_open.specs.Units as unit
 use Rattle.sva_open.specs.declared.settings.Link.{Link}
 use Rattle.sva_open.specs.declared.settings.Link.TheVariants.{Free, Posted}
@@ -82,14 +83,21 @@ invalidate page part itag scope = λ i. record (its_part page (device.invalidate
   works = filter_left (is_work_at page) part.works (Taken itag scope) refl i;
 }
 
-reset : (page : ℕ) (part : Part) → its_part page (device.reset_taken part) ≡ device.reset_taken (its_part page part)
-reset page part = sends page (record part {
+invalidated : (page : ℕ) (part : Part) (itag : ℕ) (scope : Scope)
+    → its_part page (device.invalidated part itag scope) ≡ device.invalidated (its_part page part) itag scope
+invalidated page part itag scope = where_open page part.has_ats _ _ _ _ refl (invalidate page part itag scope)
+
+reset : (page : ℕ) (settings : Settings) (part : Part) → its_part page (device.reset_taken settings part) ≡ device.reset_taken settings (its_part page part)
+reset page settings part = sends page (record part {
   rows = _;
   requests = [];
   held = [];
   works = [];
   groups = [];
   is_enabled = true;
+  has_ats = _;
+  has_requests = _;
+  is_master = _;
   time = suc part.time;
 }) 0 (suc part.time) message.ResetDone
 
@@ -196,9 +204,9 @@ received : (page : ℕ) (settings : Settings) (mappings : List Mapping) (part : 
     ≡ link.received settings (filter (leads_at page) mappings) (its_part page part) (its_sent page one) (its_message page its)
 received page settings mappings part one (message.Start pasid) h = told page part pasid On one.owner (slice_get part.rows pasid)
 received page settings mappings part one (message.Stop pasid) h = told_to_stop page part pasid one.owner (slice_get part.rows pasid)
-received page settings mappings part one message.Reset h = reset page part
+received page settings mappings part one message.Reset h = reset page settings part
 received page settings mappings part one (message.Completion tag other target) h = complete page part tag other target (slice_get part.requests tag) h
-received page settings mappings part one (message.Invalidate itag scope) h = invalidate page part itag scope
+received page settings mappings part one (message.Invalidate itag scope) h = invalidated page part itag scope
 received page settings mappings part one (message.Response index fails filed) h = refl
 received page settings mappings part one (message.Request tag pasid other) h =
     where_open page part.is_open _ _ _ _ refl (answered page settings mappings part one tag pasid other)
@@ -233,6 +241,12 @@ seen_as page (message.Invalidated itag) = record { up = refl; completion = refl;
 seen_as page (message.Marker pasid) = record { up = refl; completion = refl; request = refl; posted = refl }
 seen_as page (message.Status pasid) = record { up = refl; completion = refl; request = refl; posted = refl }
 seen_as page message.ResetDone = record { up = refl; completion = refl; request = refl; posted = refl }
+
+-- so does the host where it awaits that nothing of an endpoint that is gone is on its way up
+pub await_gone : (page : ℕ) (part : Part) → IsLed page (host.await_gone part) (host.await_gone (its_part page part))
+await_gone page part = where_so page _ _ _ _
+    (also _ _ (λ i. part.is_gone
+    && not (any host.is_going_up host.is_going_up (its_sent page) (λ one. (seen_as page one.message).up) part.flight i))) refl
 
 -- one message and an older one, each as it is seen
 abbrev pub IsPair : (own older own_seen older_seen : Message) → Type 0
@@ -289,15 +303,27 @@ untouched part place (message.Marker pasid) h = tt
 untouched part place (message.Status pasid) h = tt
 untouched part place message.ResetDone h = tt
 
+-- what is lost of the whole is lost of a page
+lost : (page : ℕ) (part : Part) (its : Message) → link.is_lost part its ≡ link.is_lost (its_part page part) (its_message page its)
+lost page part its = λ i. part.is_gone && not ((seen_as page its).up i)
+
+taken_in : (page : ℕ) (settings : Settings) (mappings : List Mapping) (part : Part) (one : Sent) → IsTagged part one.message
+    → its_part page (link.taken_in settings mappings part one)
+    ≡ link.taken_in settings (filter (leads_at page) mappings) (its_part page part) (its_sent page one)
+taken_in page settings mappings part one h =
+    where_open page (link.is_lost part one.message) _ _ _ _ (received page settings mappings part one one.message h) refl
+    ∙ ap (λ (is : Bool). if is then its_part page part else
+    link.received settings (filter (leads_at page) mappings) (its_part page part) (its_sent page one) (its_message page one.message))
+    (lost page part one.message)
+
 deliver_one : (page : ℕ) (settings : Settings) (mappings : List Mapping) (part : Part) (place : ℕ) (o : Option Sent) → IsTaggedAt part o
     → IsLed page (link.deliver settings mappings part place o)
     (link.deliver settings (filter (leads_at page) mappings) (its_part page part) place (option_map (its_sent page) o))
 deliver_one page settings mappings part place None h = tt
 deliver_one page settings mappings part place (Some one) h =
     where_so page _ _ _ _ (also _ _ (may page settings.link part place one.message))
-    (received page settings mappings (link.without_sent part place) one one.message (untouched part place one.message h)
-    ∙ ap (λ (p : Part). link.received settings (filter (leads_at page) mappings) p (its_sent page one) (its_message page one.message))
-    (taken_out page part place))
+    (taken_in page settings mappings (link.without_sent part place) one (untouched part place one.message h)
+    ∙ ap (λ (p : Part). link.taken_in settings (filter (leads_at page) mappings) p (its_sent page one)) (taken_out page part place))
 
 pub deliver : (page : ℕ) (settings : Settings) (mappings : List Mapping) (part : Part) (place : ℕ) → IsTaggedAt part (slice_get part.flight place)
     → IsLed page (link.deliver settings mappings part place (slice_get part.flight place))

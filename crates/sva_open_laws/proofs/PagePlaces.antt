@@ -2,7 +2,7 @@
 -- does by itself.
 use Rattle.std.proofs.Common.{arith, ◌≡◌, ◌∙◌, ℕ, Bool, true, false, Option, Some, None, option_map, List, length, take, refl, ap, sym, subst}
 use Rattle.std.proofs.lemmas.Bool.Decides.{nat_tests}
-use Rattle.std.specs.Prelude.{◌==◌, ◌||◌, not, if◌then◌else◌, remove, position, slice_get, filter, find}
+use Rattle.std.specs.Prelude.{◌==◌, ◌&&◌, ◌||◌, not, if◌then◌else◌, remove, position, slice_get, filter, find}
 use Rattle.std.specs.List.{list_any}
 use Rattle.sva_open.specs.declared.frames.Mapping.{Mapping}
 use Rattle.sva_open.specs.declared.frames.Translation.{Translation}
@@ -169,7 +169,7 @@ if_open page true one other h = h
 if_open page false one other h = tt
 
 pub pump : (page : ℕ) (settings : Settings) (part : Part) → IsLed page (unit.pump settings part) (unit.pump settings (its_part page part))
-pump page settings part = if_open page part.is_open _ _ (pump_head page settings part (slice_get part.queue 0))
+pump page settings part = if_open page (part.is_open && not part.is_stalled) _ _ (pump_head page settings part (slice_get part.queue 0))
 
 pub forget_entry : (page : ℕ) (part : Part) (place : ℕ) (o : Option KeptEntry)
     → IsLed page (unit.forget_entry part place o) (unit.forget_entry (its_part page part) place o)

@@ -22,6 +22,7 @@ use Rattle.sva_open_laws.proofs.Filters.{filter_both, filter_inner, filter_left,
 use Rattle.sva_open_laws.proofs.PageActs as its
 use Rattle.sva_open_laws.proofs.PageActs.{IsLed, next_at}
 use Rattle.sva_open_laws.proofs.PagePlaces as place
+use Rattle.sva_open_laws.proofs.PageTimes as times
 use Rattle.sva_open_laws.proofs.PageLinks as link
 use Rattle.sva_open_laws.proofs.PageLinks.{IsTaggedAt}
 
@@ -82,12 +83,16 @@ act_at page settings mappings part (local.Submit descriptors) h = its.submit pag
 act_at page settings mappings part local.Close h = its.close page part
 act_at page settings mappings part local.Reopen h = its.reopen page part
 act_at page settings mappings part local.Skip h = its.skip page part (slice_get part.queue 0)
+act_at page settings mappings part local.Resume h = refl
 act_at page settings mappings part (local.AwaitWait name) h = its.await_wait page part name
 act_at page settings mappings part (local.AwaitStopped pasid) h = its.await_stopped page part pasid (slice_get part.rows pasid)
 act_at page settings mappings part local.AwaitQueue h = its.await_queue page part
 act_at page settings mappings part (local.AwaitQueueOf pasid) h = its.await_queue_of page part pasid
 act_at page settings mappings part (local.AwaitGroups pasid) h = its.await_groups page part pasid
 act_at page settings mappings part local.AwaitResets h = its.await_resets page part
+act_at page settings mappings part (local.Turn control on) h = its.turned page part control on
+act_at page settings mappings part local.AwaitIdle h = its.await_idle page part
+act_at page settings mappings part local.AwaitGone h = link.await_gone page part
 act_at page settings mappings part local.Serve h = its.serve page part (slice_get part.arrived 0)
 act_at page settings mappings part (local.Respond pasid index fails) h = its.respond page part pasid index fails
 act_at page settings mappings part (local.RespondAll pasid fails) h = its.respond_all page part pasid fails
@@ -104,7 +109,9 @@ act_at page settings mappings part (local.Fault pasid other write last) h =
 act_at page settings mappings part (local.More index other write last) h = its.more page part index other write last (slice_get part.groups index)
 act_at page settings mappings part (local.Finish at) h = place.finish page settings mappings part at (slice_get part.works at) refl
 act_at page settings mappings part (local.Quit pasid) h = its.quit page settings.stopped part pasid (slice_get part.rows pasid)
+act_at page settings mappings part local.Leave h = its.leave page part
 act_at page settings mappings part local.Pump h = place.pump page settings part
+act_at page settings mappings part (local.Expire itag silent) h = times.expire page settings part itag silent
 act_at page settings mappings part local.Write h = its.write page part (slice_get part.received 0)
 act_at page settings mappings part (local.ForgetEntry at) h = place.forget_entry page part at (slice_get part.kept_entries at)
 act_at page settings mappings part (local.Forget at) h = place.forget page settings mappings part at (slice_get part.kept at) refl

@@ -292,9 +292,9 @@ named_right w p false k one h = absurd (none_in one h)
 right : (w : World) (e c : ℕ) (s : Subject) → Invariant w → (w.part e).message c ≡ Some s → (one : Flying) → Contains (sent_of w.mappings (w.part e) s) one
     → FliesRight w e one
 right w e c (StartOf b) i h one k =
-    subst (FliesRight w e) (one_in _ one k) (bearer_owned w e b i ((found w e i).start c b h))
+    subst (FliesRight w e) (one_in _ one k) (λ stays. bearer_owned w e b i ((found w e i).start c b h))
 right w e c (StopOf b) i h one k =
-    subst (FliesRight w e) (one_in _ one k) (bearer_owned w e b i ((found w e i).stop c b h))
+    subst (FliesRight w e) (one_in _ one k) (λ stays. bearer_owned w e b i ((found w e i).stop c b h))
 right w e c FunctionReset i h one k = subst (FliesRight w e) (one_in _ one k) tt
 right w e c (CompletionOf r o) i h one k =
     subst (FliesRight w e) (one_in _ one k) (completion w e c r o i h _ refl)

@@ -48,6 +48,7 @@ use Rattle.sva_open.specs.declared.descriptors.Arrived.{Arrived}
 use Rattle.sva_open.specs.declared.descriptors.Filed.{Filed}
 use Rattle.sva_open.specs.declared.settings.Link.TheVariants as link
 use Rattle.sva_open.specs.declared.settings.Stopped.TheVariants as stopped
+use Rattle.sva_open.specs.declared.settings.Timeouts.TheVariants as timeouts
 use Rattle.sva_open.specs.World.{Open, Part}
 use Rattle.sva_open.specs.Safe.{IsSafe}
 
@@ -299,6 +300,7 @@ filed_of part group =
 
 -- ---- the whole
 
+-- nothing is turned off at an endpoint, and none is removed; nor does an invalidation run out of time
 abbrev pub part_of : World → Endpoint → Part
 part_of world part =
     record {
@@ -308,6 +310,10 @@ part_of world part =
       works = works_of world.mappings part;
       groups = tabulate Limits.groups (λ t. option_map (group_of part) (part.at_index t));
       is_enabled = not part.is_disabled;
+      has_ats = true;
+      has_requests = true;
+      is_master = true;
+      is_gone = false;
       lies = false;
       awaits = false;
       time = time_of part;
@@ -315,6 +321,8 @@ part_of world part =
       is_open = is_open part.phase;
       queue = gather part.orders (λ k. where_so (is_queued (part.order_state k)) (descriptor_of part (part.order k)));
       issued = gather part.orders (λ k. where_so (is_busy (part.order_state k)) (issued.Sent (part.itag k)));
+      aborted = [];
+      is_stalled = false;
       kept_entries = [];
       kept = [];
       received = [];
@@ -334,6 +342,8 @@ open_of world =
         stopped = stopped.Marker;
         allows_no_group = false;
         has_workers = false;
+        clears_controls = false;
+        timeouts = timeouts.Off;
       };
       mappings = gather world.mappings.made (λ m. where_so (is_present (world.mappings.state m)) (mapping_of world.mappings m));
       frames = tabulate world.config.frames (tenure_of world);

@@ -1,7 +1,8 @@
 -- A run of both worlds side by side: what steps of this project's own host leave is what acts of the open world leave that stand
 -- for them. A page is mapped, its space bound, and the page asked for; it is unmapped, and its invalidation sent; the endpoint
--- answers, and the frame is free; the page is mapped again, by another tenure of the frame, and asked for.
-use Rattle.std.specs.Prelude.{◌≡◌, ℕ, true, false, List, [], ◌∷◌, ◌++◌, slice_get, Option, Some, option_map, option_and_then, map}
+-- answers, and the frame is free; the page is mapped again, by another tenure of the frame, and asked for. Or once it was asked for the
+-- endpoint is reset. And as long as the endpoint doesn't answer, its invalidation is out.
+use Rattle.std.specs.Prelude.{◌≡◌, ℕ, Bool, true, false, List, [], ◌∷◌, ◌++◌, slice_get, Option, Some, None, is_some, option_map, option_and_then, map}
 use Rattle.sva_step.specs.declared.limits.Config.{Config}
 use Rattle.sva_step.specs.declared.steps.Step.{Step}
 use Rattle.sva_step.specs.declared.steps.Step.TheVariants as step
@@ -20,6 +21,7 @@ use Rattle.sva_open.specs.declared.descriptors.Descriptor.{Descriptor}
 use Rattle.sva_open.specs.declared.descriptors.Descriptor.TheVariants as descriptor
 use Rattle.sva_open.specs.declared.descriptors.Issued.{Issued}
 use Rattle.sva_open.specs.declared.scopes.Scope.TheVariants as scope
+use Rattle.sva_open.specs.declared.settings.Timeouts.TheVariants.{On}
 use Rattle.sva_open.specs.World.{Open, Part, opened}
 use Rattle.sva_open.specs.Acts.{next_open}
 use Rattle.sva_open.specs.Host.{submit}
@@ -31,9 +33,15 @@ pub record Shown : Type 0 where
   pub rows : List Row
   pub held : List Translation
   pub works : List Work
+  pub has_ats : Bool
+  pub has_requests : Bool
+  pub is_master : Bool
+  pub is_gone : Bool
   pub flight : List Sent
   pub queue : List Descriptor
   pub issued : List Issued
+  pub aborted : List ℕ
+  pub is_stalled : Bool
   pub time : ℕ
 
 abbrev pub shown_at : Part → Shown
@@ -42,9 +50,15 @@ shown_at part =
       rows = part.rows;
       held = part.held;
       works = part.works;
+      has_ats = part.has_ats;
+      has_requests = part.has_requests;
+      is_master = part.is_master;
+      is_gone = part.is_gone;
       flight = part.flight;
       queue = part.queue;
       issued = part.issued;
+      aborted = part.aborted;
+      is_stalled = part.is_stalled;
       time = part.time;
     }
 
@@ -126,8 +140,29 @@ again_moves =
     freed_moves ++ Move.Does (act.SetPage 0 16 0 true) ∷ Move.Does (act.At 0 (local.Ask 1 16))
     ∷ Move.Does (act.At 0 (local.Deliver 0)) ∷ []
 
+-- the entry leads nowhere once the endpoint was reset; the binding has its PASID until it is unbound
+abbrev pub reset_steps : List Step
+reset_steps = asked_steps ++ step.Reset 0 ∷ step.Deliver 3 ∷ step.Deliver 4 ∷ []
+
+abbrev pub reset_moves : List Move
+reset_moves =
+    asked_moves ++ Move.Does (act.At 0 local.Close) ∷ Move.Does (act.At 0 local.Reset) ∷ Move.Does (act.At 0 (local.Deliver 0))
+    ∷ Move.Does (act.At 0 (local.Deliver 0)) ∷ Move.Does (act.At 0 local.AwaitResets) ∷ Move.Does (act.At 0 (local.ClearEntry 1))
+    ∷ Move.Does (act.At 0 local.Reopen) ∷ []
+
+-- the invalidation that is out runs out of time, whoever may be silent
+abbrev pub expires : Open → Option Open
+expires now = next_open now (act.At 0 (local.Expire 0 true))
+
+abbrev pub with_timeouts : Open → Open
+with_timeouts now = record now { settings = record now.settings { timeouts = On } }
+
 pub record RunsBeside : Type 0 where
   pub asked : StandBeside asked_steps asked_moves
   pub sent : StandBeside sent_steps sent_moves
   pub freed : StandBeside freed_steps freed_moves
   pub again : StandBeside again_steps again_moves
+  pub reset : StandBeside reset_steps reset_moves
+  -- this project's own host awaits an answer for ever; another's wait would be over
+  pub awaited : expires (closed_after sent_steps) ≡ None
+  pub timed : is_some (expires (with_timeouts (closed_after sent_steps))) ≡ true

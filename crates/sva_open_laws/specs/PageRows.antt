@@ -29,10 +29,13 @@ PlacesMove = (settings : Settings)
     → (its_local 16 stopping (local.End 1) ≡ Some (local.End 0)) × (next_part settings [] (its_part 16 stopping) (local.End 1) ≡ None)
 
 -- What isn't permitted of the whole may be so in the world of a page: as long as a use runs the endpoint may not say that it has
--- stopped, and no use is of page 18.
+-- stopped, and the host doesn't see it idle; and no use is of page 18.
 abbrev pub LessIsAwaited : Type 0
 LessIsAwaited = (settings : Settings)
-    → (next_part settings [] stopping (local.Quit 0) ≡ None) × (is_some (next_part settings [] (its_part 18 stopping) (local.Quit 0)) ≡ true)
+    → (next_part settings [] stopping (local.Quit 0) ≡ None)
+    × (is_some (next_part settings [] (its_part 18 stopping) (local.Quit 0)) ≡ true)
+    × (next_part settings [] stopping local.AwaitIdle ≡ None)
+    × (is_some (next_part settings [] (its_part 18 stopping) local.AwaitIdle) ≡ true)
 
 abbrev asked : (page : ℕ) → Request
 asked page = record { pasid = 0; page = page; owner = 0; is_doomed = false }

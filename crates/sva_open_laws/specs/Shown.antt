@@ -4,7 +4,7 @@
 -- These clauses of `IsSafePart` have nothing in the closed world that they speak of: `kept`, `kept_entries` and `walked` of these,
 -- since no unit keeps anything (`has_caches`); `received`, since page requests stand in the queue as they come (`drain_empties`);
 -- `filed` and `served`, since its host answers groups by steps of its own, and no worker does (`has_workers`); a Status in flight,
--- since endpoints stop by markers; and that a frame is frozen.
+-- since endpoints stop by markers; that a frame is frozen; and that an endpoint is gone, of whose messages less is asked.
 use Rattle.std.specs.Prelude.{◌≡◌, ◌≢◌, ◌↔◌, ◌<◌, ◌≤◌, Contains, IfSome, slice_get, ℕ, true, false, List, Option, Some, None}
 use Rattle.sva_step.specs.Limits
 use Rattle.sva_step.specs.declared.limits.Config.{Config}

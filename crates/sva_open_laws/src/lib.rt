@@ -23,9 +23,9 @@ pub fn closed_is_safe()
     ensures enough { SafeSaysEnough }
 {}
 
-/// A run of both worlds side by side: behind a mapping that is asked for, behind its unmapping and the invalidation that
-/// is sent, behind the answer that frees the frame, and behind a second mapping of the frame, the acts of the open world
-/// leave what the steps of the closed one do.
+/// A run of both worlds side by side: behind a mapping that is asked for, behind its unmapping and the invalidation
+/// that is sent, behind the answer that frees the frame, behind a second mapping of the frame, and behind a reset of
+/// the endpoint, the acts of the open world leave what the steps of the closed one do.
 pub fn runs_beside()
     ensures { RunsBeside }
 {}

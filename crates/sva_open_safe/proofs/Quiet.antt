@@ -182,6 +182,11 @@ one_of : (present : Bool) (u : Wrong) → present ≡ (quiet (wrongs.if_so (not 
 one_of true u = refl
 one_of false u = refl
 
+downward : (is_gone present : Bool) (u : Wrong)
+    → is_gone || present ≡ (quiet (if is_gone then None else wrongs.if_so (not present) u) && true) && true
+downward true present u = refl
+downward false present u = one_of present u
+
 upward : (is_open present : Bool) (u : Wrong)
     → not is_open || present ≡ (quiet (if is_open then wrongs.if_so (not present) u else None) && true) && true
 upward true present u = one_of present u
@@ -276,14 +281,14 @@ quiet_message now e part one it =
 
 pub right : (now : Open) (e : ℕ) (part : Part) (one : Sent) (it : Message)
     → is_right now.settings now.frames part one it ≡ quiet_message now e part one it
-right now e part one (message.Start pasid) = one_of (is_present part pasid one.owner) _
-right now e part one (message.Stop pasid) = one_of (is_present part pasid one.owner) _
+right now e part one (message.Start pasid) = downward part.is_gone (is_present part pasid one.owner) _
+right now e part one (message.Stop pasid) = downward part.is_gone (is_present part pasid one.owner) _
 right now e part one message.Reset = refl
 right now e part one (message.Completion tag page None) = completed now e part one tag page None (slice_get part.requests tag)
 right now e part one (message.Completion tag page (Some target)) = completed now e part one tag page (Some target) (slice_get part.requests tag)
 right now e part one (message.Invalidate itag scope) = refl
 right now e part one (message.Response index fails filed) =
-    answered now.settings.allows_no_group e index filed one.number (slice_get part.groups index)
+    answered (wrongs.may_find_none now.settings part) e index filed one.number (slice_get part.groups index)
 right now e part one (message.Request tag pasid page) = refl
 right now e part one (message.Invalidated itag) = refl
 right now e part one (message.PageRequest request) = upward part.is_open (is_present part request.pasid one.owner) _

@@ -182,11 +182,11 @@ no_group (Some group) h = absurd (cc)
 
 none_ended : (settings : Settings) (part : Part) (index : ℕ) → ends_none settings part index ≡ true → EndsNone settings part index
 none_ended settings part index h =
-    let each = and_parts settings.allows_no_group _ h in
+    let each = and_parts (settings.allows_no_group || part.is_gone) _ h in
     record { allowed = each.0; none = no_group (group_at (slice_get part.groups index)) each.1 }
 
 none_ended_by : (settings : Settings) (part : Part) (index : ℕ) → EndsNone settings part index → ends_none settings part index ≡ true
-none_ended_by settings part index e = and_from settings.allows_no_group _ e.allowed (ap is_none e.none)
+none_ended_by settings part index e = and_from (settings.allows_no_group || part.is_gone) _ e.allowed (ap is_none e.none)
 
 either : (a b : Bool) → a || b ≡ true → (a ≡ true) ⊎ (b ≡ true)
 either true b h = inl refl
@@ -208,8 +208,8 @@ responds_by settings part one index filed (inr r) = or_by _ _ (λ k. none_ended_
 
 right : (settings : Settings) (frames : List Tenure) (part : Part) (one : Sent) (it : Message)
     → is_right settings frames part one it ≡ true → IsRight settings frames part one it
-right settings frames part one (message.Start pasid) h = present part pasid one.owner h
-right settings frames part one (message.Stop pasid) h = present part pasid one.owner h
+right settings frames part one (message.Start pasid) h = λ k. present part pasid one.owner (other part.is_gone _ h k)
+right settings frames part one (message.Stop pasid) h = λ k. present part pasid one.owner (other part.is_gone _ h k)
 right settings frames part one message.Reset h = tt
 right settings frames part one (message.Completion tag page target) h =
     λ request is. its_own frames part one page target request (sym (ap (is_its_own frames part one page target) is) ∙ h)
@@ -225,8 +225,8 @@ right settings frames part one message.ResetDone h = tt
 
 is_right_by : (settings : Settings) (frames : List Tenure) (part : Part) (one : Sent) (it : Message)
     → IsRight settings frames part one it → is_right settings frames part one it ≡ true
-is_right_by settings frames part one (message.Start pasid) r = is_present_by part pasid one.owner r
-is_right_by settings frames part one (message.Stop pasid) r = is_present_by part pasid one.owner r
+is_right_by settings frames part one (message.Start pasid) r = or_by part.is_gone _ (λ k. is_present_by part pasid one.owner (r k))
+is_right_by settings frames part one (message.Stop pasid) r = or_by part.is_gone _ (λ k. is_present_by part pasid one.owner (r k))
 is_right_by settings frames part one message.Reset r = refl
 is_right_by settings frames part one (message.Completion tag page target) r = is_its_own_by frames part one page target (slice_get part.requests tag) r
 is_right_by settings frames part one (message.Invalidate itag scope) r = refl

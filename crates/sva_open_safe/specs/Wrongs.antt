@@ -115,10 +115,14 @@ request_left part endpoint (Some request) =
 abbrev pub upward_left : Part → (endpoint : ℕ) → Thing → (pasid owner : ℕ) → Option Wrong
 upward_left part endpoint what pasid owner = if part.is_open then left_of part endpoint what pasid owner else None
 
+-- and what flies to an endpoint that is gone, there
+abbrev pub downward_left : Part → (endpoint : ℕ) → Thing → (pasid owner : ℕ) → Option Wrong
+downward_left part endpoint what pasid owner = if part.is_gone then None else left_of part endpoint what pasid owner
+
 -- a message of this kind
 abbrev pub message_left : Part → (endpoint : ℕ) → Thing → (owner : ℕ) → Message → Option Wrong
-message_left part endpoint thing.Start owner (message.Start pasid) = left_of part endpoint thing.Start pasid owner
-message_left part endpoint thing.Stop owner (message.Stop pasid) = left_of part endpoint thing.Stop pasid owner
+message_left part endpoint thing.Start owner (message.Start pasid) = downward_left part endpoint thing.Start pasid owner
+message_left part endpoint thing.Stop owner (message.Stop pasid) = downward_left part endpoint thing.Stop pasid owner
 message_left part endpoint thing.PageRequest owner (message.PageRequest request) =
     upward_left part endpoint thing.PageRequest request.pasid owner
 message_left part endpoint thing.Marker owner (message.Marker pasid) =
@@ -234,7 +238,7 @@ walks settings freed domains endpoint part =
 
 -- ---- Messages
 
--- where the platform allows that a response finds no group, nothing is wrong with one that finds none
+-- where a response may find no group, nothing is wrong with one that finds none
 abbrev pub group_met : (allows_none : Bool) → (endpoint index : ℕ) → (filed : Bool) → (number : ℕ) → Option (Option Group) → Option Wrong
 group_met allows endpoint index filed number None = if_so (not allows) (wrong.NoGroup endpoint index)
 group_met allows endpoint index filed number (Some None) = if_so (not allows) (wrong.NoGroup endpoint index)
@@ -243,9 +247,13 @@ group_met allows endpoint index filed number (Some (Some group)) =
     then if_so (not group.is_finished) (wrong.Unfinished endpoint index)
     else Some (wrong.OtherGroup endpoint index)
 
+-- it may where the platform allows that, and where the endpoint is gone
+abbrev pub may_find_none : Settings → Part → Bool
+may_find_none settings part = settings.allows_no_group || part.is_gone
+
 abbrev pub response_met : Settings → Part → (endpoint number : ℕ) → Message → Option Wrong
 response_met settings part endpoint number (message.Response index fails filed) =
-    group_met settings.allows_no_group endpoint index filed number (slice_get part.groups index)
+    group_met (may_find_none settings part) endpoint index filed number (slice_get part.groups index)
 response_met settings part endpoint number _ = None
 
 abbrev pub one_met : Settings → Part → (endpoint : ℕ) → Sent → Option Wrong

@@ -108,12 +108,19 @@ fn both(one: bool, other: bool) -> bool
     one && other
 }
 
+/// Whether nothing is wrong with a response that finds no group.
+fn may_find_none(settings: &Settings, part: &Part) -> bool
+    ensures { result ≡ wrongs.may_find_none settings.now part.now }
+{
+    settings.allows_no_group || part.is_gone
+}
+
 fn one_met(settings: &Settings, part: &Part, endpoint: usize, sent: Sent) -> Option<Wrong>
     ensures { result ≡ wrongs.one_met settings.now part.now endpoint sent }
 {
     match sent.message {
         Message::Response { index, filed, .. } => group_met(
-            settings.allows_no_group,
+            may_find_none(settings, part),
             endpoint,
             index,
             filed,

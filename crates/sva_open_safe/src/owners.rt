@@ -75,14 +75,33 @@ fn upward_left(
     }
 }
 
+/// Of a message that is dropped where the endpoint is gone.
+fn downward_left(
+    part: &Part,
+    endpoint: usize,
+    thing: Thing,
+    pasid: usize,
+    owner: u64,
+) -> Option<Wrong>
+    ensures { result ≡ wrongs.downward_left part.now endpoint thing pasid owner }
+{
+    if part.is_gone {
+        None
+    } else {
+        left_of(part, endpoint, thing, pasid, owner)
+    }
+}
+
 fn one_left(part: &Part, endpoint: usize, thing: Thing, sent: Sent) -> Option<Wrong>
     ensures { result ≡ wrongs.one_left part.now endpoint thing sent }
 {
     match (thing, sent.message) {
-        (Thing::Start, Message::Start { pasid }) => left_of(
+        (Thing::Start, Message::Start { pasid }) => downward_left(
             part, endpoint, thing, pasid, sent.owner,
         ),
-        (Thing::Stop, Message::Stop { pasid }) => left_of(part, endpoint, thing, pasid, sent.owner),
+        (Thing::Stop, Message::Stop { pasid }) => downward_left(
+            part, endpoint, thing, pasid, sent.owner,
+        ),
         (Thing::PageRequest, Message::PageRequest(request)) => upward_left(
             part,
             endpoint,

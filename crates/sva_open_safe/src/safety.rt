@@ -107,11 +107,11 @@ fn has_no_group(part: &Part, index: usize) -> bool
     }
 }
 
-/// Whether a response ends no group, and the platform allows that.
+/// Whether a response ends no group, and the platform allows that, or the endpoint is gone.
 fn ends_none(settings: &Settings, part: &Part, index: usize) -> bool
     ensures { result ≡ check.ends_none settings.now part.now index }
 {
-    settings.allows_no_group && has_no_group(part, index)
+    (settings.allows_no_group || part.is_gone) && has_no_group(part, index)
 }
 
 /// Whether a message in flight would be taken for what it is of.
@@ -119,8 +119,8 @@ fn is_right(settings: &Settings, frames: &[Tenure], part: &Part, one: &Sent) -> 
     ensures { result ≡ check.is_right_sent settings.now frames.now part.now one.now }
 {
     match &one.message {
-        Message::Start { pasid } => is_present(part, *pasid, one.owner),
-        Message::Stop { pasid } => is_present(part, *pasid, one.owner),
+        Message::Start { pasid } => part.is_gone || is_present(part, *pasid, one.owner),
+        Message::Stop { pasid } => part.is_gone || is_present(part, *pasid, one.owner),
         Message::Completion { tag, page, target } => {
             is_its_own(frames, part, one, *tag, *page, target)
         }

@@ -15,7 +15,7 @@ use Rattle.sva_race_reports.specs.Explored.{IsExplored as IsRaceExplored}
 use Rattle.sva_race_reports.specs.declared.searching.Explored.{Explored}
 use Rattle.sva_race_reports.proofs.Fronts.{says_other}
 use Rattle.sva_why.specs.Why.{why_of}
-use Rattle.sva_judge.specs.Verdicts.{IsJudged as IsDriverJudged}
+use Rattle.sva_judge.specs.Verdicts.{AreMomentsApart, IsJudged as IsDriverJudged}
 use Rattle.sva_open.specs.declared.drivers.Driver.{Driver}
 use Rattle.sva_judge.specs.declared.verdicts.Verdict as judge
 use Rattle.sva_judge.specs.declared.verdicts.Verdict.TheVariants as verdict
@@ -79,9 +79,18 @@ module _ (share most : ℕ) (less : share ≤ most) where
 
   -- ---- Drivers
 
+  larger_moments : (driver : Driver) (moments : ℕ) → AreMomentsApart driver share moments → AreMomentsApart driver most moments
+  larger_moments driver moments h = record {
+    counts = h.counts;
+    count = h.count;
+    each = λ endpoint count at. let its = h.each endpoint count at in (its.0, its.1, its.2, larger_count count its.3);
+    sum = h.sum;
+  }
+
   larger_verdict : (driver : Driver) (verdict : judge.Verdict) → true ≡ is_ended (Some (ruling_of verdict)) → IsDriverJudged driver share verdict
       → IsDriverJudged driver most verdict
   larger_verdict driver (verdict.Safe moments looked) ended h = (h.0, h.1, h.2, larger_count moments h.3, h.4)
+  larger_verdict driver (verdict.SafeApart moments looked) ended h = (h.0, h.1, larger_moments driver moments h.2, h.3)
   larger_verdict driver (verdict.Unsafe witness) ended h = h
   larger_verdict driver (verdict.Stuck witness moments) ended h = (h.0, h.1, h.2, h.3, larger_count moments h.4)
   larger_verdict driver (verdict.CutOff moments events) ended h = absurd (cc ended)

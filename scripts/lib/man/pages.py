@@ -24,7 +24,8 @@ SAID = {
 SORTS = {
     "heading": "Lines", "step": "Steps", "delivery": "Deliveries", "counts": "The last line", "place": "Letters",
     "sign": "Signs", "kind": "Kinds of message", "claim": "Claims", "joint": "Between atoms", "atom": "Atoms",
-    "part": "What a device may do", "setting": "Settings", "act": "Acts", "condition": "Conditions",
+    "part": "What a device may do", "body": "Definitions and repeats", "setting": "Settings", "act": "Acts",
+    "condition": "Conditions",
     "descriptor": "Descriptors", "answer": "Answers", "refused": "Refusals", "refusal": "Refusals", "cause": "Causes of line faults",
 }
 # An example's report is cut behind so many lines.

@@ -70,6 +70,8 @@ sva_driver_words: takes_endpoint = act=E
 sva_driver_words: of_endpoint = act=E but one
 sva_driver_words: takes_pasid = act=E_P
 sva_driver_words: of_pasid = act=E_P but one
+sva_driver_words: turns = act=E_on|off
+sva_driver_words: control_of = act=E_on|off but one
 sva_driver_words: takes_page = act=E_P_PAGE
 sva_driver_words: of_page = act=E_P_PAGE but one
 sva_driver_words: table_line entry_line = 'none'
@@ -85,16 +87,17 @@ sva_driver_words: ACT_WORDS act_words = act
 sva_driver_words: sets_flag = act=NAME - 'await'
 sva_driver_words: set_line = act=NAME - 'await' but one
 sva_driver_words: is_condition_word CONDITION_WORDS condition_words = act.if + condition
-sva_driver_words: condition_at = condition
+sva_driver_words: condition_at+gone_failed_or_flag_at = condition
 sva_driver_words: looked flag_place = act.if
 sva_driver_words: names_flag = 'if'
 sva_driver_words: SETTING_WORDS setting_words = setting
 sva_driver_words: PLATFORM_WORDS platform_words = setting.platform
-sva_driver_words: BEFORE_WORDS before_words = heading/d - 'config' - 'thread' - 'end'
-sva_driver_words: BEHIND_WORDS behind_words = heading/d - 'config' - 'race' - 'end'
+sva_driver_words: BEFORE_WORDS before_words = heading/d - 'config' - 'thread' - 'end' + body
+sva_driver_words: BEHIND_WORDS behind_words = heading/d - 'config' - 'race' - 'end' + body
 sva_driver_words: MORE_KINDS more_kind_words = kind/d - kind/s
 sva_driver_words: access_at access_text = 'r' + 'w'
 sva_driver_words: asked_at = place.A
+sva_driver_words: on_at = 'on' + 'off'
 sva_driver_words: last_at last_text = place.L
 sva_driver_words: fails_at = place.CODE
 sva_driver_words: code_text = place.CODE but one
@@ -102,8 +105,8 @@ sva_driver_words: kind_at+kind_up_at kind_text = kind/d
 sva_driver_words: fault_line = 'new'
 sva_driver_words: is_lock_word = act=L
 sva_driver_words: lock_said = act=L but one
-sva_driver_words: read_plain+read_other+read_saying plain_by+other_by+saying_by = act - act=E - act=E_P - act=E_P_PAGE - act=L - act=NAME + 'await'
-sva_driver_words: link_words+put_pairs+put_unpaired+put_platform+pairs_text+unpaired_text+platform_text+stopped_words = 'with' + setting - 'platform' + setting.* - 'vt-d'
+sva_driver_words: read_plain+read_other+read_own+read_saying plain_by+other_by+own_by+saying_by = act - act=E - act=E_P - act=E_P_PAGE - act=E_on|off - act=L - act=NAME + 'await'
+sva_driver_words: link_words+put_pairs+put_unpaired+put_platform+pairs_text+unpaired_text+platform_text+stopped_words+timeouts_words = 'with' + setting - 'platform' + setting.* - 'vt-d' - 'kept'
 sva_driver_texts: counted = part/d@budget
 sva_driver_texts: is_flag = part/d - part/d@budget - 'pages'
 sva_driver_texts: set_flag flagged = part/d - part/d@budget - 'pages' but one
@@ -112,9 +115,15 @@ sva_driver_texts: ACTS = act
 sva_driver_texts: take_setting set_line = 'platform'
 sva_driver_texts: take_other other_line+other_behind begins_other = heading/d - 'config' - 'else' - 'end'
 sva_driver_texts: is_awaited_word = !/d - !/r
-sva_driver_texts: IF note_block with_block open_text branch_line = 'if'
+sva_driver_texts: IF note_block with_block note_wrong_block with_wrong_block ifs_behind is_if open_text branch_line = 'if'
 sva_driver_texts: branch branched = 'else'
-sva_driver_texts: is_end = 'end'
+sva_driver_texts: is_end is_bare_end = 'end'
+sva_driver_texts: begins_own = body
+sva_driver_texts: is_outside = heading/d - 'config' - 'else' - 'end'
+sva_driver_texts: own_wrong take_own own_taken = body but one
+sva_driver_texts: call called_by = 'call'
+sva_driver_texts: end_by ended_by = 'repeat'
+sva_driver_texts: put_unended unended_at = 'def' + 'repeat'
 sva_driver_texts: begins_branch = 'else' + 'end'
 sva_driver_texts: is_of_endpoint = act@endpoint
 sva_driver_texts: is_of_unit = act@unit
@@ -127,12 +136,14 @@ sva_driver_texts: waits_set = setting.waits
 sva_driver_texts: drain_set = setting.drain
 sva_driver_texts: caches_set = setting.caches
 sva_driver_texts: stopped_set = setting.stopped
+sva_driver_texts: enables_set = setting.enables
+sva_driver_texts: timeouts_set = setting.timeouts
 sva_driver_texts: refuses_set = setting.refuses
 sva_driver_texts: allow_set = setting.allow
 sva_driver_texts: set+set_other = setting but one
 sva_driver_texts: with_code = place.CODE
-sva_driver_reports/fronts: link_text+stopped_text+put_pairs+put_unpaired = setting - 'platform' + setting.% - 'vt-d'
-sva_driver_reports/Witness: link_text+stopped_text+pairs_text+unpaired_text = setting - 'platform' + setting.% - 'vt-d'
+sva_driver_reports/fronts: link_text+stopped_text+timeouts_text+put_pairs+put_unpaired = setting - 'platform' + setting.% - 'vt-d'
+sva_driver_reports/Witness: link_text+stopped_text+timeouts_text+pairs_text+unpaired_text = setting - 'platform' + setting.% - 'vt-d'
 sva_driver_reports: put_workers_line workers_line = 'workers' + 'success' + 'failure'
 sva_driver_reports: put_conduct_line conduct_line = 'device' + 'lies' + 'awaits'
 sva_driver_reports/events: * = act@endpoint + act@unit + act@link + 'serve' + 'respond' + 'new'
@@ -161,6 +172,8 @@ sva_driver_words: words_of wanted_text: Waits = setting.waits
 sva_driver_words: words_of wanted_text: Drain = setting.drain
 sva_driver_words: words_of wanted_text: Caches = setting.caches
 sva_driver_words: words_of wanted_text: Stopped = setting.stopped
+sva_driver_words: words_of wanted_text: Enables = setting.enables
+sva_driver_words: words_of wanted_text: Timeouts = setting.timeouts
 sva_driver_words: words_of wanted_text: Refused = setting.refuses
 sva_driver_words: words_of wanted_text: Allowed = setting.allow
 sva_driver_words: words_of wanted_text: Freed = act.free
@@ -168,6 +181,7 @@ sva_driver_words: words_of wanted_text: SpaceOrNone|FrameOrNone = 'none'
 sva_driver_words: words_of wanted_text: Access = 'r' + 'w'
 sva_driver_words: words_of wanted_text: Asked = place.A
 sva_driver_words: words_of wanted_text: GroupOrNew = 'new'
+sva_driver_words: words_of wanted_text: OnOrOff = 'on' + 'off'
 sva_driver_words: words_of wanted_text: MoreOrLast = place.L
 sva_driver_words: words_of wanted_text: Code = place.CODE
 sva_driver_words: words_of wanted_text: Descriptor = descriptor
@@ -183,7 +197,7 @@ sva_driver_words: submit_words submit_text: DrainOrPlus = 'drain' + '+'
 """
 
 SAYINGS, NEARS = "crates/sva_driver_words/src/sayings.rt", "crates/sva_driver_words/src/nears.rt"
-LINES = [f"crates/sva_driver_words/src/{name}.rt" for name in ("acts", "awaits", "descriptors", "others", "sayings", "branches", "locks")]
+LINES = [f"crates/sva_driver_words/src/{name}.rt" for name in ("acts", "awaits", "descriptors", "others", "sayings", "branches", "locks", "controls", "timeouts")]
 
 
 def texts_here(path):
@@ -364,6 +378,7 @@ def in_told():
     scripts, drivers = "docs/SCRIPTS.md", "docs/DRIVERS.md"
     wanted = [it for crate in ("driver_words", "race_texts", "script_reading") for name in ("submit_text", "place_text", "branch_text", "wanted_text")
               for it in told_in(f"crates/sva_{crate}/specs/Faults.antt", name)]
+    wanted += told_in("crates/sva_driver_words/specs/Written.antt", "written_text")
     needs = [it.removeprefix(": ") for it in told_in("crates/sva_driver_words/specs/Needs.antt", "need_text")]
     for path, *part in ((scripts, "### Lines that are wrong", "### What the host"), (scripts, "### Wrong lines of a race", "### The report"),
                         (drivers, "### Wrong lines of a driver", "Behind `an act that")):

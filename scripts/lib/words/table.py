@@ -5,7 +5,7 @@ import itertools
 import re
 
 TABLE = "docs/words"
-SORTS = """heading step delivery counts place sign kind claim joint atom part setting act condition descriptor answer refused refusal
+SORTS = """heading body step delivery counts place sign kind claim joint atom part setting act condition descriptor answer refused refusal
     cause command""".split()
 WORD = re.compile(r"--[a-z]+|[a-z][a-z-]*")
 

@@ -85,12 +85,13 @@ def forms_in_text(text, part, rows, language, table):
 
 
 def forms_in_help(text, part, rows, others, table):
-    """The forms that a part of the help has: at the beginning of lines, in backticks, and with another word `for` some of a
-    form's. One of no row, nor of others, has a `?`; so has a row of which not all words stand there, where it has one of several."""
+    """The forms that a part of the help has: at the beginning of lines, in backticks, where it is of several words or a
+    condition, and with another word `for` some of a form's. One of no row, nor of others, has a `?`; so has a row of which not all words stand there, where it has one of several."""
     start, stop = section(text, *part)
     said, choices = {}, {it.first: it.words for it in table.of("place")}
+    alone = {row.form for row in rows if row.sort == "condition"}
     for it in re.finditer(r"^    (\S+(?: \S+)*)((?:  .*)?\n(?: {20,}.*\n)*)", text[start:stop], re.M):
-        forms = it[1].split(", ") + [way for way in re.findall(r"`(?:NAME: )?([^`]+)`", it[2]) if " " in way]
+        forms = it[1].split(", ") + [way for way in re.findall(r"`(?:NAME: )?([^`]+)`", it[2]) if " " in way or way in alone]
         forms += [it[1].removesuffix(old) + word for word, old in re.findall(r"`(\w+)` for ([\w ]+):", it[2])]
         for form in forms:
             fit = [row for row in rows if is_one_of(form, row, table)]

@@ -1,8 +1,10 @@
 """Branches of a driver: in which blocks a line stands, with which line a thread goes on behind it, and what an `if` finds
 (docs/FORMAT.md, section 15, "Branches")."""
 
+import timeouts
+
 # by scripts/words --write: condition
-CONDITIONS = """present stopped filed queued""".split()
+CONDITIONS = """present stopped filed queued gone failed""".split()
 
 
 def is_of_block(words):
@@ -42,8 +44,8 @@ def link(nodes, behind=None, under=()):
     for line, yes, no in reversed(nodes):
         line.under, line.next, line.other = under, behind, behind
         if line.words[0] == 'if':
-            line.next = link(yes, behind, under + ((line.number, True),))
-            line.other = link(no, behind, under + ((line.number, False),))
+            line.next = link(yes, behind, under + ((line.index, True),))
+            line.other = link(no, behind, under + ((line.index, False),))
         behind = line
     return behind
 
@@ -59,6 +61,10 @@ def is_met(world, words):
     if what not in CONDITIONS:
         return what in world.flags
     port = world.ports[words[1]]
+    if what == 'failed':
+        return timeouts.has_failed(port, pasid)
+    if what == 'gone':
+        return port.gone
     if what == 'present':
         return pasid in port.entry
     if what == 'stopped':
@@ -68,11 +74,11 @@ def is_met(world, words):
 
 
 def finds(world, words):
-    """Whether an `if` goes on in its first branch."""
+    """Whether an `if` that looks at this goes on in its first branch."""
     is_not = words[1] == 'not'
     return is_met(world, words[2:] if is_not else words[1:]) != is_not
 
 
 def goes_on(world, line):
     """The line with which the thread goes on behind a line, or None."""
-    return line.next if line.words[0] != 'if' or finds(world, line.words) else line.other
+    return line.next if line.words[0] != 'if' or finds(world, line.looks) else line.other

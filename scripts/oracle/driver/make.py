@@ -3,7 +3,11 @@
 import pathlib
 
 import search
+import written
 from branches import is_of_block
+from make_controls import act_of_controls, make_controls
+from make_timeouts import make_timeouts
+from make_written import folded
 from make_branches import Blocks, branched, make_looks, mend, taken_in_block, with_branches
 from reading import CODES, KINDS, Driver, need
 from world import Settings
@@ -12,7 +16,7 @@ EXAMPLES = sorted(pathlib.Path(__file__).parents[3].glob('examples/judge/**/*.sv
 
 PAGES, PASIDS, SPACES = (16, 16, 17, 18, '0x10', '0x11'), (1, 1, 1, 1, 2, 0), (0, 0, 0, 1)
 # by scripts/words --write: act.await
-AWAITED = set("""wait stopped queue groups reset""".split())
+AWAITED = set("""wait stopped queue groups reset idle gone""".split())
 
 
 class Maker:
@@ -35,13 +39,16 @@ class Maker:
         found = [f'platform {self.one("vt-d", "vt-d", "free")}'] if self.chance(0.2) else []
         found += [s for s in pairs if s and self.chance(0.35)]
         found += [self.one('stopped status', 'stopped known')] if self.chance(0.5) else []
-        return found + [s for s, p in (('refuses drain', .15), ('allow no-group', .2)) if self.chance(p)]
+        chances = (('refuses drain', .15), ('allow no-group', .2), ('enables cleared', .1),
+                   (f'timeouts {self.one("on", "stop")}', .12))
+        return found + [s for s, p in chances if self.chance(p)]
 
     def devices(self):
         found = []
         for e in range(self.ends):
             parts = [f'{self.budget()} {what}' for what in ('asks', 'uses', 'faults') if self.chance(0.45)]
-            parts += [word for word, p in (('evicts', .12), ('silent', .12), ('lies', .15), ('awaits', .3))
+            parts += [word for word, p in (('evicts', .12), ('silent', .12), ('lies', .15), ('awaits', .3),
+                                           ('leaves', .06))
                       if self.chance(p)]
             parts += [f'pages {self.page()}'] if self.chance(0.15) else []
             if parts:
@@ -98,7 +105,7 @@ class Maker:
             f'free {self.rng.randrange(2)}',
             f'freeze {self.rng.randrange(2)}', f'free pasid {p} {e}', f'free space {self.one(0, 1)}', f'serve {e}',
             f'respond {e} {p} {self.one(0, 0, 1)} {self.one(*CODES)}', f'close {e}', f'open {e}',
-            self.one('lock l', 'unlock l'))
+            self.one('lock l', 'unlock l'), act_of_controls(self), f'resume {e}')
 
     def other(self):
         """One act of an endpoint, a unit or the link."""
@@ -108,7 +115,7 @@ class Maker:
         return self.one(
             f'ask {e} {p} {page}', f'ask {e} {p} {page}', f'use {e} {p} {page}', f'evict {e} {p} {page}', f'end {e}{n}',
             f'finish {e}{n}', f'quit {e} {p}', f'pump {e}', f'pump {e}', f'write {e}',
-            f'forget {e} {p}' + self.one('', f' {page}'),
+            f'forget {e} {p}' + self.one('', f' {page}'), f'expire {e} {self.one(0, 0, 1)}',
             f'fault {e} {p} {page} {self.one("r", "w", "rw")} {self.one("new", "new", 0)} {self.one("more", "last")}',
             *[f'deliver {kind} {e}{n}'] * 6)
 
@@ -223,9 +230,7 @@ def name_one(m, lines, name):
 
 def make_mutant(rng):
     """An example with up to four lines left out, doubled, moved, changed or added, and other settings."""
-    text = rng.choice(EXAMPLES).read_text(encoding='utf-8')
-    lines = [x.split('#')[0].strip() for x in text.split('\n')]
-    lines = [x for x in lines if x]
+    lines = [' '.join(words) for _, words in written.out(rng.choice(EXAMPLES).read_text(encoding='utf-8'))]
     m = Maker(rng)
     m.ends = int(lines[0].split()[1])
     settings = ('platform', *Settings.pairs, *Settings.flags)
@@ -347,9 +352,47 @@ def make_groups(rng):
     return '\n'.join(text) + '\n'
 
 
+def make_apart(rng):
+    """One thread that goes through two endpoints, or leaves one out; of which one may hold a translation, or ask."""
+    m = Maker(rng)
+    m.ends = 2
+    text = ['config 2 4 1'] + m.settings()
+    text += [f'device {e} 1 asks{m.one("", " evicts")} pages 16' for e in m.one((), (0,), (1,), (0, 1))]
+    text += ['pte 0 16 0 w'] + [x for e in (0, 1) for x in (f'entry {e} 1 0', f'start {e} 1', f'deliver start {e}')]
+    text += [f'{act} {e}{page}' for e in m.one((), (0,), (1,), (0, 1))
+             for act, page in (('ask', ' 1 16'), ('deliver request', ''), ('deliver completion', ''))]
+    early = m.one([], [], ['early: submit 1 wait'])
+    lines = ['pte 0 16 none']
+    for e in m.one((0, 1), (1, 0), (0, 1), (0,), (1,)):
+        lines += [f'submit {e} range 1 16 0 + wait'] + [f'await wait {e}'] * m.chance(0.8)
+    lines += ['await early'] * len(early) + ['free 0']
+    lines = m.one(lines, lines, ['lock a'] + lines + ['unlock a'], ['if f', 'mark', 'end'] + lines)
+    lines = [x for x in lines if x in ('if f', 'end') or m.chance(0.95)]
+    other = ['thread b', 'mark'] * m.chance(0.15)
+    return '\n'.join(text + early + ['race'] + mend(lines) + other) + '\n'
+
+
 def make_any(rng):
-    made = rng.choice((make_mutant, make_mutant, make_driver, make_driver, make_groups, make_looks, make_looks))
-    return made(Maker(rng) if made is make_looks else rng)
+    made = rng.choice((make_mutant, make_mutant, make_driver, make_driver, make_groups, make_looks, make_looks,
+                       make_controls, make_apart, make_timeouts))
+    text = made(Maker(rng) if made in (make_looks, make_controls, make_timeouts) else rng)
+    return folded(Maker(rng), text) if rng.random() < 0.12 else text
+
+
+def small(theme):
+    """What makes small drivers in which something is turned on and off."""
+    return lambda rng: make_controls(Maker(rng), theme)
+
+
+def timed(theme):
+    """What makes small drivers in which an invalidation may run out of time."""
+    return lambda rng: make_timeouts(Maker(rng), theme)
+
+
+def make_written(rng):
+    """Small drivers with definitions and repeats."""
+    m = Maker(rng)
+    return folded(m, make_controls(m))
 
 
 class Lister:
@@ -367,7 +410,7 @@ class Lister:
     def try_act(self, text, last=False):
         self.driver.read(0, text.split())
         line = self.driver.lines.pop()
-        line.number = len(self.lines)
+        line.serial = len(self.lines)
         if last:
             self.lines.append(text)
         elif need(self.driver, self.world, line.words, line) is None:

@@ -94,7 +94,7 @@ def taken_in_block(m, head, lines):
     moment, _, ended = search.before_race(Driver('\n'.join(head + lines[:i])))
     if ended:
         return lines
-    if branches.finds(moment, Driver('\n'.join(head + [line, 'end'])).lines[0].words):
+    if branches.finds(moment, Driver('\n'.join(head + [line, 'end'])).lines[0].looks):
         other = m.one([], ['else'] + some(m, 2))
         return lines[:i] + [line] + lines[i:k] + other + ['end'] + lines[k:]
     return lines[:i] + [line] + some(m, 2) + ['else'] + lines[i:k] + ['end'] + lines[k:]

@@ -87,7 +87,7 @@ def no_event(old):
 def waits(old):
     """An `if` waits until it finds what it has to."""
     def need(driver, world, words, line=None):
-        if words[0] == 'if' and not branches.finds(world, words):
+        if words[0] == 'if' and not branches.finds(world, line.looks):
             return 'await wait'
         return old(driver, world, words, line)
     return need
@@ -114,8 +114,8 @@ def linked(yes_first, no_first):
             for line, yes, no in reversed(nodes):
                 line.under, line.next, line.other = under, behind, behind
                 if line.words[0] == 'if':
-                    line.other = link(no, no_first(behind), under + ((line.number, False),)) if no else behind
-                    line.next = yes_first(link, yes, line.other, behind, under + ((line.number, True),))
+                    line.other = link(no, no_first(behind), under + ((line.index, False),)) if no else behind
+                    line.next = yes_first(link, yes, line.other, behind, under + ((line.index, True),))
                 behind = line
             return behind
         return link

@@ -269,4 +269,6 @@ OF_DRIVERS = [
     Reading('no use is ever told', search, 'shows', never_shows('use')),
     Reading('no page request is ever told', search, 'shows', never_shows('page request')),
     Reading('no translation leads to a frame', search, 'shows', never_shows('frame')),
+    Reading('each line is taken', report, 'untaken', lambda old: lambda driver, shown: []),
+    Reading('no line is taken', search, 'taken_by', lambda old: lambda driver, moment, new: ()),
 ]

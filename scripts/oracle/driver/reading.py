@@ -1,6 +1,9 @@
 """Reads a driver, and says what each act needs and does (docs/FORMAT.md, section 15)."""
 import branches
+import controls
+import timeouts
 import world as w
+import written
 from world import Port, Settings, World
 
 # by scripts/words --write: kind/d
@@ -16,6 +19,7 @@ NEEDS = {
     'await queue': 'await needs an empty page request queue',
     'await queue P': 'await needs no page request of the PASID in the queue',
     'await groups': 'await needs each whole group answered',
+    'expire': 'expire needs timeouts, an open unit that can take no more, and that ITag out with no completion coming',
     'write': 'write needs a page request that the unit has received',
     'serve': 'serve needs a page request in the queue', 'lock': 'lock needs a free lock',
     'unlock': 'unlock needs a taken lock',
@@ -23,13 +27,16 @@ NEEDS = {
     'pump': 'pump needs an open unit, and a descriptor at the head that may go',
     'forget': 'forget needs the entry kept by the unit',
     'forget PAGE': 'forget needs the translation kept by the unit',
-    'ask': 'ask needs the PASID on at the endpoint',
-    'use': 'use needs the PASID on at the endpoint, and a held translation of the page',
+    'ask': 'ask needs the PASID, ATS and bus mastering on at the endpoint',
+    'use': 'use needs the PASID, ATS and bus mastering on at the endpoint, and a held translation of the page',
     'evict': 'evict needs a held translation of the page', 'end': 'end needs a use that runs',
     'finish': 'finish needs an invalidation that has come, with no older use of what it covers',
     'quit': 'quit needs a stop that has come, and no group, request or use of the PASID to end',
-    'fault new': 'fault needs the PASID on at the endpoint, and page requests enabled',
-    'fault G': 'fault needs that group of the PASID unfinished, and page requests enabled'}
+    'fault new': 'fault needs the PASID and page requests on at the endpoint, and no Response Failure since',
+    'fault G': 'fault needs that group of the PASID unfinished, and no Response Failure since page requests came on',
+    'gone': 'gone needs an endpoint that is there',
+    'await gone': 'await needs the endpoint gone, and nothing of it on its way up',
+    'await idle': 'await needs no translation request out and no use that runs'}
 
 
 WAIT_ABOVE = 'an endpoint at which a line above in this thread submits a wait'
@@ -40,16 +47,17 @@ class Line:
     """An act of the file: its number, its name, its words, its thread and its place there; with which line the thread
     goes on behind it, or the other one behind an `if`; and the branches in which it stands."""
 
-    def __init__(self, number, name, words, thread):
+    def __init__(self, number, name, words, thread, serial):
         self.number, self.name, self.words, self.thread = number, name, words, thread
-        self.index, self.awaited = 0, None
+        self.serial, self.index, self.awaited = serial, 0, None
         self.next, self.other, self.under = None, None, ()
+        self.looks = words                      # of an `if`, what it looks at; `failed` says in the file not where
 
 
 class Device:
     def __init__(self):
         self.budget, self.pages = (0, 0, 0), None
-        self.evicts = self.silent = self.lies = self.awaits = False
+        self.evicts = self.silent = self.lies = self.awaits = self.leaves = False
 
 
 class Driver:
@@ -58,20 +66,22 @@ class Driver:
     def __init__(self, text):
         self.settings, self.devices, self.workers = Settings(), {}, None
         self.threads, self.heading, self.raced, self.lines, self.items = [''], None, False, [], {'': []}
-        for number, raw in enumerate(text.split('\n'), 1):
-            words = raw.split('#')[0].split()
-            if words:
-                self.read(number, words)
+        for number, words in written.out(text):
+            self.read(number, words)
         self.by_thread = [[] for _ in self.threads]
         for line in self.lines:
             thread = self.by_thread[self.threads.index(line.thread)]
             line.index = len(thread)
             thread.append(line)
         self.wrong = []                         # (number of a line, word, what was wanted)
-        self.first = [branches.link(branches.tree(self.items[name], self.wrong)) for name in self.threads]
+        trees = [branches.tree(self.items[name], self.wrong) for name in self.threads]
+        self.first = [branches.link(nodes) for nodes in trees]
         for line in self.lines:
             self.find_awaited(line)
+        for nodes in trees:
+            timeouts.find_failed(nodes, self.wrong)
         self.named = {line.awaited[0] for line in self.lines if line.awaited}
+        self.branches = any(line.words[0] == 'if' for line in self.lines)
         self.find_pages()
 
     def read(self, number, words):
@@ -97,7 +107,7 @@ class Driver:
             self.items[self.thread_of(['if'])].append((number, first))
         else:
             name = words.pop(0)[:-1] if first.endswith(':') else None
-            line = Line(number, name, numbers(words), self.thread_of(words))
+            line = Line(number, name, numbers(words), self.thread_of(words), len(self.lines))
             self.lines.append(line)
             self.items[line.thread].append(line)
 
@@ -125,7 +135,7 @@ class Driver:
 
     def find_awaited(self, line):
         """Of `await wait E` the last line above in this thread that submitted a wait there; of a name its line."""
-        if line.words[0] != 'await' or line.words[1] in ('stopped', 'queue', 'groups', 'reset'):
+        if line.words[0] != 'await' or line.words[1] in ('stopped', 'queue', 'groups', 'reset', 'idle', 'gone'):
             return
         if line.words[1] == 'wait':
             above = [x for x in self.by_thread[self.threads.index(line.thread)][:line.index]
@@ -173,9 +183,9 @@ def numbers(words):
 def role(words):
     if words[0] == 'deliver':
         return 'link'
-    if words[0] in ('pump', 'write', 'forget'):
+    if words[0] in ('pump', 'write', 'forget', 'expire'):
         return f'unit {words[1]}'
-    if words[0] in ('ask', 'use', 'evict', 'end', 'finish', 'quit', 'fault'):
+    if words[0] in ('ask', 'use', 'evict', 'end', 'finish', 'quit', 'fault', 'gone'):
         return f'endpoint {words[1]}'
     return 'host'
 
@@ -186,7 +196,7 @@ def descriptors(line):
     for n, text in enumerate(words):
         d = numbers(text.split())
         if d[0] == 'wait':
-            found.append(('wait', 'drain' in d, 'fence' in d, (line.number, n)))
+            found.append(('wait', 'drain' in d, 'fence' in d, (line.serial, n)))
         elif d[0] == 'entry':
             found.append(('entry', d[1]))
         else:
@@ -223,14 +233,16 @@ MAY = {
     'skip': lambda d, port, device, x, line: bool(port.queue),
     'write': lambda d, port, device, x, line: bool(port.received) and len(port.received[0]) > 1,
     'serve': lambda d, port, device, x, line: bool(port.prq),
+    'expire': lambda d, port, device, x, line: timeouts.may_expire(port, x[2], d.settings, bool(line) or device.silent),
     'pump': lambda d, port, device, x, line: w.may_pump(port, d.settings),
-    'ask': lambda d, port, device, x, line: w.is_on(port, x[2]),
-    'use': lambda d, port, device, x, line: w.is_on(port, x[2]) and (x[2], x[3]) in port.held,
+    'ask': lambda d, port, device, x, line: w.may_access(port, x[2]),
+    'use': lambda d, port, device, x, line: w.may_access(port, x[2]) and (x[2], x[3]) in port.held,
     'evict': lambda d, port, device, x, line: (x[2], x[3]) in port.held,
     'end': lambda d, port, device, x, line: optional(x, 2) < len(port.uses),
     'finish': lambda d, port, device, x, line: w.may_finish(port, optional(x, 2), device.lies),
     'quit': lambda d, port, device, x, line: w.may_quit(port, x[2], device.awaits),
-    'fault': lambda d, port, device, x, line: w.may_fault(port, x[2], x[5])}
+    'fault': lambda d, port, device, x, line: w.may_fault(port, x[2], x[5]),
+    'gone': lambda d, port, device, x, line: not port.gone}
 
 
 def need(driver, world, words, line=None):
@@ -266,6 +278,10 @@ def need_of_await(driver, world, words, line):
         ok = not port.prq
     elif what == 'groups':
         ok = not any(g[3] and w.is_meant(g, optional(words, 3, None)) for g in port.filed)
+    elif what == 'idle':
+        ok = controls.is_idle(port)
+    elif what == 'gone':
+        ok = controls.is_seen_gone(port)
     else:
         ok = port.resets == 0
     return None if ok else 'await ' + what
@@ -349,3 +365,11 @@ def do_at(driver, world, port, words, line):
         w.quit(port, p, driver.settings)
     elif verb == 'fault':
         w.fault(world, port, p, words[5], words[6] == 'last')
+    elif verb in ('ats', 'pri', 'mastering'):
+        controls.turn(port, verb, p == 'on')
+    elif verb == 'gone':
+        controls.leave(port)
+    elif verb == 'expire':
+        timeouts.expire(world, port, p, driver.settings)
+    elif verb == 'resume':
+        timeouts.resume(port)

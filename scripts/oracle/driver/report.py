@@ -15,7 +15,9 @@ def below_safe(driver, shown):
     found = [within(driver, e) for e in sorted(driver.devices)]
     s = driver.settings
     found += [f'with link {s.link}, waits {s.waits}, drain {s.drain}, caches {s.caches}, stopped {s.stopped}'
-              + ', refuses drain' * ('refuses' in s.said) + ', allow no-group' * ('allow' in s.said)]
+              + ', enables cleared' * (s.enables == 'cleared')
+              + f', timeouts {s.timeouts}' * (s.timeouts != 'off') + ', refuses drain' * ('refuses' in s.said)
+              + ', allow no-group' * ('allow' in s.said)]
     others = not_asked(s)
     found += ['not asked: ' + ', '.join(others)] if others else []
     found += [line for e in sorted(driver.devices) for line in ask_not_made(driver, e)]
@@ -59,14 +61,24 @@ def nevers(driver, shown):
         if is_behind and verb in ('free', 'freeze') and isinstance(frame, int) and ('frame', frame) not in shown:
             does = 'gives away' if verb == 'free' else 'freezes'
             found.append(f'never: a translation to frame {frame}, which line {line.number} {does}, at any endpoint')
-    return found
+    return found + untaken(driver, shown)
+
+
+def untaken(driver, shown):
+    """Where lines look, those behind `race` that no list takes."""
+    left = [str(x.number) for x in driver.lines if x not in driver.by_thread[0] and ('line', x.serial) not in shown]
+    if not driver.branches or not left:
+        return []
+    if len(left) == 1:
+        return [f'never: line {left[0]} is taken']
+    return [f'never: lines {", ".join(left[:-1])} and {left[-1]} are taken']
 
 
 def within(driver, e):
     device = driver.devices[e]
     asks, uses, faults = device.budget
     text = f'within endpoint {e}: {count(asks, "ask")}, {count(uses, "use")}, {count(faults, "fault")}'
-    text += ''.join(f', {word}' for word in ('evicts', 'silent', 'lies', 'awaits') if getattr(device, word))
+    text += ''.join(f', {word}' for word in ('evicts', 'silent', 'lies', 'awaits', 'leaves') if getattr(device, word))
     if not any(device.budget):
         return text
     if not device.pasids:                       # "which needs a PASID for each of the three"

@@ -10,9 +10,13 @@ import subprocess
 import sys
 
 sys.path.insert(1, str(pathlib.Path(__file__).parents[1]))
+import apart
 import branches
+import planted_in_apart
 import planted_in_branches
+import planted_in_controls
 import planted_in_drivers
+import planted_in_timeouts
 import reading
 import search
 import trying
@@ -25,7 +29,7 @@ MOST = 300          # moments that the program looks at; of one text in twelve 2
 MOST_LISTS = 3000   # lists of events that are gone one by one
 NAMES = {'wrong': 'an act not permitted', 'leak': 'unsafe before race', 'run not': 'run not permitted'}
 HEADS = {'config', 'workers', 'device', *Settings.pairs, *Settings.flags}   # what no act begins
-STATUSES = {'safe': 0, 'unsafe': 4, 'leak': 4, 'stuck': 4, 'cut': 5, 'wrong': 1, 'right': 0}
+STATUSES = {'safe': 0, 'apart': 0, 'unsafe': 4, 'leak': 4, 'stuck': 4, 'cut': 5, 'wrong': 1, 'right': 0}
 
 
 def most_of(text):
@@ -44,6 +48,7 @@ def told(report):
     """(kind, number, text) of the first line of a report."""
     first = report.split('\n')[0]
     for kind, pattern in (('safe', rf'safe in all (\d+) moments?((?:{UNTRIED})?)$'),
+                          ('apart', rf'safe in all (\d+) moments?, endpoint by endpoint((?:{UNTRIED})?)$'),
                           ('unsafe', r'unsafe in (\d+) events?: (.*)$'),
                           ('leak', r'unsafe at line (\d+): (.*)$'),
                           ('right', r'nothing wrong in any of (\d+) events?(.*)$'),
@@ -56,7 +61,7 @@ def told(report):
     return 'strange', 0, first
 
 
-def compare(text, report):
+def compare(text, report, by_lists=True):
     """What differs, or None; and the kind of the verdict."""
     driver = Driver(text)
     if driver.wrong:
@@ -67,16 +72,15 @@ def compare(text, report):
         return compare_ended(ended, report), kind
     shown = set()
     verdict, events, texts, counts = search.search(driver, world, 2 * most_of(text), shown=shown)
+    if kind == 'apart' or apart.comes_apart(driver, world):
+        fault = compare_apart(driver, world, report, (verdict, shown), most_of(text))
+        if fault or kind == 'apart':
+            return fault, 'endpoint by endpoint'
     if verdict == 'cut' or kind == 'cut':
         return compare_cut(verdict, events, kind, number, counts), 'cut off'
-    shown_in_lists = set()
-    lists = search.search(driver, world, MOST_LISTS, merges=False, shown=shown_in_lists)
-    if lists[0] != 'cut' and (lists[0] != verdict or verdict != 'safe' and lists[1] != events):
-        return f'the lists of events, one by one, come to something else: {lists[:3]}', kind
-    if lists[0] == 'safe' and shown_in_lists != shown:
-        return f'the lists of events, one by one, show something else: {shown_in_lists ^ shown}', kind
-    if kind != verdict:
-        return f'kind: program {kind} {number} {rest}, model {verdict} {events} {texts}', kind
+    fault = compare_lists(driver, world, verdict, events, shown) if by_lists else None
+    if fault or kind != verdict:
+        return fault or f'kind: program {kind} {number} {rest}, model {verdict} {events} {texts}', kind
     if kind == 'safe':
         if (rest == '') != is_tried(shown):
             return f'program {rest}, model {sorted(shown)}', kind
@@ -87,6 +91,35 @@ def compare(text, report):
         return f'{kind}: program {number}, model {events} events', kind
     fault = compare_before(were, report.split('\n'))
     return fault or replay(driver, world, report, kind, rest), kind
+
+
+def compare_lists(driver, world, verdict, events, shown):
+    """The same by each list of events, with no visited set, where these are few."""
+    shown_in_lists = set()
+    lists = search.search(driver, world, MOST_LISTS, merges=False, shown=shown_in_lists)
+    if lists[0] != 'cut' and (lists[0] != verdict or verdict != 'safe' and lists[1] != events):
+        return f'the lists of events, one by one, come to something else: {lists[:3]}'
+    if lists[0] == 'safe' and shown_in_lists != shown:
+        return f'the lists of events, one by one, show something else: {shown_in_lists ^ shown}'
+    return None
+
+
+def compare_apart(driver, world, report, whole, most):
+    """Where each endpoint's own driver is safe, that is said, with the moments of all; and the whole is safe, and shows
+    no more."""
+    kind, number, rest = told(report)
+    if not apart.comes_apart(driver, world):
+        return 'the driver doesn\'t come apart'
+    safe, moments, shown = apart.search_apart(driver, world, 2 * most if kind == 'apart' else most // 2)
+    if kind != 'apart':
+        return f'program {kind} {number}, and each endpoint is safe' if safe else None
+    if safe is None:
+        return None
+    if not safe or whole[0] not in ('safe', 'cut') or not whole[1] <= shown:
+        return f'endpoint by endpoint {safe} {sorted(shown)}, as a whole {whole}'
+    if (rest == '') != is_tried(shown) or report.split('\n')[1:-1] != below_safe(driver, shown):
+        return f'below endpoint by endpoint: {report}, model {below_safe(driver, shown)}'
+    return None if number >= moments else f'moments: program {number}, model {moments}'
 
 
 def compare_ended(ended, report):
@@ -101,10 +134,12 @@ def compare_ended(ended, report):
 
 
 def compare_wrong(driver, report):
-    """Each line that is wrong is told as it is read, and behind all of them each block that isn't ended."""
-    ends = [each for each in driver.wrong if each[1] == 'if']
-    others = [each for each in driver.wrong if each not in ends]
-    wanted = [f"line {number}: '{word}': wanted {what}" for number, word, what in sorted(others) + sorted(ends)]
+    """Each line that is wrong is told as it is read, and behind all of them each block that isn't ended; one that is
+    written out several times is told once."""
+    ends = sorted(each for each in driver.wrong if each[1] == 'if')
+    others = sorted((each for each in driver.wrong if each not in ends), key=lambda each: each[0])
+    once = [each for n, each in enumerate(others) if each[0] not in [other[0] for other in others[:n]]]
+    wanted = [f"line {number}: '{word}': wanted {what}" for number, word, what in once + sorted(set(ends))]
     return None if report.split('\n') == wanted + [''] else f'wrong lines: program {report!r}, model {wanted}'
 
 
@@ -163,6 +198,10 @@ def replay_stuck(driver, world, lines, rest):
     if search.followers(driver, world)[1]:
         return 'stuck, but somebody must act'
     waiting = {f'{driver.threads[t]}, line {line.number}' for t, line in search.of_threads(driver, world)}
+    at_timeout = ' has stopped at a time-out'
+    stalled = {f'# unit of endpoint {e}{at_timeout}' for e, port in enumerate(world.ports) if port.stalled}
+    if stalled != {x for x in lines if x.endswith(at_timeout)}:
+        return f'stopped units: model {sorted(stalled)}'
     said = {rest} | {x[2:-len(', waits too')] for x in lines if x.endswith(', waits too')}
     return None if waiting == said else f'waits: program {said}, model {waiting}'
 
@@ -182,7 +221,8 @@ def follow(driver, world, event):
                 is_look = line.words[0] == 'if'
                 if words[:2] != line.words[:2] or (is_look or words[0] in ('set', 'clear')) and words != line.words:
                     return f'other words: {event}'
-                if is_look and event != told_of_look(f'{thread}, line {number}', line, branches.finds(world, line.words)):
+                found = is_look and branches.finds(world, line.looks)
+                if is_look and event != told_of_look(f'{thread}, line {number}', line, found):
                     return f'the other branch: {event}'
                 return search.taken(driver, world, line.words, line, t)
         return f'not the next line: {event}'
@@ -227,12 +267,12 @@ def compare_run(text, report):
     return None if report == wanted else f'run: program {report!r}, model {wanted!r}', 'right'
 
 
-def tried(program, text, is_list):
+def tried(program, text, is_list, by_lists=True):
     """What differs, or None; and the kind of the verdict."""
     if is_list:
         fault, kind = compare_run(text, ask_program(program, text, '--run'))
         return fault, 'run ' + kind
-    return compare(text, ask_program(program, text, '--most', str(most_of(text))))
+    return compare(text, ask_program(program, text, '--most', str(most_of(text))), by_lists)
 
 
 def smallest(program, text, is_list):
@@ -249,12 +289,13 @@ def smallest(program, text, is_list):
     return '\n'.join(lines)
 
 
-def trial(program, seed, is_short=True):
-    """The kind of a verdict, what is wrong with it, if something is, and the driver, made short."""
+def trial(program, seed, is_short=True, maker=None):
+    """The kind of a verdict, what is wrong with it, if something is, and the driver, made short. Where a reading is
+    planted the lists of events tell nothing more: they are gone by the same reading."""
     rng = random.Random(seed)
-    is_list = rng.random() < 0.2
-    text = make_long_list(rng) if is_list else make_any(rng)
-    fault, kind = tried(program, text, is_list)
+    is_list = not maker and rng.random() < 0.2
+    text = maker(rng) if maker else make_long_list(rng) if is_list else make_any(rng)
+    fault, kind = tried(program, text, is_list, by_lists=is_short)
     kind = NAMES.get(kind, kind)
     if not fault:
         return kind, None, None
@@ -262,4 +303,6 @@ def trial(program, seed, is_short=True):
 
 
 if __name__ == '__main__':
-    sys.exit(trying.main('drivers', trial, planted_in_branches.OF_BRANCHES + planted_in_drivers.OF_DRIVERS))
+    sys.exit(trying.main('drivers', trial, planted_in_apart.OF_APART + planted_in_controls.OF_CONTROLS
+                         + planted_in_branches.OF_BRANCHES + planted_in_timeouts.OF_TIMEOUTS
+                         + planted_in_drivers.OF_DRIVERS))

@@ -14,7 +14,8 @@ ITAGS, PLACES = 32, 64        # no other limit of MODEL, section 13, is one here
 class Settings:
     """The first word of each is the one that holds where the line is missing."""
     pairs = {'link': ('free', 'posted'), 'waits': ('fence', 'plain'), 'drain': ('empty', 'arrived'),
-             'caches': ('off', 'on'), 'stopped': ('marker', 'status', 'known')}
+             'caches': ('off', 'on'), 'stopped': ('marker', 'status', 'known'), 'enables': ('kept', 'cleared'),
+             'timeouts': ('off', 'on', 'stop')}
     platforms = {'vt-d': ('posted', 'plain', 'arrived', 'on'), 'free': ('free', 'fence', 'empty', 'off')}
     flags = {'refuses': 'drain', 'allow': 'no-group'}   # "two settings are no pair"
 
@@ -41,6 +42,9 @@ class Port:
         self.uses, self.taken = (), ()          # (slot, PASID, page, translation); (ITag, PASID, scope, slots noted)
         self.groups, self.disabled, self.budget = {}, False, budget   # index -> (PASID, group, finished)
         self.link, self.begun = (), 0           # begun: how many groups were
+        self.ats = self.pri = self.mastering = True
+        self.gone = self.stalled = False
+        self.aborted = frozenset()              # the waits that were aborted at a time-out
 
     def copy(self):
         new = Port.__new__(Port)
@@ -108,7 +112,15 @@ def place(port, kind, n):
 def deliver(world, port, i, settings):
     m = port.link[i]
     port.link = drop(port.link, i)
-    ARRIVES[m[0]](world, port, m, settings)
+    if is_lost(port, m[0]):
+        port.resets -= m[0] == 'reset'
+    else:
+        ARRIVES[m[0]](world, port, m, settings)
+
+
+def is_lost(port, kind):
+    """What goes down to an endpoint that is gone is dropped."""
+    return port.gone and kind not in UP
 
 
 def request_arrives(world, port, m, settings):
@@ -144,7 +156,10 @@ def completion_arrives(world, port, m, settings):
 
 
 def invalidate_arrives(world, port, m, settings):
-    """Taken at once: held ones go, requests out are doomed, running uses are noted (MODEL, section 11)."""
+    """Taken at once: held ones go, requests out are doomed, running uses are noted (MODEL, section 11). An endpoint
+    whose ATS is off drops it, and never answers it."""
+    if not port.ats:
+        return
     _, itag, p, scope = m
     port.held = {(q, page): tr for (q, page), tr in port.held.items() if q != p or not covers(scope, page)}
     port.tags = {tag: (q, page, doomed or q == p and covers(scope, page))
@@ -196,9 +211,17 @@ def stop_arrives(world, port, m, settings):
 
 def reset_arrives(world, port, m, settings):
     """MODEL 3.12: clears cache, tags, taken invalidations, groups, PASIDs and the disabled flag; uses are dead."""
+    forget_all(port)
+    port.disabled = False
+    port.ats = port.pri = port.mastering = settings.enables == 'kept'
+    port.link += ('reset-done',),
+
+
+def forget_all(port):
+    """Nothing is left of what an endpoint had; what it has sent may still come."""
     port.held, port.tags, port.groups, port.on = {}, {}, {}, {}
-    port.taken, port.uses, port.disabled = (), (), False
-    port.link = tuple(orphan(x) for x in port.link) + (('reset-done',),)
+    port.taken, port.uses = (), ()
+    port.link = tuple(orphan(x) for x in port.link)
 
 
 def orphan(m):
@@ -244,7 +267,7 @@ def may_pump(port, settings):
     """"A descriptor may go where an ITag is free for its invalidation; a fence, where all before it is done; and
     one with `drain`, where `drain empty` holds, once the page request queue is empty, and where `refuses drain` holds,
     never."""
-    if port.closed or not port.queue:
+    if port.closed or port.stalled or not port.queue:
         return False
     head = port.queue[0]
     if head[0] in ('range', 'pasid'):
@@ -287,7 +310,7 @@ def skip(world, port):
 def disown(port, p, new_space=None):
     """PASID p has another owner from now on: what is still there of it is of an earlier one (rule 2)."""
     port.answers -= {p}                         # "an answer to a stop that has come is dropped"
-    flying = [m[0] for m in port.link if m[0] in ('start', 'stop', 'status') and m[1] == p]
+    flying = [m[0] for m in port.link if m[0] in ('start', 'stop', 'status') and m[1] == p and not is_lost(port, m[0])]
     port.remains = [word for word, there in (
         ('held translation', any(q == p for q, _ in port.held)),
         ('running use', any(u[1] == p for u in port.uses)),
@@ -336,7 +359,7 @@ def reopen(world, port):
     """"The invalidation queue is empty, all ITags are free, all waits are done"."""
     world.undone -= {d[3] for d in port.queue if d[0] == 'wait'} | {x[0] for x in port.plain + port.received}
     port.closed, port.queue, port.plain, port.received = False, (), (), ()
-    port.busy, port.covered = frozenset(), frozenset()
+    port.busy, port.covered, port.stalled = frozenset(), frozenset(), False
 
 
 def close(port):
@@ -390,6 +413,11 @@ def is_on(port, p):
     return port.on.get(p) in ('on', 'stopping')
 
 
+def may_access(port, p):
+    """May it send memory requests that need a translation?"""
+    return is_on(port, p) and port.ats and port.mastering
+
+
 def may_finish(port, n, lies):
     return n < len(port.taken) and (lies or not port.taken[n][3])
 
@@ -422,10 +450,11 @@ def quit(port, p, settings):
 
 
 def may_fault(port, p, group):
+    """With page requests off no group begins; one that has begun goes on."""
     if port.disabled:
         return False
     if group == 'new':
-        return is_on(port, p)
+        return is_on(port, p) and port.pri
     return group in port.groups and port.groups[group][0] == p and not port.groups[group][2]
 
 

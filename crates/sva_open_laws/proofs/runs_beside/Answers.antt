@@ -7,4 +7,4 @@ use Rattle.sva_open_laws.proofs.runs_beside.Goals as goal
 
 pub returns : goal.returns
 unfolding lowest any_below all_below count_below select tabulate gather free_itag moved_by
-returns c = record { asked = refl; sent = refl; freed = refl; again = refl }
+returns c = record { asked = refl; sent = refl; freed = refl; again = refl; reset = refl; awaited = refl; timed = refl }

@@ -32,7 +32,10 @@ returns c =
     let awaits = said_if c.args.conduct.awaits (codes ", awaits") in
     let so_far-11 = joined out _ _ said-10 awaits so_far-10 c.in_ok-put_if-4.ensures in
     let said-11 = said-10 ++ awaits in
+    let leaves = said_if c.args.device.now.leaves (codes ", leaves") in
+    let so_far-12 = joined out _ _ said-11 leaves so_far-11 c.in_ok-put_if-5.ensures in
+    let said-12 = said-11 ++ leaves in
     let unmade = unmade_text c.args.lines.now c.args.endpoint c.args.device.now in
-    let so_far-12 = joined out _ _ said-11 unmade so_far-11 c.in_ok-put_unmade.ensures in
-    let said-12 = said-11 ++ unmade in
-    joined out _ _ said-12 (codes "\n") so_far-12 c.in_ok-extend_from_slice-4.ensures.items
+    let so_far-13 = joined out _ _ said-12 unmade so_far-12 c.in_ok-put_unmade.ensures in
+    let said-13 = said-12 ++ unmade in
+    joined out _ _ said-13 (codes "\n") so_far-13 c.in_ok-extend_from_slice-4.ensures.items

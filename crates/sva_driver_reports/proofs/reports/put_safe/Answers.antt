@@ -9,8 +9,8 @@ pub returns : goal.returns
 returns c =
     let out = c.args.out.now.items in
     let text = c.args.text.now in
-    let said-1 = safe_line c.args.moments (is_tried c.args.looked.now) in
-    let so_far-1 = c.in_ok-put_safe_line.ensures ∙ ap (λ tried. out ++ safe_line c.args.moments tried) c.is_tried.ensures in
+    let said-1 = safe_line c.args.moments c.args.is_apart (is_tried c.args.looked.now) in
+    let so_far-1 = c.in_ok-put_safe_line.ensures ∙ ap (λ tried. out ++ safe_line c.args.moments c.args.is_apart tried) c.is_tried.ensures in
     let so_far-2 = joined out _ _ said-1 (budgets_text (codes "") text) so_far-1 c.in_ok-put_budgets.ensures in
     let said-2 = said-1 ++ budgets_text (codes "") text in
     let so_far-3 = joined out _ _ said-2 (limits_text text) so_far-2 c.in_ok-put_limits.ensures in

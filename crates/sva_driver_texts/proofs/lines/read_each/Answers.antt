@@ -1,19 +1,20 @@
-use Rattle.std.proofs.Common.{◌∙◌, ◌+◌, ap, sym}
-use Rattle.sva_script_reading.proofs.BeginLemmas.{no_lines}
-use Rattle.sva_script_reading.specs.Begins.{lines_from}
-use Rattle.sva_race_texts.proofs.Lists.{said}
+use Rattle.std.proofs.Common.{◌∙◌, ◌<◌, ◌≤◌, ap, length, rules, sym}
+use Rattle.sva_driver_texts.specs.Bodies.{worded_seen}
+use Rattle.sva_driver_texts.specs.Readings.{behind_words}
+use Rattle.sva_driver_texts.specs.declared.bodies.WordedLine.{WordedLine}
 use Rattle.sva_driver_texts.proofs.Runs.{behind_end, behind_next}
 use Rattle.sva_driver_texts.proofs.lines.read_each.Goals as goal
 
-pub loop-number-preserved : goal.loop-number-preserved
-loop-number-preserved c =
-    sym (behind_next c.args.config.now c.args.names.now c.loop-number.reading c.read_words.new.reading _
-    (lines_from (c.next.new.self.number + 1) c.next.new.self.rest.now) (c.in-Some.number, c.in-Some.line.now) _ c.in-Some.ensures.line
-    (ap said c.as_slice.ensures.value ∙ c.in_ok-split.ensures) c.in_ok-read_words.ensures)
-    ∙ c.loop-number.invariant
+pub loop-line-preserved : goal.loop-line-preserved
+loop-line-preserved c =
+    let inside : c.loop-line.line-index < length c.args.lines.now = search rules in
+    sym (behind_next c.args.config.now c.args.names.now c.loop-line.reading c.read_line.new.reading c.args.lines.now c.loop-line.line-index _ inside
+    (c.in_ok-read_line.ensures
+    ∙ ap (λ (line : WordedLine). behind_words c.args.config.now c.args.names.now c.loop-line.reading (worded_seen line).0 (worded_seen line).1)
+    c.line-item.is))
+    ∙ c.loop-line.invariant
 
 pub returns : goal.returns
 returns c =
-    sym (behind_end c.args.config.now c.args.names.now c.loop-number.reading _
-    (no_lines (c.loop-number.lines.number + 1) c.loop-number.lines.rest.now c.in_default.ensures.none))
-    ∙ c.loop-number.invariant
+    let past : length c.args.lines.now ≤ c.loop-line.line-index = search rules in
+    sym (behind_end c.args.config.now c.args.names.now c.loop-line.reading c.args.lines.now c.loop-line.line-index past) ∙ c.loop-line.invariant

@@ -1,0 +1,3 @@
+pub mod Spoken
+pub mod Reading
+pub mod Telling

@@ -1,0 +1,157 @@
+-- What the words of a command line say of files. How each word is taken is said by the definitions of sva_command, which part
+-- and how many at once too.
+use Rattle.std.specs.Prelude.{◌≡◌, ◌≢◌, ◌⊎◌, ℕ, ◌&&◌, not, is_some, unwrap_or, Bool, true, false, codes, if◌then◌else◌}
+use Rattle.std.specs.Prelude.{List, [], ◌∷◌, ◌++◌, Option, Some, None, string_bytes}
+use Rattle.clap.specs.Words.{Text}
+use Rattle.sva_command.specs.Command.{Asks, faults_of, texts}
+use Rattle.sva_command.specs.Files.{Named, files_of, jobs_of, named_in, part_of}
+use Rattle.sva_command.specs.declared.command.Asked.{Asked}
+use Rattle.sva_command.specs.declared.command.Asked.TheVariants.{Explore, Judge}
+use Rattle.sva_command.specs.declared.files.Awaited.{Awaited}
+use Rattle.sva_command.specs.declared.files.Awaited.TheVariants as awaited
+use Rattle.sva_command.specs.declared.files.Part.{Part}
+use Rattle.sva_several.specs.declared.driving.Wanted.{Wanted}
+use Rattle.sva_several.specs.declared.searching.Search.{Search}
+use Rattle.sva_several.specs.declared.searching.Search.TheVariants.{Drivers, Lines, Races}
+use Rattle.sva_cli.specs.declared.files.Files.{Files}
+use Rattle.sva_cli.specs.declared.files.Files.TheVariants as files
+
+-- ---- What is said
+
+-- standard input is read, if anything is; a file in its place; files are searched; or this is told
+pub data Spoken : Type 0 where
+  Input : (own : List Text) → Spoken
+  One : (own : List Text) → (file : Text) → Spoken
+  Several : (wanted : Wanted) → (names : List Text) → Spoken
+  Wrong : (said : List ℕ) → Spoken
+
+-- the same of the code's value
+abbrev pub means : Files → Spoken
+means (files.Input own) = Input (texts own.items)
+means (files.One own file) = One (texts own.items) (string_bytes file)
+means (files.Several several) = Several several.wanted (texts several.names.items)
+means (files.Wrong said) = Wrong said.items
+
+-- ---- Which search
+
+-- with `--run` the lines of drivers are taken; else all their orders are judged, within `--most`, by `--strict` or not; races
+-- are explored. No other command takes files
+abbrev pub search_of : Asked → Search
+search_of (Judge true most strict) = Lines
+search_of (Judge false most strict) = Drivers most strict
+search_of (Explore most whys few_ends) = Races most
+search_of asked = Lines
+
+abbrev pub wanted_by : Asked → (jobs : ℕ) → Wanted
+wanted_by asked jobs = record { search = search_of asked; jobs = jobs; is_part = false }
+
+-- ---- What can't be meant
+
+abbrev pub no_meaning : (takes : List ℕ) → (text : Text) → Spoken
+no_meaning takes text = Wrong (takes ++ text ++ codes "'\n")
+
+abbrev pub takes_part : List ℕ
+takes_part = codes "svahost: --part takes K/N with K from 1 to N, as 2/3, and not '"
+
+abbrev pub takes_jobs : List ℕ
+takes_jobs = codes "svahost: --jobs takes a number from 1 to 256, and not '"
+
+abbrev pub part_of_none : List ℕ
+part_of_none = codes "svahost: --part is a part of several files, and none is named\n"
+
+abbrev pub jobs_of_none : List ℕ
+jobs_of_none = codes "svahost: --jobs is of several files, and none is named\n"
+
+-- ---- Which files
+
+abbrev pub are_none : List Text → Bool
+are_none [] = true
+are_none (file ∷ files) = false
+
+-- of a part those that `--part` says, where some are named
+abbrev pub part_said : Wanted → Text → (files : List Text) → Option Part → Spoken
+part_said wanted text files None = no_meaning takes_part text
+part_said wanted text [] (Some part) = Wrong part_of_none
+part_said wanted text (file ∷ files) (Some part) = Several (record wanted { is_part = true }) (files_of part (file ∷ files))
+
+abbrev pub part_in : Wanted → Text → (files : List Text) → Spoken
+part_in wanted text files = part_said wanted text files (part_of text)
+
+-- one is no search of several
+abbrev pub all_of : Wanted → (own files : List Text) → Spoken
+all_of wanted own [] = Several wanted []
+all_of wanted own (file ∷ []) = One own file
+all_of wanted own (file ∷ next ∷ files) = Several wanted (file ∷ next ∷ files)
+
+abbrev pub part_or_all : Wanted → (own files : List Text) → (part : Option Text) → Spoken
+part_or_all wanted own files None = all_of wanted own files
+part_or_all wanted own files (Some text) = part_in wanted text files
+
+abbrev pub awaits_part : Awaited → Bool
+awaits_part awaited.Word = false
+awaits_part awaited.Most = false
+awaits_part awaited.Part = true
+awaits_part awaited.Jobs = false
+awaits_part awaited.File = false
+
+-- where no word is behind the last `--part`, its text is empty
+abbrev pub of_files : Wanted → Named → Spoken
+of_files wanted named =
+    if awaits_part named.awaited then part_in wanted [] named.files else part_or_all wanted named.own named.files named.part
+
+-- ---- How many at once
+
+abbrev pub awaits_jobs : Awaited → Bool
+awaits_jobs awaited.Word = false
+awaits_jobs awaited.Most = false
+awaits_jobs awaited.Part = false
+awaits_jobs awaited.Jobs = true
+awaits_jobs awaited.File = false
+
+-- as many as are said, or where nothing is as many as usual
+abbrev pub jobs_or : (usual : ℕ) → Option Text → Option ℕ
+jobs_or usual None = Some usual
+jobs_or usual (Some text) = jobs_of text
+
+-- where no word is behind the last `--jobs`, its text is empty, and says no number
+abbrev pub jobs_in : Named → (usual : ℕ) → Option ℕ
+jobs_in named usual = if awaits_jobs named.awaited then None else jobs_or usual named.jobs
+
+abbrev pub jobs_text : Named → Text
+jobs_text named = if awaits_jobs named.awaited then [] else unwrap_or named.jobs []
+
+-- ---- What the words say, where the others are a command
+
+abbrev pub names_nothing : Named → Bool
+names_nothing named = are_none named.files && not (is_some named.part)
+
+abbrev pub by_jobs : Asked → Named → Option ℕ → Spoken
+by_jobs asked named None = no_meaning takes_jobs (jobs_text named)
+by_jobs asked named (Some jobs) = if names_nothing named then Wrong jobs_of_none else of_files (wanted_by asked jobs) named
+
+abbrev pub files_by : Asked → (usual : ℕ) → Named → Spoken
+files_by asked usual named = by_jobs asked named (jobs_in named usual)
+
+-- ---- What they say
+
+-- no file is named, and nothing is said of any. A last `--part` is left for the command line
+abbrev pub is_bare : Named → Bool
+is_bare named = are_none named.files && not (is_some named.part) && not (is_some named.jobs) && not (awaits_jobs named.awaited)
+
+-- where the other words are a command, that of it; where they have a fault, or ask for help, it is they that are answered
+abbrev pub IsMeant : (usual : ℕ) → Named → Spoken → Type 0
+IsMeant usual named spoken =
+    ((asked : Asked) × Asks asked named.own × (spoken ≡ files_by asked usual named))
+    ⊎ ((faults_of named.own ≢ []) × (spoken ≡ Input named.own))
+
+abbrev pub IsSaidOf : (usual : ℕ) → (words : List Text) → Named → (is_bare : Bool) → Spoken → Type 0
+IsSaidOf usual words named true spoken = spoken ≡ Input words
+IsSaidOf usual words named false spoken = IsMeant usual named spoken
+
+abbrev pub IsSpokenBy : (usual : ℕ) → (words : List Text) → Option Named → Spoken → Type 0
+IsSpokenBy usual words None spoken = spoken ≡ Input words
+IsSpokenBy usual words (Some named) spoken = IsSaidOf usual words named (is_bare named) spoken
+
+-- this is what the words say, the program's name first
+abbrev pub IsSpoken : (usual : ℕ) → (words : List Text) → Spoken → Type 0
+IsSpoken usual words spoken = IsSpokenBy usual words (named_in words) spoken

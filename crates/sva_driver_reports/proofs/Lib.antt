@@ -8,3 +8,4 @@ mod RunFronts
 mod Told
 mod UntakenLines
 mod Witnesses
+mod Ends

@@ -64,7 +64,7 @@ finding now leaks = by_found (first_wrong now) refl
 -- ---- A choice that is permitted has its event
 
 -- of each line something is told, in which no line ends
-record IsFit (text : Text) : Type 0 where
+pub record IsFit (text : Text) : Type 0 where
   pub many : length text.said.items ≡ length text.driver.lines.items
   pub whole : AreWhole text.said.items
 
@@ -163,7 +163,7 @@ run_none : (driver : Driver) (choices : List Choice) → run_from (rules_of driv
 run_none driver [] = refl
 run_none driver (choice ∷ choices) = run_none driver choices
 
-record Walked (text : Text) (width : ℕ) (spot : Spot) (choices : List Choice) (last : Spot) : Type 0 where
+pub record Walked (text : Text) (width : ℕ) (spot : Spot) (choices : List Choice) (last : Spot) : Type 0 where
   pub lines : List (List ℕ)
   pub told : AreTold text spot choices lines last
   pub says : flat_map (event_line width) (events_from text spot choices) ≡ flat_map ended lines
@@ -193,7 +193,7 @@ one_more text width spot next last choice choices event is one leads rest = reco
   many = ap suc rest.many;
 }
 
-walked : (text : Text) → IsFit text → (width : ℕ) (choices : List Choice) (spot last : Spot)
+pub walked : (text : Text) → IsFit text → (width : ℕ) (choices : List Choice) (spot last : Spot)
     → run_from (rules_of text.driver) (Some spot) choices ≡ Some last → Walked text width spot choices last
 walked text fit width [] spot last is = none_left text width spot last (same_Some spot last is)
 walked text fit width (choice ∷ choices) spot last is =
@@ -346,7 +346,7 @@ as_many from read text reads stands =
     ∙ sym (length-map read.opening.lines.items done_seen) ∙ ap length reads.opening.lines ∙ length-map from.reading.lines done_of in
     said ∙ sym lines
 
-fits : (text : List ℕ) (from : DriverRead) (read : Read) (behind : Text) → driver_of text ≡ Ok from → IsRead from read → IsText read behind → IsFit behind
+pub fits : (text : List ℕ) (from : DriverRead) (read : Read) (behind : Text) → driver_of text ≡ Ok from → IsRead from read → IsText read behind → IsFit behind
 fits text from read behind is reads stands = record {
   many = as_many from read behind reads stands;
   whole = subst (λ (said : Vec Said Global). AreWhole said.items) (sym stands.said) (are_whole text from read is reads);

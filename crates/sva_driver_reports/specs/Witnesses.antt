@@ -1,4 +1,5 @@
--- What is told of a driver that is unsafe is so: a list of events that leads there, each with its line, and what is wrong at its end.
+-- What is told of a driver that is unsafe, or stuck, is so: a list of events that leads there, each with its line, and what is wrong,
+-- or waits, at its end.
 use Rattle.std.specs.Prelude.{◌≡◌, ◌⊎◌, ◌<◌, ◌≤◌, ◌==◌, ℕ, Bool, true, false, List, [], ◌∷◌, ◌++◌, codes, flat_map, length}
 use Rattle.std.specs.Prelude.{replicate, slice_get, Some, Ok}
 use Rattle.std.specs.List.{list_any}
@@ -7,16 +8,18 @@ use Rattle.sva_open.specs.declared.drivers.Driver.{Driver}
 use Rattle.sva_open.specs.declared.drivers.Line.{Line}
 use Rattle.sva_open_safe.specs.Wrongs.{first_wrong}
 use Rattle.sva_open_safe.specs.declared.wrongs.Wrong.{Wrong}
+use Rattle.sva_search.specs.Rules.{IsEnd}
 use Rattle.sva_judge.specs.Choices.{next_in}
+use Rattle.sva_judge.specs.Rules.{rules_of, waits_at}
 use Rattle.sva_judge.specs.Spots.{Spot, start_of}
-use Rattle.sva_judge.specs.Verdicts.{IsLeak}
+use Rattle.sva_judge.specs.Verdicts.{IsAlwaysSafe, IsLeak, IsStuck}
 use Rattle.sva_judge.specs.declared.choices.Choice.{Choice}
 use Rattle.sva_driver_texts.specs.Texts.{DriverRead, IsRead, IsText, behind_first, driver_of, line_choice}
 use Rattle.sva_driver_texts.specs.declared.kept.Read.{Read}
 use Rattle.sva_driver_texts.specs.declared.kept.Text.{Text}
 use Rattle.sva_driver_reports.specs.Findings.{wrong_text}
 use Rattle.sva_driver_reports.specs.Judged.{IsTextJudged, IsTextRun, unsafe_at}
-use Rattle.sva_driver_reports.specs.Reports.{events_count}
+use Rattle.sva_driver_reports.specs.Reports.{budgets_text, events_count, others_text, parts_from, waiting_text}
 use Rattle.sva_driver_reports.specs.Witness.{EventSaid, event_of, front_text}
 use Rattle.sva_driver_reports.specs.declared.reports.Ruling.TheVariants as ruling
 
@@ -60,6 +63,23 @@ pub record HasWitness (text : Text) (out : List ℕ) : Type 0 where
       ≡ codes "unsafe in " ++ events_count (length lines) ++ codes ": " ++ wrong_text found
       ++ 10 ∷ (front_text text ++ flat_map ended lines)
 
+-- The first line says how many events there are, and which line waits for ever behind them; then comes what else waits there, what the
+-- endpoints have, the budgets and the front, and then a line for each event, and no more. They lead to an end at which a line waits, and
+-- no list of fewer events does; and each moment is safe.
+pub record HasEnd (text : Text) (out : List ℕ) : Type 0 where
+  pub choices : List Choice
+  pub shortest : (other : List Choice) → IsStuck text.driver other → length choices ≤ length other
+  pub safe : IsAlwaysSafe text.driver
+  pub lines : List (List ℕ)
+  pub last : Spot
+  pub told : AreTold text (start_of text.driver) choices lines last
+  pub ends : IsEnd (rules_of text.driver) last
+  pub waits : waits_at last ≡ true
+  pub report : out
+      ≡ codes "stuck in " ++ events_count (length lines) ++ codes ": " ++ waiting_text text last
+      ++ 10 ∷ others_text text last ++ parts_from 0 last.world.parts ++ budgets_text (codes "# ") text
+      ++ (front_text text ++ flat_map ended lines)
+
 -- ---- A line behind which something is wrong
 
 -- The first of so many lines that is such: those before it lead to nothing wrong, it is permitted there, and what is wrong behind it is
@@ -87,6 +107,11 @@ HasRead text IsSo = (from : DriverRead) × (read : Read) × (driver_of text ≡ 
 abbrev pub WitnessesAreTold : Type 0
 WitnessesAreTold = (text : List ℕ) (most : ℕ) (out : List ℕ) → IsTextJudged text most (Some ruling.Unsafe) out
     → HasRead text (λ (read : Read). HasLeak read.opening read.before out ⊎ ((behind : Text) × IsText read behind × HasWitness behind out))
+
+-- one that is judged as stuck has a list to an end at which a line waits
+abbrev pub EndsAreTold : Type 0
+EndsAreTold = (text : List ℕ) (most : ℕ) (out : List ℕ) → IsTextJudged text most (Some ruling.Stuck) out
+    → HasRead text (λ (read : Read). (behind : Text) × IsText read behind × HasEnd behind out)
 
 -- and one whose lines are taken one after another, at one of all its lines
 abbrev pub LeaksAreTold : Type 0

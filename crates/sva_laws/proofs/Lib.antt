@@ -68,7 +68,9 @@ pub mod Asked
 pub mod Refused
 pub mod RefusedEndpoints
 pub mod RefusedWorkers
+pub mod FirstCauses
 pub mod InReset
+pub mod GoingOn
 pub mod Bearers
 pub mod Given
 pub mod InOrder

@@ -1,20 +1,18 @@
 -- What a step at an endpoint leaves as it was.
 use Rattle.std.proofs.Common.{◌≡◌, ◌≢◌, ◌⊎◌, inl, inr, refl, ap, sym, subst, ◌∙◌, ℕ, ◌<◌, Bool, true, false, arith}
-use Rattle.std.specs.Prelude.{Option, Some, None, ◌&&◌, ◌||◌, ◌==◌, List, [], ◌∷◌, ◌++◌, if◌then◌else◌, Ok, Err}
+use Rattle.std.specs.Prelude.{Option, Some, None, ◌&&◌, ◌||◌, ◌==◌, List, [], ◌∷◌, ◌++◌, if◌then◌else◌, Ok}
 use Rattle.std.proofs.lemmas.Bool.Decides.{nat_tests}
 use Rattle.std.proofs.lemmas.Bool.{not-false}
 use Rattle.sva_step.specs.declared.answers.Answer.{Answer}
 use Rattle.sva_step.specs.declared.answers.Answer.TheVariants as answer
 use Rattle.sva_step.specs.declared.limits.Config.{Config}
-use Rattle.sva_step.specs.declared.refusals.Refusal.{Refusal}
-use Rattle.sva_step.specs.declared.refusals.Refusal.TheVariants as refusal
 use Rattle.sva_step.specs.declared.steps.Step.{Step}
 use Rattle.sva_step.specs.declared.steps.Step.TheVariants as step
 use Rattle.sva_model.specs.Words.{put, the}
 use Rattle.sva_model.specs.Message.{Code}
 use Rattle.sva_model.specs.Message.Code.{SuccessCode, InvalidCode, FailureCode}
 use Rattle.sva_model.specs.State.{PasidRule, Mappings, Subject, RequestState, GroupState, Stage, Endpoint, World}
-use Rattle.sva_model.specs.State.Subject.{StopOf, CompletionOf, InvalidateOf, ResponseOf, ResetDone}
+use Rattle.sva_model.specs.State.Subject.{StopOf, CompletionOf, InvalidateOf, ResponseOf, RequestOf, MarkerOf, ResetDone}
 use Rattle.sva_model.specs.State.RequestState.{Out, Doomed, Over}
 use Rattle.sva_model.specs.State.GroupState.{Awaiting, Stale}
 use Rattle.sva_model.specs.State.Stage.{Unbound, Invalidating, Quiet, Lost, Released}
@@ -24,11 +22,11 @@ use Rattle.sva_model.specs.StateChanges.{none_if, is_replaced, doom_if, stale_if
 use Rattle.sva_model.specs.Acts.{Act, LocalAct, act, act_alone}
 use Rattle.sva_model.specs.Acts.Act.{NewSpace, DropSpace, Map, Unmap, NewBinding, NewJob, Hold, LetGo, AtEndpoint}
 use Rattle.sva_model.specs.Labels
-use Rattle.sva_model.specs.Refusals.{Cause, refusals}
-use Rattle.sva_model.specs.Outcomes.{Outcome, outcome, subject_outcome, deliver_outcome, completion_outcome, keep_outcome, is_full}
-use Rattle.sva_model.specs.Steps.{Reply, checked, reply, decide, next, after_acts, world_after}
+use Rattle.sva_model.specs.Refusals.{refusals}
+use Rattle.sva_model.specs.Outcomes.{outcome, subject_outcome, deliver_outcome, completion_outcome, keep_outcome, is_full}
+use Rattle.sva_model.specs.Steps.{reply, decide, next, after_acts, world_after}
 use Rattle.sva_laws.specs.UnitSteps.{Delivers}
-use Rattle.sva_laws.specs.Untouched.{Evicts, Takes, Brings, Stops, Quits, Asks, Disables, CutsOff, DrainsOnce, is_of_endpoint}
+use Rattle.sva_laws.specs.Untouched.{LosesMessage, Evicts, Takes, Brings, Stops, Quits, Asks, Disables, CutsOff, DrainsOnce}
 use Rattle.sva_labels.proofs.Tests.{both_same}
 use Rattle.sva_labels.proofs.Words.{put-same, put-other}
 use Rattle.sva_laws.proofs.Submitted.{old_order}
@@ -63,6 +61,22 @@ pub later_part : (rule : PasidRule) (config : Config) (steps : List Step) (s : S
     → P ((next (world_after rule config steps) s).part e) → P ((world_after rule config (steps ++ s ∷ [])).part e)
 later_part rule config steps s e P h = subst (λ v. P (v.part e)) (sym (after_one rule config steps s)) h
 
+-- The message that is delivered, or sent.
+
+loses : (p q : Endpoint) (c : ℕ) (x : Subject) → p.message c ≡ Some x → q.message ≡ put p.message c None → LosesMessage p q x
+loses p q c x m e =
+    record {
+      number = c;
+      spoke = m;
+      gone = ap (λ f. f c) e ∙ put-same p.message c None;
+      others = λ d ne. ap (λ f. f d) e ∙ put-other p.message c None d ne;
+    }
+
+-- a message that isn't sent yet isn't in flight
+unsent : (rule : PasidRule) (config : Config) (steps : List Step) (e : ℕ)
+    → ((world_after rule config steps).part e).message (world_after rule config steps).messages ≡ None
+unsent rule config steps e = ((always rule config steps).parts e).resets.unsent (world_after rule config steps).messages (omega arith)
+
 -- An evict.
 
 own_evicts : (p : Endpoint) (n t q : ℕ) → Cached p t q → Evicts p (act_alone p n (LocalAct.Evict (Labels.cached p (Labels.bearer p t) q))) t q
@@ -93,8 +107,8 @@ always_evicts rule config steps e t q said h =
 
 -- An invalidation that is taken.
 
-own_takes : (p : Endpoint) (n c k : ℕ) → Takes p (act_alone p n (LocalAct.Take c k)) k
-own_takes p n c k =
+own_takes : (p : Endpoint) (n c k : ℕ) → p.message c ≡ Some (InvalidateOf k) → Takes p (act_alone p n (LocalAct.Take c k)) k
+own_takes p n c k m =
     record {
       dropped = λ r h. ap (λ b. none_if b (p.held r)) h;
       kept = λ r h. ap (λ b. none_if b (p.held r)) h;
@@ -103,6 +117,7 @@ own_takes p n c k =
       not_doomed = λ r h. ap (λ b. doom_if b (p.request r)) h;
       taken = put-same p.order_state k _;
       other_orders = λ j ne. put-other p.order_state k _ j ne;
+      delivered = loses p (act_alone p n (LocalAct.Take c k)) c (InvalidateOf k) m refl;
       alone = refl;
     }
   where
@@ -120,12 +135,13 @@ always_takes rule config steps s e k d =
     let c = Labels.name w d.number in
     later_part rule config steps s e (λ z. Takes (w.part e) z k)
     (subst (λ z. Takes (w.part e) z k) (sym (part_after w s e (LocalAct.Take c k) (delivered w s e (InvalidateOf k) d)))
-    (own_takes (w.part e) w.messages c k))
+    (own_takes (w.part e) w.messages c k d.speaks))
 
 -- A translation completion.
 
-act_alone_keeps : (p : Endpoint) (n c r m : ℕ) → Brings p (act_alone p n (LocalAct.Keep c r m)) r (Some m) answer.Held
-act_alone_keeps p n c r m =
+act_alone_keeps : (p : Endpoint) (n c r m : ℕ) → p.message c ≡ Some (CompletionOf r (Some m))
+    → Brings p (act_alone p n (LocalAct.Keep c r m)) r (Some m) answer.Held
+act_alone_keeps p n c r m flies =
     record {
       kept = λ h. (m, refl, put-same (λ x. none_if (is_replaced p r x) (p.held x)) r (Some m));
       replaced = λ h x ne b q.
@@ -135,32 +151,46 @@ act_alone_keeps p n c r m =
           put-other (λ y. none_if (is_replaced p r y) (p.held y)) r (Some m) x ne
           ∙ ap (λ t. none_if t (p.held x)) (is_other (p.request_binding x) (p.request_binding r) (p.request_page x) (p.request_page r) d);
       not_kept = λ h. absurd (h refl);
+      over = put-same p.request r Over;
       other_requests = λ x ne. put-other p.request r Over x ne;
+      freed = λ ne. put-same p.at_tag (p.request_tag r) None;
+      other_tags = λ t ne. put-other p.at_tag (p.request_tag r) None t ne;
+      delivered = loses p (act_alone p n (LocalAct.Keep c r m)) c (CompletionOf r (Some m)) flies refl;
       alone = refl;
     }
   where
     is_other : (a b x y : ℕ) → (a ≢ b) ⊎ (x ≢ y) → (a == b && x == y) ≡ false
     is_other a b x y h = grind (arith, nat_tests)
 
-own_forgets : (p : Endpoint) (n c r : ℕ) (found : Option ℕ) (said : Answer) → said ≢ answer.Held → Brings p (act_alone p n (LocalAct.Forget c r)) r found said
-own_forgets p n c r found said ne =
+own_forgets : (p : Endpoint) (n c r : ℕ) (found : Option ℕ) (said : Answer) → p.message c ≡ Some (CompletionOf r found) → said ≢ answer.Held
+    → Brings p (act_alone p n (LocalAct.Forget c r)) r found said
+own_forgets p n c r found said flies ne =
     record {
       kept = λ h. absurd (ne h);
       replaced = λ h. absurd (ne h);
       others = λ h. absurd (ne h);
       not_kept = λ h x. refl;
+      over = put-same p.request r Over;
       other_requests = λ x d. put-other p.request r Over x d;
+      freed = λ out. put-same p.at_tag (p.request_tag r) None;
+      other_tags = λ t d. put-other p.at_tag (p.request_tag r) None t d;
+      delivered = loses p (act_alone p n (LocalAct.Forget c r)) c (CompletionOf r found) flies refl;
       alone = refl;
     }
 
-own_ignores : (p : Endpoint) (n c r : ℕ) (found : Option ℕ) (said : Answer) → said ≢ answer.Held → Brings p (act_alone p n (LocalAct.Ignore c)) r found said
-own_ignores p n c r found said ne =
+own_ignores : (p : Endpoint) (n c r : ℕ) (found : Option ℕ) (said : Answer) → p.message c ≡ Some (CompletionOf r found) → p.request r ≡ Over
+    → said ≢ answer.Held → Brings p (act_alone p n (LocalAct.Ignore c)) r found said
+own_ignores p n c r found said flies over ne =
     record {
       kept = λ h. absurd (ne h);
       replaced = λ h. absurd (ne h);
       others = λ h. absurd (ne h);
       not_kept = λ h x. refl;
+      over = over;
       other_requests = λ x d. refl;
+      freed = λ out. absurd (out over);
+      other_tags = λ t d. refl;
+      delivered = loses p (act_alone p n (LocalAct.Ignore c)) c (CompletionOf r found) flies refl;
       alone = refl;
     }
 
@@ -168,26 +198,31 @@ own_ignores p n c r found said ne =
 abbrev Leaves : (p q : Endpoint) (n e : ℕ) → List Act → Type 0
 Leaves p q n e acts = (o : LocalAct) → acts ≡ AtEndpoint e o ∷ [] → q ≡ act_alone p n o
 
-keep_brings : (p q : Endpoint) (n e c r m : ℕ) (said : Answer) (b : Bool) → (keep_outcome e c r m b).answer ≡ said
-    → Leaves p q n e (keep_outcome e c r m b).acts → Brings p q r (Some m) said
-keep_brings p q n e c r m said true h f =
-    subst (λ z. Brings p z r (Some m) said) (sym (f (LocalAct.Forget c r) refl)) (own_forgets p n c r (Some m) said (λ k. absurd (cc (h ∙ k))))
-keep_brings p q n e c r m said false h f =
-    subst (λ z. Brings p q r (Some m) z) h (subst (λ z. Brings p z r (Some m) answer.Held) (sym (f (LocalAct.Keep c r m) refl)) (act_alone_keeps p n c r m))
+keep_brings : (p q : Endpoint) (n e c r m : ℕ) (said : Answer) (b : Bool) → p.message c ≡ Some (CompletionOf r (Some m))
+    → (keep_outcome e c r m b).answer ≡ said → Leaves p q n e (keep_outcome e c r m b).acts → Brings p q r (Some m) said
+keep_brings p q n e c r m said true flies h f =
+    subst (λ z. Brings p z r (Some m) said) (sym (f (LocalAct.Forget c r) refl))
+    (own_forgets p n c r (Some m) said flies (λ k. absurd (cc (h ∙ k))))
+keep_brings p q n e c r m said false flies h f =
+    subst (λ z. Brings p q r (Some m) z) h
+    (subst (λ z. Brings p z r (Some m) answer.Held) (sym (f (LocalAct.Keep c r m) refl)) (act_alone_keeps p n c r m flies))
 
-completion_brings : (p q : Endpoint) (n e c r : ℕ) (found : Option ℕ) (said : Answer) (x : RequestState) → (completion_outcome p e c r found x).answer ≡ said
+completion_brings : (p q : Endpoint) (n e c r : ℕ) (found : Option ℕ) (said : Answer) (x : RequestState) → p.request r ≡ x
+    → p.message c ≡ Some (CompletionOf r found) → (completion_outcome p e c r found x).answer ≡ said
     → Leaves p q n e (completion_outcome p e c r found x).acts → Brings p q r found said
-completion_brings p q n e c r (Some m) said Out h f = keep_brings p q n e c r m said (is_full p r) h f
-completion_brings p q n e c r None said Out h f =
-    subst (λ z. Brings p z r None said) (sym (f (LocalAct.Forget c r) refl)) (own_forgets p n c r None said (λ k. absurd (cc (h ∙ k))))
-completion_brings p q n e c r (Some m) said Doomed h f =
-    subst (λ z. Brings p z r (Some m) said) (sym (f (LocalAct.Forget c r) refl)) (own_forgets p n c r (Some m) said (λ k. absurd (cc (h ∙ k))))
-completion_brings p q n e c r None said Doomed h f =
-    subst (λ z. Brings p z r None said) (sym (f (LocalAct.Forget c r) refl)) (own_forgets p n c r None said (λ k. absurd (cc (h ∙ k))))
-completion_brings p q n e c r (Some m) said Over h f =
-    subst (λ z. Brings p z r (Some m) said) (sym (f (LocalAct.Ignore c) refl)) (own_ignores p n c r (Some m) said (λ k. absurd (cc (h ∙ k))))
-completion_brings p q n e c r None said Over h f =
-    subst (λ z. Brings p z r None said) (sym (f (LocalAct.Ignore c) refl)) (own_ignores p n c r None said (λ k. absurd (cc (h ∙ k))))
+completion_brings p q n e c r (Some m) said Out is flies h f = keep_brings p q n e c r m said (is_full p r) flies h f
+completion_brings p q n e c r None said Out is flies h f =
+    subst (λ z. Brings p z r None said) (sym (f (LocalAct.Forget c r) refl)) (own_forgets p n c r None said flies (λ k. absurd (cc (h ∙ k))))
+completion_brings p q n e c r (Some m) said Doomed is flies h f =
+    subst (λ z. Brings p z r (Some m) said) (sym (f (LocalAct.Forget c r) refl))
+    (own_forgets p n c r (Some m) said flies (λ k. absurd (cc (h ∙ k))))
+completion_brings p q n e c r None said Doomed is flies h f =
+    subst (λ z. Brings p z r None said) (sym (f (LocalAct.Forget c r) refl)) (own_forgets p n c r None said flies (λ k. absurd (cc (h ∙ k))))
+completion_brings p q n e c r (Some m) said Over is flies h f =
+    subst (λ z. Brings p z r (Some m) said) (sym (f (LocalAct.Ignore c) refl))
+    (own_ignores p n c r (Some m) said flies is (λ k. absurd (cc (h ∙ k))))
+completion_brings p q n e c r None said Over is flies h f =
+    subst (λ z. Brings p z r None said) (sym (f (LocalAct.Ignore c) refl)) (own_ignores p n c r None said flies is (λ k. absurd (cc (h ∙ k))))
 
 -- what a delivery answers
 said_by : (w : World) (s : Step) (e : ℕ) (subject : Subject) (said : Answer) → (d : Delivers w s e subject) → reply w s ≡ Ok said
@@ -205,13 +240,19 @@ always_brings rule config steps s e r found said d h =
     let p = w.part e in
     let c = Labels.name w d.number in
     later_part rule config steps s e (λ z. Brings p z r found said)
-    (completion_brings p ((next w s).part e) w.messages e c r found said (p.request r) (said_by w s e (CompletionOf r found) said d h)
+    (completion_brings p ((next w s).part e) w.messages e c r found said (p.request r) refl d.speaks (said_by w s e (CompletionOf r found) said d h)
     (λ o acts. part_after w s e o (delivered w s e (CompletionOf r found) d ∙ acts)))
 
 -- A Stop that arrives.
 
-own_stops : (p : Endpoint) (n c b : ℕ) → Stops p (act_alone p n (LocalAct.Stop_arrives c b)) b
-own_stops p n c b = record { ending = put-same p.pasid_state b _; others = λ d ne. put-other p.pasid_state b _ d ne; alone = refl }
+own_stops : (p : Endpoint) (n c b : ℕ) → p.message c ≡ Some (StopOf b) → Stops p (act_alone p n (LocalAct.Stop_arrives c b)) b
+own_stops p n c b m =
+    record {
+      ending = put-same p.pasid_state b _;
+      others = λ d ne. put-other p.pasid_state b _ d ne;
+      delivered = loses p (act_alone p n (LocalAct.Stop_arrives c b)) c (StopOf b) m refl;
+      alone = refl;
+    }
 
 pub always_stops : (rule : PasidRule) (config : Config) (steps : List Step) (s : Step) (e b : ℕ)
     → Delivers (world_after rule config steps) s e (StopOf b)
@@ -221,18 +262,24 @@ always_stops rule config steps s e b d =
     let c = Labels.name w d.number in
     later_part rule config steps s e (λ z. Stops (w.part e) z b)
     (subst (λ z. Stops (w.part e) z b) (sym (part_after w s e (LocalAct.Stop_arrives c b) (delivered w s e (StopOf b) d)))
-    (own_stops (w.part e) w.messages c b))
+    (own_stops (w.part e) w.messages c b d.speaks))
 
 -- A quit.
 
-own_quits : (p : Endpoint) (n t : ℕ) → Quits p (act_alone p n (LocalAct.Quit (Labels.bearer p t))) t
-own_quits p n t =
+own_quits : (p : Endpoint) (n t : ℕ) → p.message n ≡ None → Quits p (act_alone p n (LocalAct.Quit (Labels.bearer p t))) t
+own_quits p n t fresh =
     let b = Labels.bearer p t in
     record {
       off = put-same p.pasid_state b _;
       others = λ d ne. put-other p.pasid_state b _ d ne;
       stale = λ g a w. stale (p.asker g) b (p.group g) a w;
       other_groups = λ g h. other (p.asker g) b (p.group g) h;
+      marker = record {
+        number = n;
+        fresh = fresh;
+        speaks = put-same p.message n (Some (MarkerOf b));
+        others = λ c ne. (put-other p.message n (Some (MarkerOf b)) c ne, put-other p.carried n _ c ne);
+      };
       alone = refl;
     }
   where
@@ -249,12 +296,14 @@ always_quits rule config steps e t said h =
     let w = world_after rule config steps in
     later_part rule config steps (step.Quit e t) e (λ z. Quits (w.part e) z t)
     (subst (λ z. Quits (w.part e) z t)
-    (sym (accepted_part w (step.Quit e t) e (LocalAct.Quit (Labels.bearer (w.part e) t)) said h refl)) (own_quits (w.part e) w.messages t))
+    (sym (accepted_part w (step.Quit e t) e (LocalAct.Quit (Labels.bearer (w.part e) t)) said h refl))
+    (own_quits (w.part e) w.messages t (unsent rule config steps e)))
 
 -- A translation request that is sent.
 
-own_asks : (p : Endpoint) (n t q tag : ℕ) → Asks p (act_alone p n (LocalAct.Ask (Labels.bearer p t) q tag)) t q
-own_asks p n t q tag =
+own_asks : (p : Endpoint) (n t q tag : ℕ) → p.message n ≡ None → Asks p (act_alone p n (LocalAct.Ask (Labels.bearer p t) q tag)) t q
+own_asks p n t q tag fresh =
+    let given : put p.request_tag p.requests tag p.requests ≡ tag = put-same p.request_tag p.requests tag in
     record {
       out = put-same p.request p.requests _;
       of_bearer = put-same p.request_binding p.requests _;
@@ -263,7 +312,17 @@ own_asks p n t q tag =
         put-other p.request p.requests _ r ne,
         put-other p.request_binding p.requests _ r ne,
         put-other p.request_page p.requests _ r ne,
+        put-other p.request_tag p.requests _ r ne,
+        put-other p.request_message p.requests _ r ne,
       );
+      tagged = ap (put p.at_tag tag (Some p.requests)) given ∙ put-same p.at_tag tag (Some p.requests);
+      other_tags = λ k ne. put-other p.at_tag tag (Some p.requests) k (λ same. ne (same ∙ sym given));
+      asked = record {
+        number = n;
+        fresh = fresh;
+        speaks = put-same p.message n (Some (RequestOf p.requests));
+        others = λ c ne. (put-other p.message n (Some (RequestOf p.requests)) c ne, put-other p.carried n _ c ne);
+      };
       alone = refl;
     }
 
@@ -276,7 +335,7 @@ always_asks rule config steps e t q said h =
     later_part rule config steps (step.Ask e t q) e (λ z. Asks (w.part e) z t q)
     (subst (λ z. Asks (w.part e) z t q)
     (sym (accepted_part w (step.Ask e t q) e (LocalAct.Ask (Labels.bearer (w.part e) t) q tag) said h refl))
-    (own_asks (w.part e) w.messages t q tag))
+    (own_asks (w.part e) w.messages t q tag (unsent rule config steps e)))
 
 -- The page request interface.
 
@@ -412,46 +471,3 @@ always_drains_once rule config steps e =
       draining = λ b x st. (((always rule config steps).parts e).orders.draining b x st).0;
       invalidating = λ b k x st. (part_later BehindPasid behind_parts rule config [] steps e (λ d j y s. absurd (cc)) b k x st).1;
     }
-
--- In reset.
-
-abbrev AllOther : List Cause → Type 0
-AllOther [] = Unit {0}
-AllOther (c ∷ cs) = (c.1 ≢ refusal.Resetting) × AllOther cs
-
-abbrev refused : Refusal → Reply
-refused r = Err r
-
-same_refusal : (a b : Refusal) → refused a ≡ refused b → a ≡ b
-same_refusal a b h = cc
-
-other_refusals : (cs : List Cause) (o : Outcome) → AllOther cs → (checked cs o).reply ≢ Err refusal.Resetting
-other_refusals [] o a h = absurd (cc)
-other_refusals (c ∷ cs) o a h = go c.0 h (other_refusals cs o a.1)
-  where
-    go : (b : Bool) → (if b then record { reply = Err c.1; acts = [] } else checked cs o).reply ≡ Err refusal.Resetting
-        → ((checked cs o).reply ≢ Err refusal.Resetting) → ⊥
-    go true k rest = a.0 (same_refusal c.1 refusal.Resetting k)
-    go false k rest = rest k
-
-endpoint_other : (w : World) (s : Step) → is_of_endpoint s ≡ true → AllOther (refusals w s)
-endpoint_other w (step.Ask e t q) h = ((λ k. absurd (cc)), ((λ k. absurd (cc)), ((λ k. absurd (cc)), ((λ k. absurd (cc)), ((λ k. absurd (cc)), tt)))))
-endpoint_other w (step.BeginUse e t q x) h =
-    ((λ k. absurd (cc)), ((λ k. absurd (cc)), ((λ k. absurd (cc)), ((λ k. absurd (cc)), ((λ k. absurd (cc)), ((λ k. absurd (cc)), tt))))))
-endpoint_other w (step.EndUse e u) h = ((λ k. absurd (cc)), ((λ k. absurd (cc)), tt))
-endpoint_other w (step.Evict e t q) h = ((λ k. absurd (cc)), ((λ k. absurd (cc)), ((λ k. absurd (cc)), tt)))
-endpoint_other w (step.Fault e t q r x group l) h = (
-  (λ k. absurd (cc)),
-  ((λ k. absurd (cc)), ((λ k. absurd (cc)), ((λ k. absurd (cc)), ((λ k. absurd (cc)), ((λ k. absurd (cc)), ((λ k. absurd (cc)), tt)))))),
-)
-endpoint_other w (step.Finish e vector count) h =
-    ((λ k. absurd (cc)), ((λ k. absurd (cc)), ((λ k. absurd (cc)), ((λ k. absurd (cc)), ((λ k. absurd (cc)), tt)))))
-endpoint_other w (step.Quit e t) h = ((λ k. absurd (cc)), ((λ k. absurd (cc)), ((λ k. absurd (cc)), ((λ k. absurd (cc)), tt))))
-endpoint_other w (step.Deliver n) h = ((λ k. absurd (cc)), ((λ k. absurd (cc)), ((λ k. absurd (cc)), tt)))
-endpoint_other w s h = absurd (grind arith)
-
-pub always_goes_on : (rule : PasidRule) (config : Config) (steps : List Step) (s : Step) → is_of_endpoint s ≡ true
-    → reply (world_after rule config steps) s ≢ Err refusal.Resetting
-always_goes_on rule config steps s h k =
-    other_refusals (refusals (world_after rule config steps) s) (outcome (world_after rule config steps) s)
-    (endpoint_other (world_after rule config steps) s h) k

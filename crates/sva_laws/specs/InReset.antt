@@ -1,9 +1,11 @@
 -- What a reset clears, and what is on its way in the meantime. (That a function level reset ends what an endpoint does is PCI
 -- Express Base 5.0, section 6.6.2; how host and endpoint tell each other of it is this project's own.)
-use Rattle.std.specs.Prelude.{◌≡◌, ◌≢◌, ◌↔◌, ℕ, ◌≤◌, false, Some, None, List}
+use Rattle.std.specs.Prelude.{◌≡◌, ◌≢◌, ◌↔◌, ℕ, ◌≤◌, Bool, true, false, Some, None, List}
 use Rattle.sva_step.specs.declared.limits.Config.{Config}
 use Rattle.sva_step.specs.declared.steps.Step.{Step}
-use Rattle.sva_model.specs.State.{PasidRule, Subject, Endpoint}
+use Rattle.sva_step.specs.declared.steps.Step.TheVariants as step
+use Rattle.sva_model.specs.Words.{put}
+use Rattle.sva_model.specs.State.{PasidRule, Subject, Endpoint, World}
 use Rattle.sva_model.specs.State.Phase.{Open, ResetSent, Cleared}
 use Rattle.sva_model.specs.State.PasidState.{Off}
 use Rattle.sva_model.specs.State.RequestState.{Over}
@@ -11,10 +13,13 @@ use Rattle.sva_model.specs.State.UseState.{Running}
 use Rattle.sva_model.specs.State.PageRequestState.{Arrived}
 use Rattle.sva_model.specs.State.GroupState.{Closed}
 use Rattle.sva_model.specs.State.OrderState.{Queued, Lapsed}
-use Rattle.sva_model.specs.State.Subject.{FunctionReset, ResetDone}
+use Rattle.sva_model.specs.State.Subject.{FunctionReset, RequestOf, InvalidatedOf, PageRequestOf, MarkerOf, ResetDone}
 use Rattle.sva_model.specs.States.{is_taken, is_open_group}
-use Rattle.sva_model.specs.Steps.{world_after}
+use Rattle.sva_model.specs.Labels.{name}
+use Rattle.sva_model.specs.Steps.{reply, world_after}
 use Rattle.sva_model.specs.Claims.{Fits}
+use Rattle.sva_laws.specs.Causes.{named_endpoint}
+use Rattle.sva_laws.specs.Untouched.{is_of_endpoint}
 
 -- A unit is in reset exactly while one message is in flight: its Reset, and then the endpoint's reset-done.
 pub record IsInReset (part : Endpoint) : Type 0 where
@@ -42,3 +47,34 @@ pub record IsInReset (part : Endpoint) : Type 0 where
 abbrev pub AlwaysInReset : Type 0
 AlwaysInReset = (rule : PasidRule) (config : Config) (steps : List Step) (endpoint : ℕ) → Fits config
     → IsInReset ((world_after rule config steps).part endpoint)
+
+-- the world in which the endpoint's unit is open, and all else is as it is
+abbrev pub with_open : World → (endpoint : ℕ) → World
+with_open world endpoint = record world { part = put world.part endpoint (record (world.part endpoint) { phase = Open }) }
+
+-- does it speak to the unit, which drops it in a reset?
+abbrev pub is_to_unit : Subject → Bool
+is_to_unit (RequestOf request) = true
+is_to_unit (InvalidatedOf names) = true
+is_to_unit (PageRequestOf request) = true
+is_to_unit (MarkerOf binding) = true
+is_to_unit _ = false
+
+-- What an endpoint does itself, and what comes to it, is answered in a reset of its unit as where that is open.
+pub record AnswersInReset (world : World) (endpoint : ℕ) : Type 0 where
+  pub done :
+      (next : Step)
+      → is_of_endpoint next ≡ true
+      → named_endpoint next ≡ Some endpoint
+      → reply world next ≡ reply (with_open world endpoint) next
+  pub delivered :
+      (number : ℕ) (subject : Subject)
+      → world.link_of (name world number) ≡ endpoint
+      → (world.part endpoint).message (name world number) ≡ Some subject
+      → is_to_unit subject ≡ false
+      → reply world (step.Deliver number) ≡ reply (with_open world endpoint) (step.Deliver number)
+
+-- so it is after every list of steps
+abbrev pub AlwaysAnswersInReset : Type 0
+AlwaysAnswersInReset = (rule : PasidRule) (config : Config) (steps : List Step) (endpoint : ℕ) → Fits config
+    → AnswersInReset (world_after rule config steps) endpoint

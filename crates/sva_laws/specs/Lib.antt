@@ -15,3 +15,4 @@ pub mod Bearers
 pub mod Given
 pub mod Causes
 pub mod EndpointCauses
+pub mod FirstCauses

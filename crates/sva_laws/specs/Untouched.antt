@@ -9,10 +9,10 @@ use Rattle.sva_step.specs.declared.refusals.Refusal.TheVariants as refusal
 use Rattle.sva_step.specs.declared.steps.Step.{Step}
 use Rattle.sva_step.specs.declared.steps.Step.TheVariants as step
 use Rattle.sva_model.specs.Message.Code.{FailureCode}
-use Rattle.sva_model.specs.State.{PasidRule, Endpoint, World}
-use Rattle.sva_model.specs.State.Subject.{StopOf, FunctionReset, CompletionOf, InvalidateOf, ResponseOf, ResetDone}
+use Rattle.sva_model.specs.State.{PasidRule, Subject, Endpoint, World}
+use Rattle.sva_model.specs.State.Subject.{StopOf, FunctionReset, CompletionOf, InvalidateOf, ResponseOf, RequestOf, MarkerOf, ResetDone}
 use Rattle.sva_model.specs.State.PasidState.{Off, Ending}
-use Rattle.sva_model.specs.State.RequestState.{Out, Doomed}
+use Rattle.sva_model.specs.State.RequestState.{Out, Doomed, Over}
 use Rattle.sva_model.specs.State.GroupState.{Awaiting, Stale}
 use Rattle.sva_model.specs.State.OrderState.{Taken}
 use Rattle.sva_model.specs.State.Stage.{Unbound, Live, Stopping, Draining, Invalidating, Quiet, Lost, Released}
@@ -21,6 +21,23 @@ use Rattle.sva_model.specs.Labels.{bearer}
 use Rattle.sva_model.specs.Steps.{reply, world_after}
 use Rattle.sva_model.specs.Claims.{Fits}
 use Rattle.sva_laws.specs.UnitSteps.{Delivers}
+
+-- One message is delivered, which spoke of this, and is in flight no more; each other one is or isn't in flight as before.
+pub record LosesMessage (before after : Endpoint) (subject : Subject) : Type 0 where
+  pub number : ℕ
+  pub spoke : before.message number ≡ Some subject
+  pub gone : after.message number ≡ None
+  pub others : (other : ℕ) → other ≢ number → after.message other ≡ before.message other
+
+-- One message is sent, which speaks of this; each other one is or isn't in flight as before, and carries what it did.
+pub record SendsMessage (before after : Endpoint) (subject : Subject) : Type 0 where
+  pub number : ℕ
+  pub fresh : before.message number ≡ None
+  pub speaks : after.message number ≡ Some subject
+  pub others :
+      (other : ℕ)
+      → other ≢ number
+      → (after.message other ≡ before.message other) × (after.carried other ≡ before.carried other)
 
 -- An evict takes the translation that is cached for the page under the bearer of the PASID, and changes nothing else there.
 pub record Evicts (before after : Endpoint) (pasid page : ℕ) : Type 0 where
@@ -61,6 +78,7 @@ pub record Takes (before after : Endpoint) (order : ℕ) : Type 0 where
       → after.request request ≡ before.request request
   pub taken : after.order_state order ≡ Taken before.uses
   pub other_orders : (other : ℕ) → other ≢ order → after.order_state other ≡ before.order_state other
+  pub delivered : LosesMessage before after (InvalidateOf order)
   pub alone : record after { held = before.held; request = before.request; order_state = before.order_state; message = before.message } ≡ before
 
 -- each Invalidate Request that is delivered, after every list of steps, is taken so, and at once
@@ -72,7 +90,7 @@ AlwaysTakes =
     → Takes ((world_after rule config steps).part endpoint) ((world_after rule config (steps ++ next ∷ [])).part endpoint) order
 
 -- A translation completion (section 10.2.3) that is kept replaces what is cached of its binding and page, and drops nothing else; one
--- that isn't kept drops nothing; and nothing else changes but that its request is over.
+-- that isn't kept drops nothing; its request is over, whose tag is free unless it was over before; and nothing else changes.
 pub record Brings (before after : Endpoint) (request : ℕ) (found : Option ℕ) (said : Answer) : Type 0 where
   pub kept : said ≡ answer.Held → (mapping : ℕ) × (found ≡ Some mapping) × (after.held request ≡ Some mapping)
   pub replaced :
@@ -89,7 +107,11 @@ pub record Brings (before after : Endpoint) (request : ℕ) (found : Option ℕ)
       → (before.request_binding other ≢ before.request_binding request) ⊎ (before.request_page other ≢ before.request_page request)
       → after.held other ≡ before.held other
   pub not_kept : said ≢ answer.Held → (other : ℕ) → after.held other ≡ before.held other
+  pub over : after.request request ≡ Over
   pub other_requests : (other : ℕ) → other ≢ request → after.request other ≡ before.request other
+  pub freed : before.request request ≢ Over → after.at_tag (before.request_tag request) ≡ None
+  pub other_tags : (tag : ℕ) → tag ≢ before.request_tag request → after.at_tag tag ≡ before.at_tag tag
+  pub delivered : LosesMessage before after (CompletionOf request found)
   pub alone : record after { held = before.held; request = before.request; at_tag = before.at_tag; message = before.message } ≡ before
 
 -- each translation completion that is delivered, after every list of steps, changes the cache only where it is answered `held`
@@ -105,6 +127,7 @@ AlwaysBrings =
 pub record Stops (before after : Endpoint) (binding : ℕ) : Type 0 where
   pub ending : after.pasid_state binding ≡ Ending
   pub others : (other : ℕ) → other ≢ binding → after.pasid_state other ≡ before.pasid_state other
+  pub delivered : LosesMessage before after (StopOf binding)
   pub alone : record after { pasid_state = before.pasid_state; message = before.message } ≡ before
 
 -- each Stop that is delivered, after every list of steps, touches no translation, no request, no use and no other PASID
@@ -122,6 +145,7 @@ pub record Quits (before after : Endpoint) (pasid : ℕ) : Type 0 where
   pub others : (other : ℕ) → other ≢ bearer before pasid → after.pasid_state other ≡ before.pasid_state other
   pub stale : (group : ℕ) → before.asker group ≡ bearer before pasid → before.group group ≡ Awaiting → after.group group ≡ Stale
   pub other_groups : (group : ℕ) → (before.asker group ≢ bearer before pasid) ⊎ (before.group group ≢ Awaiting) → after.group group ≡ before.group group
+  pub marker : SendsMessage before after (MarkerOf (bearer before pasid))
   pub alone : record after { pasid_state = before.pasid_state; group = before.group; message = before.message; carried = before.carried } ≡ before
 
 -- each quit that is accepted, after every list of steps, touches no translation, no translation request and no other PASID
@@ -144,6 +168,11 @@ pub record Asks (before after : Endpoint) (pasid page : ℕ) : Type 0 where
       → (after.request request ≡ before.request request)
       × (after.request_binding request ≡ before.request_binding request)
       × (after.request_page request ≡ before.request_page request)
+      × (after.request_tag request ≡ before.request_tag request)
+      × (after.request_message request ≡ before.request_message request)
+  pub tagged : after.at_tag (after.request_tag before.requests) ≡ Some before.requests
+  pub other_tags : (tag : ℕ) → tag ≢ after.request_tag before.requests → after.at_tag tag ≡ before.at_tag tag
+  pub asked : SendsMessage before after (RequestOf before.requests)
   pub alone :
       record after {
         requests = before.requests;

@@ -16,10 +16,11 @@ ghost use Rattle.sva_laws.specs.Waits.{AlwaysHasFront, AlwaysFitsDebts, AlwaysAw
 ghost use Rattle.sva_laws.specs.Fronts.{AlwaysFrontOf, AlwaysKeepsTargets};
 ghost use Rattle.sva_laws.specs.Untouched.{AlwaysEvicts, AlwaysTakes, AlwaysStops, AlwaysQuits, AlwaysAsks, AlwaysDisables, AlwaysCutsOff};
 ghost use Rattle.sva_laws.specs.Untouched.{AlwaysDrainsOnce, AlwaysBrings, AlwaysGoesOnInReset, AlwaysStaysDisabled};
-ghost use Rattle.sva_laws.specs.InReset.{AlwaysInReset};
+ghost use Rattle.sva_laws.specs.InReset.{AlwaysAnswersInReset, AlwaysInReset};
 ghost use Rattle.sva_laws.specs.Bearers.{AlwaysTellsBearer};
 ghost use Rattle.sva_laws.specs.Given.{AlwaysGivesLowest, AlwaysPumps};
 ghost use Rattle.sva_laws.specs.EndpointCauses.{AlwaysHasCause, AlwaysStays};
+ghost use Rattle.sva_laws.specs.FirstCauses.{AlwaysAnswersFirst};
 ghost use Rattle.sva_laws.specs.UnitSteps.{AlwaysCountsResetDones, AlwaysChangesOrders, AlwaysVoidByReset, AlwaysNotesMarkers, AlwaysGivesCookies};
 
 /// The headline. After every list of steps, however late messages come in a permitted order: each translation that an
@@ -101,16 +102,20 @@ pub fn waits_and_fronts()
 {}
 
 /// What isn't done: a step that is refused leaves the world as it was, and has the cause of its refusal, which is about
-/// the endpoint, the space, the binding or the message that the step itself names.
+/// the endpoint, the space, the binding or the message that the step itself names. It is refused exactly where one of its causes
+/// holds, by the first of them; so one that names what isn't there is answered so, whatever else holds.
 pub fn refusals()
     ensures stays { AlwaysStays }
     ensures causes { AlwaysHasCause }
+    ensures first { AlwaysAnswersFirst }
 {}
 
 /// Resets: a unit is in reset exactly while its Reset, and then the endpoint's reset-done, is in flight; and what each of
-/// them clears is clear until it ends.
+/// them clears is clear until it ends. What the endpoint does itself, and what comes to it, is answered meanwhile as at an
+/// open unit.
 pub fn what_a_reset_clears()
     ensures clear { AlwaysInReset }
+    ensures answered { AlwaysAnswersInReset }
 {}
 
 /// What is given out and told: a label that a step gives out is the lowest free one; a bearer is told of each PASID, with
@@ -159,7 +164,8 @@ pub fn what_steps_change()
 
 /// What steps at an endpoint leave as it was: an evict takes one translation out of the cache, an invalidation that is taken drops
 /// what it covers and dooms the requests that it covers, a translation that is kept replaces the older ones of its page, a Stop, a
-/// quit and a translation request touch no translation, and each changes nothing else of the endpoint and its unit. A Response
+/// quit and a translation request touch no translation, a completion ends its request and frees its tag, and each changes nothing else of the
+/// endpoint and its unit: of the messages in flight the one alone that is delivered, or sent. A Response
 /// Failure alone disables page requests, and they stay so until the endpoint takes its Reset; a reset-done leaves a Live binding Lost, and Quiet one that was told to stop; and of the
 /// two waits of a binding that ends the first alone drains. What an endpoint does itself isn't refused because its unit is in reset.
 pub fn what_steps_leave()

@@ -1,5 +1,6 @@
 use Rattle.sva_laws.proofs.Untouched.{always_evicts, always_takes, always_stops, always_quits, always_asks, always_disables, always_cuts_off}
-use Rattle.sva_laws.proofs.Untouched.{always_brings, always_drains_once, always_goes_on}
+use Rattle.sva_laws.proofs.Untouched.{always_brings, always_drains_once}
+use Rattle.sva_laws.proofs.GoingOn.{always_goes_on}
 use Rattle.sva_laws.proofs.InReset.{always_stays_disabled}
 use Rattle.sva_laws.proofs.what_steps_leave.Goals as goal
 

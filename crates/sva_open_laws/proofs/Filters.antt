@@ -188,7 +188,7 @@ first_by false false n len h =
     ap (λ (b : Bool). if b then Some (1 + n) else None) within
 
 -- it is found one by one
-position_next : {A : Type 0} (q : A → Bool) (x : A) (xs : List A)
+pub position_next : {A : Type 0} (q : A → Bool) (x : A) (xs : List A)
     → position q (x ∷ xs) ≡ (if q x then Some 0 else option_map suc (position q xs))
 position_next q x xs = first_by (q x) _ (position_or_len q xs) (length xs) refl
 

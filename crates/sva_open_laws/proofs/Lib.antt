@@ -1,7 +1,16 @@
+pub mod ActParts
+pub mod AsActs
+pub mod AskActs
+pub mod BindActs
+pub mod BindParts
+pub mod DeviceActs
 pub mod Enough
 pub mod Filters
 pub mod FreshNumbers
+pub mod GatherLists
 pub mod Gathered
+pub mod LinkOrders
+pub mod MapActs
 pub mod PageActs
 pub mod PageAlone
 pub mod PageLinks

@@ -103,7 +103,7 @@ held w e i t h =
     subst (λ z. IsGood (open_of w).frames (part_of w p) z) y.2
     (good w e (p.request_binding x.0) (p.request_page x.0) y.0 i (cached x.0 y.0 y.1) ((found w e i).cached x.0 y.0 y.1))
 
-running_is : (s : UseState) → is_running s ≡ true → s ≡ Running
+pub running_is : (s : UseState) → is_running s ≡ true → s ≡ Running
 running_is s h = grind arith
 
 no_use : (p : Endpoint) (s : OrderState) (k : ℕ) (t : Translation) → Contains (taken_of p s k) (Use t) → ⊥

@@ -77,7 +77,7 @@ noted_in_row w e b i h =
     let p = w.part e in
     in_row w e b (λ x. is_marked (p.stage x)) i (ap is_unreleased h) (ap is_marked h) (λ d k. marked_is (p.stage d) k)
 
-started_in_row : (w : World) (e b : ℕ) → Invariant w → (w.part e).pasid_state b ≢ Off
+pub started_in_row : (w : World) (e b : ℕ) → Invariant w → (w.part e).pasid_state b ≢ Off
     → IsInRow w e b (user_of w.bindings (w.part e) ((w.part e).pasid b))
 started_in_row w e b i h =
     let p = w.part e in

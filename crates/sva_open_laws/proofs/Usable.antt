@@ -82,10 +82,10 @@ current_by w m i made la fr =
 
 -- ---- endpoints
 
-held_low : (n : ℕ) (p : Endpoint) (r m : ℕ) → (p.requests ≤ r → p.held r ≡ None) → p.held r ≡ Some m → r < p.requests
+pub held_low : (n : ℕ) (p : Endpoint) (r m : ℕ) → (p.requests ≤ r → p.held r ≡ None) → p.held r ≡ Some m → r < p.requests
 held_low n p r m h k = grind (arith, h)
 
-run_low : (p : Endpoint) (u : ℕ) → (p.uses ≤ u → p.use_state u ≡ Ended) → p.use_state u ≡ Running → u < p.uses
+pub run_low : (p : Endpoint) (u : ℕ) → (p.uses ≤ u → p.use_state u ≡ Ended) → p.use_state u ≡ Running → u < p.uses
 run_low p u h k = grind (arith, h)
 
 pub sent_low : (n : ℕ) (p : Endpoint) (c : ℕ) (s : Subject) → (n ≤ c → p.message c ≡ None) → p.message c ≡ Some s → c < n

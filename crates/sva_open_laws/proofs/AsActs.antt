@@ -1,0 +1,172 @@
+-- Steps of this project's own host are acts of the open world.
+use Rattle.std.proofs.Common.{◌≡◌, refl, ap, sym, subst, ◌∙◌, ℕ, ◌<◌, ◌≤◌, Bool, true, false, arith}
+use Rattle.std.specs.Prelude.{List, [], ◌∷◌, Some, option_and_then, Ok}
+use Rattle.std.proofs.lemmas.Bool.{not-false}
+use Rattle.std.proofs.lemmas.Option.{same_Some}
+use Rattle.sva_step.specs.declared.answers.Answer.{Answer}
+use Rattle.sva_step.specs.declared.steps.Step.{Step}
+use Rattle.sva_step.specs.declared.steps.Step.TheVariants as step
+use Rattle.sva_model.specs.Words.{any_below, the}
+use Rattle.sva_model.specs.State.{PasidState, UseState, World}
+use Rattle.sva_model.specs.State.PasidState.{On}
+use Rattle.sva_model.specs.State.UseState.{Running, Dead, Ended}
+use Rattle.sva_model.specs.States.{is_free, is_on, is_running}
+use Rattle.sva_model.specs.Acts.{Act, LocalAct, act}
+use Rattle.sva_model.specs.Acts.Act.{AtEndpoint, Map, NewSpace}
+use Rattle.sva_model.specs.Labels
+use Rattle.sva_model.specs.Refusals.{refusals}
+use Rattle.sva_model.specs.Outcomes.{outcome}
+use Rattle.sva_model.specs.Steps.{after_acts, decide, next, reply, world_after}
+use Rattle.sva_labels.proofs.Tests.{is_less}
+use Rattle.sva_labels.proofs.Words.{lowest_passes, none_is}
+use Rattle.sva_laws.specs.LabelLaws.{FindsMappings}
+use Rattle.sva_laws.proofs.Invariant.{Invariant}
+use Rattle.sva_laws.proofs.Latest.{always_finds}
+use Rattle.sva_laws.proofs.LegalEndpoint.{cached_is}
+use Rattle.sva_laws.proofs.LegalHost.{bind}
+use Rattle.sva_laws.proofs.Lookback.{after_one}
+use Rattle.sva_laws.proofs.Passed.{Passed, bearer_of, label_free, label_low}
+use Rattle.sva_laws.proofs.Runs.{always}
+use Rattle.sva_laws.proofs.Told.{accepted}
+use Rattle.sva_open.specs.declared.acts.Act.{Act as Doing}
+use Rattle.sva_open.specs.declared.acts.Act.TheVariants as doing
+use Rattle.sva_open.specs.declared.acts.LocalAct.TheVariants as local
+use Rattle.sva_open.specs.World.{Open}
+use Rattle.sva_open.specs.Acts.{next_open}
+use Rattle.sva_open_laws.specs.AsActs.{StepsAreActs, acted, acts_of, begin_acts, bind_acts, end_acts, has_taken, place_of_use}
+use Rattle.sva_open_laws.specs.AsOpen.{open_of}
+use Rattle.sva_open_laws.proofs.AskActs.{asks, ends, ends_none}
+use Rattle.sva_open_laws.proofs.BindActs.{binds_open}
+use Rattle.sva_open_laws.proofs.DeviceActs.{begins, evicts}
+use Rattle.sva_open_laws.proofs.MapActs.{makes_space, maps}
+
+-- ---- Acts, one after another
+
+none_acted : (now after : Open) → now ≡ after → acted [] now ≡ Some after
+unfolding acted
+none_acted now after is = ap Some is
+
+one_acted : (its : Doing) (now after : Open) → next_open now its ≡ Some after → acted (its ∷ []) now ≡ Some after
+unfolding acted
+one_acted its now after is = ap (option_and_then (λ x. Some x)) is
+
+-- ---- Each step
+
+-- so it is of a world and its step
+abbrev IsActed : World → Step → List Doing → Type 0
+IsActed w s acts = acted acts (open_of w) ≡ Some (open_of (next w s))
+
+-- what the step leaves, by its one act
+by_act : (w : World) (s : Step) (a : Act) (acts : List Doing) → (decide w s).acts ≡ a ∷ [] → acted acts (open_of w) ≡ Some (open_of (act w a))
+    → IsActed w s acts
+by_act w s a acts is so = subst (λ l. acted acts (open_of w) ≡ Some (open_of (after_acts w l))) (sym is) so
+
+idle : (w : World) (s : Step) → (decide w s).acts ≡ [] → IsActed w s []
+idle w s is = none_acted (open_of w) (open_of (next w s)) (ap (λ l. open_of (after_acts w l)) (sym is))
+
+on_is : (s : PasidState) → is_on s ≡ true → s ≡ On
+on_is s h = grind arith
+
+below_33 : (t : ℕ) → t ≤ 32 → t < 33
+below_33 t h = omega (arith, h)
+
+started : (w : World) (e t : ℕ) → Labels.is_started (w.part e) t ≡ true
+    → ((w.part e).at_pasid t ≡ Some (Labels.bearer (w.part e) t)) × (is_on ((w.part e).pasid_state (Labels.bearer (w.part e) t)) ≡ true)
+started w e t h = bearer_of (w.part e) t (λ b. is_on ((w.part e).pasid_state b)) h
+
+bears : (w : World) (e t q : ℕ) → Labels.is_cached (w.part e) t q ≡ true → (w.part e).at_pasid t ≡ Some (Labels.bearer (w.part e) t)
+bears w e t q h = (bearer_of (w.part e) t (λ b. any_below (w.part e).requests (Labels.is_held_at (w.part e) b q)) h).0
+
+ended : (w : World) (e u : ℕ) (i : Invariant w) → e < w.config.endpoints → (x : UseState) → (w.part e).use_state u ≡ x
+    → acted (end_acts (w.part e) e u x) (open_of w) ≡ Some (open_of (act w (AtEndpoint e (LocalAct.End u))))
+ended w e u i low Running h =
+    one_acted (doing.At e (local.End (place_of_use (w.part e) u))) (open_of w) (open_of (act w (AtEndpoint e (LocalAct.End u)))) (ends w e u i low h)
+ended w e u i low Dead h =
+    none_acted (open_of w) (open_of (act w (AtEndpoint e (LocalAct.End u)))) (ends_none w e u i low (ap is_running h))
+ended w e u i low Ended h =
+    none_acted (open_of w) (open_of (act w (AtEndpoint e (LocalAct.End u)))) (ends_none w e u i low (ap is_running h))
+
+begun : (w : World) (e t q : ℕ) (x : Bool) (i : Invariant w) (acts : List Doing) → Passed (refusals w (step.BeginUse e t q x))
+    → (taken : Bool) → has_taken (w.part e) ≡ taken → begin_acts taken e t q ≡ Some acts
+    → acted acts (open_of w)
+    ≡ Some (open_of (act w (AtEndpoint e (LocalAct.Begin (Labels.cached (w.part e) (Labels.bearer (w.part e) t) q)
+    (the ((w.part e).held (Labels.cached (w.part e) (Labels.bearer (w.part e) t) q))) (Labels.lowest_label 16 (w.part e).at_slot)))))
+begun w e t q x i acts h true taken is = absurd (cc)
+begun w e t q x i acts h false taken is =
+    let p = w.part e in
+    let cached = not-false (Labels.is_cached p t q) h.1.1.1.0 in
+    let on = started w e t (not-false (Labels.is_started p t) h.1.1.0) in
+    let r = Labels.cached p (Labels.bearer p t) q in
+    let slot = Labels.lowest_label 16 p.at_slot in
+    subst (λ l. acted l (open_of w) ≡ Some (open_of (act w (AtEndpoint e (LocalAct.Begin r (the (p.held r)) slot)))))
+    (same_Some (doing.At e (local.Use t q) ∷ []) acts is)
+    (one_acted (doing.At e (local.Use t q)) (open_of w) (open_of (act w (AtEndpoint e (LocalAct.Begin r (the (p.held r)) slot))))
+    (begins w e t q i (cached_is p t q cached) on.0 slot (is_less e w.config.endpoints h.0) (on_is (p.pasid_state (Labels.bearer p t)) on.1) taken))
+
+steps : (w : World) (s : Step) (said : Answer) (acts : List Doing) → Invariant w → FindsMappings w.mappings → reply w s ≡ Ok said
+    → acts_of w s ≡ Some acts → IsActed w s acts
+steps w step.Space said acts i fi h is =
+    let yes = accepted (refusals w step.Space) (outcome w step.Space) said h in
+    subst (IsActed w step.Space) (same_Some [] acts is)
+    (by_act w step.Space NewSpace [] yes.2 (none_acted (open_of w) (open_of (act w NewSpace)) (makes_space w)))
+steps w (step.Map n q x) said acts i fi h is =
+    let yes = accepted (refusals w (step.Map n q x)) (outcome w (step.Map n q x)) said h in
+    let s = Labels.name w n in
+    let f = Labels.lowest_frame w in
+    let free = lowest_passes w.config.frames (is_free w) yes.0.1.1.1.1.0 in
+    subst (IsActed w (step.Map n q x)) (same_Some (doing.SetPage s q f x ∷ []) acts is)
+    (by_act w (step.Map n q x) (Map s q f x) (doing.SetPage s q f x ∷ []) yes.2
+    (one_acted (doing.SetPage s q f x) (open_of w) (open_of (act w (Map s q f x)))
+    (maps w s q f x i fi free.1 free.0 (none_is (w.mappings.at s q) yes.0.1.1.0))))
+steps w (step.Bind e n) said acts i fi h is =
+    let yes = accepted (refusals w (step.Bind e n)) (outcome w (step.Bind e n)) said h in
+    let s = Labels.name w n in
+    let t = the (Labels.pasid_for w e s) in
+    let legal = (bind w e n i yes.0).1.0 in
+    subst (IsActed w (step.Bind e n)) (same_Some (bind_acts e s t) acts is)
+    (subst (λ l. acted (bind_acts e s t) (open_of w) ≡ Some (open_of (after_acts w l))) (sym yes.2)
+    (binds_open w i e s t legal.1.0.3 legal.0 (below_33 t legal.1.0.5) legal.1.0.1))
+steps w (step.Ask e t q) said acts i fi h is =
+    let yes = accepted (refusals w (step.Ask e t q)) (outcome w (step.Ask e t q)) said h in
+    let p = w.part e in
+    let on = started w e t (not-false (Labels.is_started p t) yes.0.1.1.0) in
+    let o = LocalAct.Ask (Labels.bearer p t) q (Labels.lowest_label 32 p.at_tag) in
+    subst (IsActed w (step.Ask e t q)) (same_Some (doing.At e (local.Ask t q) ∷ []) acts is)
+    (by_act w (step.Ask e t q) (AtEndpoint e o) (doing.At e (local.Ask t q) ∷ []) yes.2
+    (one_acted (doing.At e (local.Ask t q)) (open_of w) (open_of (act w (AtEndpoint e o)))
+    (asks w e t q i (is_less e w.config.endpoints yes.0.0) on.0 (on_is (p.pasid_state (Labels.bearer p t)) on.1)
+    (label_free 32 p.at_tag yes.0.1.1.1.0) (label_low 32 p.at_tag yes.0.1.1.1.0))))
+steps w (step.BeginUse e t q x) said acts i fi h is =
+    let yes = accepted (refusals w (step.BeginUse e t q x)) (outcome w (step.BeginUse e t q x)) said h in
+    let p = w.part e in
+    let r = Labels.cached p (Labels.bearer p t) q in
+    by_act w (step.BeginUse e t q x) (AtEndpoint e (LocalAct.Begin r (the (p.held r)) (Labels.lowest_label 16 p.at_slot))) acts yes.2
+    (begun w e t q x i acts yes.0 (has_taken p) refl is)
+steps w (step.EndUse e t) said acts i fi h is =
+    let yes = accepted (refusals w (step.EndUse e t)) (outcome w (step.EndUse e t)) said h in
+    let u = the ((w.part e).at_slot t) in
+    subst (IsActed w (step.EndUse e t)) (same_Some (end_acts (w.part e) e u ((w.part e).use_state u)) acts is)
+    (by_act w (step.EndUse e t) (AtEndpoint e (LocalAct.End u)) (end_acts (w.part e) e u ((w.part e).use_state u)) yes.2
+    (ended w e u i (is_less e w.config.endpoints yes.0.0) ((w.part e).use_state u) refl))
+steps w (step.Evict e t q) said acts i fi h is =
+    let yes = accepted (refusals w (step.Evict e t q)) (outcome w (step.Evict e t q)) said h in
+    let p = w.part e in
+    let cached = not-false (Labels.is_cached p t q) yes.0.1.1.0 in
+    let o = LocalAct.Evict (Labels.cached p (Labels.bearer p t) q) in
+    subst (IsActed w (step.Evict e t q)) (same_Some (doing.At e (local.Evict t q) ∷ []) acts is)
+    (by_act w (step.Evict e t q) (AtEndpoint e o) (doing.At e (local.Evict t q) ∷ []) yes.2
+    (one_acted (doing.At e (local.Evict t q)) (open_of w) (open_of (act w (AtEndpoint e o)))
+    (evicts w e t q i (cached_is p t q cached) (bears w e t q cached) (is_less e w.config.endpoints yes.0.0))))
+steps w (step.Look f) said acts i fi h is =
+    subst (IsActed w (step.Look f)) (same_Some [] acts is)
+    (idle w (step.Look f) (accepted (refusals w (step.Look f)) (outcome w (step.Look f)) said h).2)
+steps w (step.Bearer t) said acts i fi h is =
+    subst (IsActed w (step.Bearer t)) (same_Some [] acts is)
+    (idle w (step.Bearer t) (accepted (refusals w (step.Bearer t)) (outcome w (step.Bearer t)) said h).2)
+steps w s said acts i fi h is = absurd (grind arith)
+
+pub steps_are_acts : StepsAreActs
+steps_are_acts rule config ss s said acts fits h is =
+    let w = world_after rule config ss in
+    steps w s said acts (always rule config ss) (always_finds rule config ss) h is
+    ∙ ap (λ v. Some (open_of v)) (sym (after_one rule config ss s))

@@ -1,0 +1,73 @@
+-- Steps of this project's own host are acts of the open world: seen as an open world, what an accepted step leaves is what its acts leave,
+-- one after another, each permitted. Nothing is left out of that but the steps for which no acts are said here.
+use Rattle.std.specs.Prelude.{◌≡◌, ℕ, Bool, true, false, List, [], ◌∷◌, ◌++◌, Option, Some, None, option_and_then, Ok}
+use Rattle.sva_step.specs.declared.answers.Answer.{Answer}
+use Rattle.sva_step.specs.declared.limits.Config.{Config}
+use Rattle.sva_step.specs.declared.steps.Step.{Step}
+use Rattle.sva_step.specs.declared.steps.Step.TheVariants as step
+use Rattle.sva_model.specs.Words.{any_below, count_below, the}
+use Rattle.sva_model.specs.State.{Endpoint, PasidRule, UseState, World}
+use Rattle.sva_model.specs.State.UseState.{Running}
+use Rattle.sva_model.specs.States.{is_running, is_taken}
+use Rattle.sva_model.specs.Labels.{lowest_frame, name, pasid_for}
+use Rattle.sva_model.specs.Steps.{reply, world_after}
+use Rattle.sva_model.specs.Claims.{Fits}
+use Rattle.sva_open.specs.declared.acts.Act.{Act}
+use Rattle.sva_open.specs.declared.acts.Act.TheVariants as act
+use Rattle.sva_open.specs.declared.acts.LocalAct.TheVariants as local
+use Rattle.sva_open.specs.World.{Open}
+use Rattle.sva_open.specs.Acts.{next_open}
+use Rattle.sva_open_laws.specs.AsOpen.{open_of}
+
+-- acts, one after another; none where one of them isn't permitted
+unfoldable pub acted : List Act → Open → Option Open
+acted [] now = Some now
+acted (its ∷ rest) now = option_and_then (acted rest) (next_open now its)
+
+-- the place of a use that runs, among what the endpoint is at
+abbrev pub place_of_use : Endpoint → (used : ℕ) → ℕ
+place_of_use part used = count_below used (λ u. is_running (part.use_state u))
+
+-- a use that a reset has ended is there no more
+abbrev pub end_acts : Endpoint → (endpoint used : ℕ) → UseState → List Act
+end_acts part endpoint used Running = act.At endpoint (local.End (place_of_use part used)) ∷ []
+end_acts part endpoint used _ = []
+
+-- A use begins behind the invalidations that are taken. By names their order isn't told, and each use stands before them; so nothing is
+-- said of a use that begins while one is taken.
+abbrev pub begin_acts : (is_taken : Bool) → (endpoint pasid page : ℕ) → Option (List Act)
+begin_acts true endpoint pasid page = None
+begin_acts false endpoint pasid page = Some (act.At endpoint (local.Use pasid page) ∷ [])
+
+-- a binding begins: the entry of its PASID leads to its space, and the endpoint is told
+abbrev pub bind_acts : (endpoint space pasid : ℕ) → List Act
+bind_acts endpoint space pasid = act.At endpoint (local.SetEntry pasid space) ∷ act.At endpoint (local.Start pasid) ∷ []
+
+abbrev pub has_taken : Endpoint → Bool
+has_taken part = any_below part.orders (λ k. is_taken (part.order_state k))
+
+-- the acts that stand for a step; none are said of those that aren't named here
+abbrev pub acts_of : World → Step → Option (List Act)
+acts_of world step.Space = Some []
+acts_of world (step.Map space page write) = Some (act.SetPage (name world space) page (lowest_frame world) write ∷ [])
+acts_of world (step.Bind endpoint space) =
+    Some (bind_acts endpoint (name world space) (the (pasid_for world endpoint (name world space))))
+acts_of world (step.Ask endpoint pasid page) = Some (act.At endpoint (local.Ask pasid page) ∷ [])
+acts_of world (step.BeginUse endpoint pasid page write) = begin_acts (has_taken (world.part endpoint)) endpoint pasid page
+acts_of world (step.EndUse endpoint slot) =
+    Some
+    (end_acts (world.part endpoint) endpoint (the ((world.part endpoint).at_slot slot))
+    ((world.part endpoint).use_state (the ((world.part endpoint).at_slot slot))))
+acts_of world (step.Evict endpoint pasid page) = Some (act.At endpoint (local.Evict pasid page) ∷ [])
+acts_of world (step.Look frame) = Some []
+acts_of world (step.Bearer pasid) = Some []
+acts_of world _ = None
+
+-- so it is after every list of steps
+abbrev pub StepsAreActs : Type 0
+StepsAreActs =
+    (rule : PasidRule) (config : Config) (steps : List Step) (next : Step) (said : Answer) (acts : List Act)
+    → Fits config
+    → reply (world_after rule config steps) next ≡ Ok said
+    → acts_of (world_after rule config steps) next ≡ Some acts
+    → acted acts (open_of (world_after rule config steps)) ≡ Some (open_of (world_after rule config (steps ++ next ∷ [])))

@@ -91,6 +91,7 @@ pub mod WholeLists
 pub mod SoundWaits
 pub mod SoundRequests
 pub mod SoundFlights
+pub mod Responses
 pub mod SoundSizes
 pub mod SoundJobs
 pub mod SoundTables

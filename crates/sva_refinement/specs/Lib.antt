@@ -18,4 +18,5 @@ pub mod WiresInReset
 pub mod ByLabels
 pub mod Refinement
 pub mod Found
+pub mod Responses
 pub mod Tallies

@@ -8,6 +8,7 @@ mod by_names;
 
 ghost use Rattle.sva_refinement.specs.Refinement.{LabelsAreNames, RunsByLabels, AlwaysSound, AlwaysHaveSpaces};
 ghost use Rattle.sva_refinement.specs.Found.{SpacesFound, PagesFound, FramesFound};
+ghost use Rattle.sva_refinement.specs.Responses.{AlwaysFindsFinished};
 ghost use Rattle.sva_refinement.specs.Tallies.{AlwaysTallied};
 
 pub use by_labels::{
@@ -51,4 +52,10 @@ pub fn bindings_have_spaces()
 /// no more.
 pub fn always_tallied()
     ensures { AlwaysTallied }
+{}
+
+/// A response in flight finds by its index a group of its PASID whose last page request was sent. So none is in flight to
+/// a group that isn't finished, and where the page requests of its endpoint are disabled only a reset helps.
+pub fn responses_are_found()
+    ensures { AlwaysFindsFinished }
 {}

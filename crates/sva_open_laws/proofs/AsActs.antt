@@ -1,13 +1,14 @@
 -- Steps of this project's own host are acts of the open world.
 use Rattle.std.proofs.Common.{◌≡◌, refl, ap, sym, subst, ◌∙◌, ℕ, ◌<◌, ◌≤◌, Bool, true, false, arith}
-use Rattle.std.specs.Prelude.{List, [], ◌∷◌, Some, option_and_then, Ok}
+use Rattle.std.specs.Prelude.{List, [], ◌∷◌, Some, option_and_then, Ok, Option}
 use Rattle.std.proofs.lemmas.Bool.{not-false}
 use Rattle.std.proofs.lemmas.Option.{same_Some}
 use Rattle.sva_step.specs.declared.answers.Answer.{Answer}
 use Rattle.sva_step.specs.declared.steps.Step.{Step}
 use Rattle.sva_step.specs.declared.steps.Step.TheVariants as step
-use Rattle.sva_model.specs.Words.{any_below, the}
-use Rattle.sva_model.specs.State.{PasidState, UseState, World}
+use Rattle.sva_model.specs.Words.{any_below, is_some, the}
+use Rattle.sva_model.specs.State.{PasidState, Subject, UseState, World}
+use Rattle.sva_model.specs.State.Subject.{ResponseOf, StartOf}
 use Rattle.sva_model.specs.State.PasidState.{On}
 use Rattle.sva_model.specs.State.UseState.{Running, Dead, Ended}
 use Rattle.sva_model.specs.States.{is_free, is_on, is_running}
@@ -15,7 +16,7 @@ use Rattle.sva_model.specs.Acts.{Act, LocalAct, act}
 use Rattle.sva_model.specs.Acts.Act.{AtEndpoint, Map, NewSpace}
 use Rattle.sva_model.specs.Labels
 use Rattle.sva_model.specs.Refusals.{refusals}
-use Rattle.sva_model.specs.Outcomes.{outcome}
+use Rattle.sva_model.specs.Outcomes.{deliver_outcome, outcome}
 use Rattle.sva_model.specs.Steps.{after_acts, decide, next, reply, world_after}
 use Rattle.sva_labels.proofs.Tests.{is_less}
 use Rattle.sva_labels.proofs.Words.{lowest_passes, none_is}
@@ -33,12 +34,15 @@ use Rattle.sva_open.specs.declared.acts.Act.TheVariants as doing
 use Rattle.sva_open.specs.declared.acts.LocalAct.TheVariants as local
 use Rattle.sva_open.specs.World.{Open}
 use Rattle.sva_open.specs.Acts.{next_open}
-use Rattle.sva_open_laws.specs.AsActs.{StepsAreActs, acted, acts_of, begin_acts, bind_acts, end_acts, has_taken, place_of_use}
+use Rattle.sva_open_laws.specs.AsActs.{StepsAreActs, acted, acts_of, begin_acts, bind_acts, end_acts, has_taken, place_of_use, deliver_acts}
 use Rattle.sva_open_laws.specs.AsOpen.{open_of}
+use Rattle.sva_open_laws.specs.LinkOrders.{place_of_message}
+use Rattle.sva_open_laws.proofs.ArriveActs.{answers}
 use Rattle.sva_open_laws.proofs.AskActs.{asks, ends, ends_none}
 use Rattle.sva_open_laws.proofs.BindActs.{binds_open}
 use Rattle.sva_open_laws.proofs.DeviceActs.{begins, evicts}
 use Rattle.sva_open_laws.proofs.MapActs.{makes_space, maps}
+use Rattle.sva_open_laws.proofs.StartActs.{starts}
 
 -- ---- Acts, one after another
 
@@ -103,6 +107,35 @@ begun w e t q x i acts h false taken is =
     (one_acted (doing.At e (local.Use t q)) (open_of w) (open_of (act w (AtEndpoint e (LocalAct.Begin r (the (p.held r)) slot))))
     (begins w e t q i (cached_is p t q cached) on.0 slot (is_less e w.config.endpoints h.0) (on_is (p.pasid_state (Labels.bearer p t)) on.1) taken))
 
+-- a delivery, by what the message speaks of
+delivers : (w : World) (n : ℕ) (acts : List Doing) → Invariant w → (o : Option Subject)
+    → (w.part (w.link_of (Labels.name w n))).message (Labels.name w n) ≡ o
+    → Labels.is_permitted_now (w.part (w.link_of (Labels.name w n))) (Labels.name w n) o ≡ true
+    → (decide w (step.Deliver n)).acts
+    ≡ (deliver_outcome w (w.part (w.link_of (Labels.name w n))) (w.link_of (Labels.name w n)) (Labels.name w n)
+    ((w.part (w.link_of (Labels.name w n))).message (Labels.name w n))).acts
+    → deliver_acts (w.link_of (Labels.name w n))
+    (place_of_message w.mappings (w.part (w.link_of (Labels.name w n))) (Labels.name w n)) o ≡ Some acts
+    → IsActed w (step.Deliver n) acts
+delivers w n acts i (Some (StartOf b)) speaks permitted does is =
+    let c = Labels.name w n in
+    let e = w.link_of c in
+    let its = doing.At e (local.Deliver (place_of_message w.mappings (w.part e) c)) in
+    let a = AtEndpoint e (LocalAct.Start_arrives c b) in
+    subst (IsActed w (step.Deliver n)) (same_Some (its ∷ []) acts is)
+    (by_act w (step.Deliver n) a (its ∷ []) (does ∙ ap (λ z. (deliver_outcome w (w.part e) e c z).acts) speaks)
+    (one_acted its (open_of w) (open_of (act w a)) (starts w e c b i ((i.parts e).near c (ap is_some speaks)) speaks permitted)))
+delivers w n acts i (Some (ResponseOf g code)) speaks permitted does is =
+    let c = Labels.name w n in
+    let e = w.link_of c in
+    let its = doing.At e (local.Deliver (place_of_message w.mappings (w.part e) c)) in
+    let a = AtEndpoint e (LocalAct.Answered c g code) in
+    subst (IsActed w (step.Deliver n)) (same_Some (its ∷ []) acts is)
+    (by_act w (step.Deliver n) a (its ∷ []) (does ∙ ap (λ z. (deliver_outcome w (w.part e) e c z).acts) speaks)
+    (one_acted its (open_of w) (open_of (act w a))
+    (answers w e c g code i ((i.parts e).near c (ap is_some speaks)) speaks permitted)))
+delivers w n acts i o speaks permitted does is = absurd (grind arith)
+
 steps : (w : World) (s : Step) (said : Answer) (acts : List Doing) → Invariant w → FindsMappings w.mappings → reply w s ≡ Ok said
     → acts_of w s ≡ Some acts → IsActed w s acts
 steps w step.Space said acts i fi h is =
@@ -157,6 +190,11 @@ steps w (step.Evict e t q) said acts i fi h is =
     (by_act w (step.Evict e t q) (AtEndpoint e o) (doing.At e (local.Evict t q) ∷ []) yes.2
     (one_acted (doing.At e (local.Evict t q)) (open_of w) (open_of (act w (AtEndpoint e o)))
     (evicts w e t q i (cached_is p t q cached) (bears w e t q cached) (is_less e w.config.endpoints yes.0.0))))
+steps w (step.Deliver n) said acts i fi h is =
+    let yes = accepted (refusals w (step.Deliver n)) (outcome w (step.Deliver n)) said h in
+    let p = w.part (w.link_of (Labels.name w n)) in
+    delivers w n acts i (p.message (Labels.name w n)) refl (not-false (Labels.is_permitted_now p (Labels.name w n) (p.message (Labels.name w n))) yes.0.1.0)
+    yes.2 is
 steps w (step.Look f) said acts i fi h is =
     subst (IsActed w (step.Look f)) (same_Some [] acts is)
     (idle w (step.Look f) (accepted (refusals w (step.Look f)) (outcome w (step.Look f)) said h).2)

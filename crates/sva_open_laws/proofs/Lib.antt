@@ -1,14 +1,17 @@
 pub mod ActParts
+pub mod ArriveActs
 pub mod AsActs
 pub mod AskActs
 pub mod BindActs
 pub mod BindParts
+pub mod Covered
 pub mod DeviceActs
 pub mod Enough
 pub mod Filters
 pub mod FreshNumbers
 pub mod GatherLists
 pub mod Gathered
+pub mod LinkLists
 pub mod LinkOrders
 pub mod MapActs
 pub mod PageActs
@@ -22,4 +25,5 @@ pub mod PageTimes
 pub mod PageWorlds
 pub mod Safety
 pub mod Shown
+pub mod StartActs
 pub mod Usable

@@ -18,7 +18,7 @@ use Rattle.sva_open_laws.specs.LinkOrders.{OrdersAreOne}
 use Rattle.sva_open_laws.proofs.Gathered.{gathered, none_in, one_in}
 
 -- the kind of a message; a status, which no world of MODEL's has in flight, is ordered as a translation request is
-abbrev kind_by : Message → MessageKind
+abbrev pub kind_by : Message → MessageKind
 kind_by (message.Start pasid) = StartKind
 kind_by (message.Stop pasid) = StopKind
 kind_by message.Reset = ResetKind
@@ -60,7 +60,7 @@ down_alike (message.Marker pasid) = refl
 down_alike (message.Status pasid) = refl
 down_alike message.ResetDone = refl
 
-alike : (m older : Message) → stays_behind m older ≡ model.stays_behind (kind_by m) (kind_by older)
+pub alike : (m older : Message) → stays_behind m older ≡ model.stays_behind (kind_by m) (kind_by older)
 alike (message.Start pasid) older = down_alike older
 alike (message.Stop pasid) older = down_alike older
 alike message.Reset older = down_alike older
@@ -79,7 +79,7 @@ alike (message.Status pasid) older = refl
 alike message.ResetDone older = refl
 
 -- what is read off has the kind of what it speaks of
-read_off : (ms : Mappings) (p : Endpoint) (x : Subject) (one : Sent) → Contains (sent_of ms p x) one → kind_by one.message ≡ kind_of p x
+pub read_off : (ms : Mappings) (p : Endpoint) (x : Subject) (one : Sent) → Contains (sent_of ms p x) one → kind_by one.message ≡ kind_of p x
 read_off ms p (StartOf b) one h = ap (λ (z : Sent). kind_by z.message) (sym (one_in _ one h))
 read_off ms p (StopOf b) one h = ap (λ (z : Sent). kind_by z.message) (sym (one_in _ one h))
 read_off ms p FunctionReset one h = ap (λ (z : Sent). kind_by z.message) (sym (one_in _ one h))

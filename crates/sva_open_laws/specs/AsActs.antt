@@ -6,7 +6,8 @@ use Rattle.sva_step.specs.declared.limits.Config.{Config}
 use Rattle.sva_step.specs.declared.steps.Step.{Step}
 use Rattle.sva_step.specs.declared.steps.Step.TheVariants as step
 use Rattle.sva_model.specs.Words.{any_below, count_below, the}
-use Rattle.sva_model.specs.State.{Endpoint, PasidRule, UseState, World}
+use Rattle.sva_model.specs.State.{Endpoint, PasidRule, Subject, UseState, World}
+use Rattle.sva_model.specs.State.Subject.{ResponseOf, StartOf}
 use Rattle.sva_model.specs.State.UseState.{Running}
 use Rattle.sva_model.specs.States.{is_running, is_taken}
 use Rattle.sva_model.specs.Labels.{lowest_frame, name, pasid_for}
@@ -18,6 +19,7 @@ use Rattle.sva_open.specs.declared.acts.LocalAct.TheVariants as local
 use Rattle.sva_open.specs.World.{Open}
 use Rattle.sva_open.specs.Acts.{next_open}
 use Rattle.sva_open_laws.specs.AsOpen.{open_of}
+use Rattle.sva_open_laws.specs.LinkOrders.{place_of_message}
 
 -- acts, one after another; none where one of them isn't permitted
 unfoldable pub acted : List Act → Open → Option Open
@@ -46,6 +48,12 @@ bind_acts endpoint space pasid = act.At endpoint (local.SetEntry pasid space) �
 abbrev pub has_taken : Endpoint → Bool
 has_taken part = any_below part.orders (λ k. is_taken (part.order_state k))
 
+-- of deliveries it is said of a start, and of a response
+abbrev pub deliver_acts : (endpoint place : ℕ) → Option Subject → Option (List Act)
+deliver_acts endpoint place (Some (StartOf binding)) = Some (act.At endpoint (local.Deliver place) ∷ [])
+deliver_acts endpoint place (Some (ResponseOf group code)) = Some (act.At endpoint (local.Deliver place) ∷ [])
+deliver_acts endpoint place _ = None
+
 -- the acts that stand for a step; none are said of those that aren't named here
 abbrev pub acts_of : World → Step → Option (List Act)
 acts_of world step.Space = Some []
@@ -59,6 +67,10 @@ acts_of world (step.EndUse endpoint slot) =
     (end_acts (world.part endpoint) endpoint (the ((world.part endpoint).at_slot slot))
     ((world.part endpoint).use_state (the ((world.part endpoint).at_slot slot))))
 acts_of world (step.Evict endpoint pasid page) = Some (act.At endpoint (local.Evict pasid page) ∷ [])
+acts_of world (step.Deliver number) =
+    deliver_acts (world.link_of (name world number))
+    (place_of_message world.mappings (world.part (world.link_of (name world number))) (name world number))
+    ((world.part (world.link_of (name world number))).message (name world number))
 acts_of world (step.Look frame) = Some []
 acts_of world (step.Bearer pasid) = Some []
 acts_of world _ = None

@@ -1,6 +1,7 @@
 pub mod AsActs
 pub mod AsOpen
 pub mod Beside
+pub mod Covered
 pub mod Fresh
 pub mod LinkOrders
 pub mod PageRows

@@ -10,7 +10,7 @@ ghost use Rattle.sva_open_laws.specs.AsOpen.{ClosedIsSafe};
 ghost use Rattle.sva_open_laws.specs.Beside.{RunsBeside};
 ghost use Rattle.sva_open_laws.specs.Shown.{ClosedIsShown, SafeSaysEnough};
 
-pub use alongside::{orders_are_one, steps_are_acts};
+pub use alongside::{orders_are_one, scopes_are_one, steps_are_acts};
 pub use fresh::numbers_are_fresh;
 pub use pages::{pages_stand_alone, rows_of_pages};
 

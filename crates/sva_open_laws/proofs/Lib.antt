@@ -1,7 +1,13 @@
+pub mod DevicesPaid
+pub mod Ended
 pub mod Enough
 pub mod Filters
+pub mod Forward
 pub mod FreshNumbers
 pub mod Gathered
+pub mod HostPaid
+pub mod LinksPaid
+pub mod Lowered
 pub mod PageActs
 pub mod PageAlone
 pub mod PageLinks
@@ -14,3 +20,5 @@ pub mod PageWorlds
 pub mod Safety
 pub mod Shown
 pub mod Usable
+pub mod Weighed
+pub mod WorldsPaid

@@ -1,7 +1,8 @@
 //! Laws of the open world. This project's own world, seen as an open one, is safe as other hosts are judged; the open
-//! world stands apart by pages; and numbers of groups are fresh.
+//! world stands apart by pages; numbers of groups are fresh; and each driver comes to an end.
 #![tactic(auto)]
 
+mod ends;
 mod fresh;
 mod pages;
 
@@ -9,6 +10,7 @@ ghost use Rattle.sva_open_laws.specs.AsOpen.{ClosedIsSafe};
 ghost use Rattle.sva_open_laws.specs.Beside.{RunsBeside};
 ghost use Rattle.sva_open_laws.specs.Shown.{ClosedIsShown, SafeSaysEnough};
 
+pub use ends::{each_act_is_paid, each_driver_ends, texts_go_forward};
 pub use fresh::numbers_are_fresh;
 pub use pages::{pages_stand_alone, rows_of_pages};
 

@@ -1,11 +1,10 @@
 -- What each act of an endpoint leaves weighs less than what was there, with its price; and so does what a unit does by itself.
-use Rattle.std.proofs.Common.{◌≡◌, ◌∙◌, ◌<◌, ◌≤◌, ℕ, ◌+◌, Bool, true, false, Option, Some, None, List, [], ◌∷◌, ◌++◌, map, refl, ap, sym, subst, arith}
+use Rattle.std.proofs.Common.{◌≡◌, ◌<◌, ◌≤◌, ℕ, ◌+◌, Bool, true, false, Option, Some, None, List, [], ◌∷◌, ◌++◌, map, refl, ap, arith}
 use Rattle.std.proofs.lemmas.Bool.{and_parts, not-true}
 use Rattle.std.proofs.lemmas.List.Sums.{sum_by_push}
-use Rattle.std.specs.Prelude.{⊤, ◌==◌, ◌&&◌, not, if◌then◌else◌, filter, find, is_none, position, remove, slice_get, slice_set, sum_by, take}
+use Rattle.std.specs.Prelude.{◌&&◌, not, if◌then◌else◌, find, is_none, position, remove, slice_get, slice_set, sum_by}
 use Rattle.std.specs.List.{list_any}
 use Rattle.sva_step.specs.Limits
-use Rattle.sva_open.specs.declared.frames.Mapping.{Mapping}
 use Rattle.sva_open.specs.declared.frames.Translation.{Translation}
 use Rattle.sva_open.specs.declared.scopes.Scope.{Scope}
 use Rattle.sva_open.specs.declared.rows.State.{State}

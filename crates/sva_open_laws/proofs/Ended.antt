@@ -13,7 +13,7 @@ use Rattle.sva_judge.specs.Verdicts.{IsStuck}
 use Rattle.sva_judge.specs.declared.choices.Choice.{Choice}
 use Rattle.sva_judge.specs.declared.choices.Doing.{Doing}
 use Rattle.sva_judge.specs.declared.choices.Doing.TheVariants as doing
-use Rattle.sva_open_laws.specs.Ends.{ComesToRest, EachEventLowers, EndsAreThere, GoesForward, IsAtRest, IsDone, ListsAreBounded, NeverStuckIsDone, measure}
+use Rattle.sva_open_laws.specs.Ends.{EndsAreThere, GoesForward, IsAtRest, IsDone, ListsAreBounded, NeverStuckIsDone, measure}
 use Rattle.sva_open_laws.proofs.Lowered.{each_event_lowers}
 
 -- ---- lists are bounded
@@ -154,7 +154,7 @@ any_choice driver spot = elim (any_of {A = Permitted driver spot} {Such = AreRef
     at_each : (own : Doing) → Permitted driver spot ⊎ AreRefused driver spot own
     at_each own =
         any_below {Such = λ at. (number : ℕ) → number < count_of driver spot own at
-            → next_in driver spot (record { doing = own; at = at; number = number }) ≡ None}
+        → next_in driver spot (record { doing = own; at = at; number = number }) ≡ None}
         (λ at. any_below {Such = λ number. next_in driver spot (record { doing = own; at = at; number = number }) ≡ None}
         (λ number. look_at driver spot (record { doing = own; at = at; number = number })) (count_of driver spot own at))
         (places_of driver own)

@@ -1,15 +1,13 @@
 -- The lines of each driver that is read from a text go forward.
-use Rattle.std.proofs.Common.{◌≡◌, ◌∙◌, ◌<◌, ◌≤◌, ℕ, zero, suc, ◌+◌, Bool, true, false, Option, Some, None, option_map, List, [], ◌∷◌, map}
-use Rattle.std.proofs.Common.{refl, ap, sym, subst, arith}
+use Rattle.std.proofs.Common.{◌≡◌, ◌∙◌, ◌<◌, ℕ, zero, suc, ◌+◌, Bool, true, false, Some, None, option_map, List, [], ◌∷◌, map}
+use Rattle.std.proofs.Common.{ap, sym, subst, arith}
 use Rattle.std.proofs.lemmas.Option.{same_Some, slice_get-map}
 use Rattle.std.specs.Prelude.{if◌then◌else◌, slice_get, Result, Ok, Err}
-use Rattle.sva_open.specs.declared.drivers.Driver.{Driver}
 use Rattle.sva_open.specs.declared.drivers.Line.{Line}
 use Rattle.sva_judge.specs.Spots.{Spot}
 use Rattle.sva_driver_words.specs.Awaits.{LineSaid}
-use Rattle.sva_driver_texts.specs.Texts.{DriverRead, IsBehind as StandsBehind, IsOpening, IsRead, IsText, ReadsDriver, StandsAt, StandsBy, behind_first, driver_of}
-use Rattle.sva_driver_texts.specs.Ways.{first_behind, first_from, is_on_way, left_by, looks, next_of, other_of, threads_of, way_of, way_seen, ways_from, ways_of}
-use Rattle.sva_driver_texts.specs.declared.kept.Begun.{Begun}
+use Rattle.sva_driver_texts.specs.Texts.{DriverRead, IsText, ReadsDriver, StandsAt, StandsBy, behind_first, driver_of}
+use Rattle.sva_driver_texts.specs.Ways.{first_behind, first_from, is_on_way, left_by, looks, other_of, threads_of, way_of, way_seen, ways_from, ways_of}
 use Rattle.sva_driver_texts.specs.declared.kept.Begun.TheVariants.{Stands}
 use Rattle.sva_driver_texts.specs.declared.kept.Halt.{Halt}
 use Rattle.sva_driver_texts.specs.declared.kept.Halt.TheVariants as halt

@@ -1,9 +1,8 @@
 -- What each act of the host leaves at an endpoint weighs less than what was there, with its price.
-use Rattle.std.proofs.Common.{◌≡◌, ◌∙◌, ◌<◌, ◌≤◌, ℕ, ◌+◌, Bool, true, false, Option, Some, None, List, [], ◌∷◌, ◌++◌, map, refl, ap, sym, arith}
-use Rattle.std.proofs.lemmas.Bool.{and_parts}
+use Rattle.std.proofs.Common.{◌≡◌, ◌∙◌, ◌<◌, ◌≤◌, ℕ, ◌+◌, Bool, true, false, Option, Some, None, List, [], ◌∷◌, ◌++◌, map, refl, ap, arith}
 use Rattle.std.proofs.lemmas.List.Filters.{sum_by-filter_both}
 use Rattle.std.proofs.lemmas.List.Sums.{sum_by-append, sum_by-cons, sum_by_push}
-use Rattle.std.specs.Prelude.{⊤, ◌==◌, not, if◌then◌else◌, filter, is_some, length, position, remove, slice_get, slice_set, sum_by}
+use Rattle.std.specs.Prelude.{⊤, ◌==◌, not, if◌then◌else◌, filter, is_some, position, remove, slice_get, sum_by}
 use Rattle.std.specs.List.{list_any}
 use Rattle.sva_open.specs.declared.rows.Row.{Row}
 use Rattle.sva_open.specs.declared.messages.Message.{Message}
@@ -13,7 +12,7 @@ use Rattle.sva_open.specs.declared.descriptors.Descriptor.{Descriptor}
 use Rattle.sva_open.specs.declared.descriptors.Filed.{Filed}
 use Rattle.sva_open.specs.World.{Part, if_so, sent, with_row}
 use Rattle.sva_open.specs.Host as host
-use Rattle.sva_open_laws.specs.Weights.{arrived_weight, descriptor_weight, filed_weight, issued_weight, message_weight, part_weight}
+use Rattle.sva_open_laws.specs.Weights.{arrived_weight, descriptor_weight, filed_weight, message_weight, part_weight}
 use Rattle.sva_open_laws.specs.Weights.{received_weight, row_weight, sent_weight, state_weight}
 use Rattle.sva_open_laws.proofs.Weighed.{left_in, less_out, out, put_in, put_most, there}
 
@@ -157,7 +156,7 @@ serve part None h = tt
 serve part (Some one) h =
     let less = out arrived_weight part.arrived 0 one h in
     let most = filed_most part.filed (host.filing (host.space_of (slice_get part.rows one.request.pasid)) one)
-        (position (host.is_joined one.request) part.filed) in
+    (position (host.is_joined one.request) part.filed) in
     omega (arith, less, most)
 
 -- a response to a group that is filed takes that out
@@ -191,7 +190,7 @@ pub respond_filed : (part : Part) (pasid index : ℕ) (fails : Bool) → list_an
 respond_filed part pasid index fails is =
     let its = there (host.is_group pasid index) part.filed is in
     let at : host.respond part pasid index fails ≡ host.responded part index fails its.0 (Some its.1) =
-        ap (host.respond_at part index fails) its.2 ∙ ap (host.responded part index fails its.0) its.3 in
+    ap (host.respond_at part index fails) its.2 ∙ ap (host.responded part index fails its.0) its.3 in
     let same = ap part_weight at in
     let less = answers_one part index fails its.0 its.1 its.3 in
     omega (arith, same, less)

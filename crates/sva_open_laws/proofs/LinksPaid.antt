@@ -1,7 +1,7 @@
 -- What comes of a message that is delivered weighs less than the message.
-use Rattle.std.proofs.Common.{◌≡◌, ◌∙◌, ◌<◌, ◌≤◌, ℕ, suc, ◌+◌, Bool, true, false, Option, Some, None, List, [], ◌∷◌, ◌++◌, map, refl, ap, sym, arith}
+use Rattle.std.proofs.Common.{◌≡◌, ◌<◌, ◌≤◌, ℕ, suc, ◌+◌, Bool, true, false, Option, Some, None, List, [], ◌∷◌, ◌++◌, refl, arith}
 use Rattle.std.proofs.lemmas.List.Sums.{sum_by_push}
-use Rattle.std.specs.Prelude.{if◌then◌else◌, filter, position, remove, slice_get, slice_set, sum_by}
+use Rattle.std.specs.Prelude.{if◌then◌else◌, filter, position, remove, slice_get, sum_by}
 use Rattle.sva_open.specs.declared.frames.Mapping.{Mapping}
 use Rattle.sva_open.specs.declared.frames.Target.{Target}
 use Rattle.sva_open.specs.declared.frames.Translation.{Translation}
@@ -20,13 +20,13 @@ use Rattle.sva_open.specs.declared.descriptors.Issued.{Issued}
 use Rattle.sva_open.specs.declared.descriptors.Issued.TheVariants.{Sent as Issue, Waiting}
 use Rattle.sva_open.specs.declared.descriptors.Received.TheVariants.{Request as Asked}
 use Rattle.sva_open.specs.declared.settings.Settings.{Settings}
-use Rattle.sva_open.specs.World.{Part, is_left, is_other, sent, stopped_by, with_row, with_translation}
+use Rattle.sva_open.specs.World.{Part, is_left, is_other, stopped_by, with_translation}
 use Rattle.sva_open.specs.Devices as device
 use Rattle.sva_open.specs.Links as link
 use Rattle.sva_open.specs.Order.{may_deliver}
 use Rattle.sva_open.specs.Units as unit
 use Rattle.sva_open_laws.specs.Weights.{arrived_weight, entry_weight, group_weight, issued_weight, message_weight, part_weight, received_weight}
-use Rattle.sva_open_laws.specs.Weights.{row_weight, sent_weight, state_weight, translation_weight, work_weight}
+use Rattle.sva_open_laws.specs.Weights.{sent_weight, state_weight, translation_weight, work_weight}
 use Rattle.sva_open_laws.proofs.Weighed.{left_in, less_out, out, put_most}
 use Rattle.sva_open_laws.proofs.DevicesPaid.{off_rows, waited}
 use Rattle.sva_open_laws.proofs.HostPaid.{IsBelow, same_state, sends, where_so, with_state}

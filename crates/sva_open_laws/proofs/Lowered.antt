@@ -1,11 +1,10 @@
 -- Each event that is permitted lowers the measure of a driver whose lines go forward.
-use Rattle.std.proofs.Common.{◌≡◌, ◌∙◌, ◌<◌, ◌≤◌, ℕ, zero, suc, ◌+◌, ◌-◌, ◌*◌, Bool, true, false, Option, Some, None, option_map, List, [], ◌∷◌}
+use Rattle.std.proofs.Common.{◌≡◌, ◌∙◌, ◌<◌, ◌≤◌, ℕ, ◌+◌, ◌-◌, Bool, true, false, Option, Some, None, option_map, List}
 use Rattle.std.proofs.Common.{drop, get_or, length, refl, ap, sym, subst, arith, rules}
 use Rattle.std.proofs.lemmas.Bool.{and_from, eqb-true, ltb-true}
 use Rattle.std.proofs.lemmas.List.Sums.{sum_by-drop_more}
 use Rattle.std.proofs.lemmas.Option.{get_or_from_slice_get, slice_get_within}
 use Rattle.std.specs.Prelude.{⊤, ◌==◌, ◌&&◌, nat_lt, if◌then◌else◌, slice_get, slice_set, sum_by}
-use Rattle.std.specs.List.{list_any}
 use Rattle.sva_open.specs.declared.frames.Mapping.{Mapping}
 use Rattle.sva_open.specs.declared.frames.Translation.{Translation}
 use Rattle.sva_open.specs.declared.descriptors.Filed.{Filed}
@@ -31,7 +30,6 @@ use Rattle.sva_open.specs.World.{Open, Part}
 use Rattle.sva_open.specs.Acts.{next_open, next_part}
 use Rattle.sva_open.specs.Finding.{found, is_of_kind, is_taken, is_use, more_of, nth}
 use Rattle.sva_open.specs.Host.{is_group}
-use Rattle.sva_open.specs.Units.{is_entry_of}
 use Rattle.sva_judge.specs.Choices as choice
 use Rattle.sva_judge.specs.Choices.{act_of, behind_act, behind_choice, behind_line, behind_local, behind_named, behind_own, found_at, goes_on}
 use Rattle.sva_judge.specs.Choices.{has_left, if_taken, is_at, is_found, is_locked, is_next, is_open_to, local_act, next_in, noted, own_act}

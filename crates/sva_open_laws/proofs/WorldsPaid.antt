@@ -1,7 +1,7 @@
 -- Whatever an act leaves of a world weighs less than what was there, with its price.
-use Rattle.std.proofs.Common.{◌≡◌, ◌∙◌, ◌<◌, ◌≤◌, ℕ, ◌+◌, Bool, true, false, Option, Some, None, option_map, List, [], ◌∷◌, refl, ap, sym, subst, arith}
+use Rattle.std.proofs.Common.{◌≡◌, ◌∙◌, ◌<◌, ℕ, ◌+◌, Bool, true, Option, Some, None, option_map, List, refl, sym, subst, arith}
 use Rattle.std.proofs.lemmas.Option.{same_Some}
-use Rattle.std.specs.Prelude.{⊤, slice_get, slice_set, sum_by}
+use Rattle.std.specs.Prelude.{⊤, slice_get, slice_set}
 use Rattle.sva_open.specs.declared.frames.Tenure.{Tenure}
 use Rattle.sva_open.specs.declared.frames.Mapping.{Mapping}
 use Rattle.sva_open.specs.declared.settings.Settings.{Settings}
@@ -12,7 +12,6 @@ use Rattle.sva_open.specs.declared.acts.LocalAct.TheVariants as local
 use Rattle.sva_open.specs.World.{Open, Part}
 use Rattle.sva_open.specs.Acts.{free_frame, freeze, next_open, next_part, parts_after, set_page, with_parts}
 use Rattle.sva_open.specs.Devices as device
-use Rattle.sva_open.specs.Host as host
 use Rattle.sva_open_laws.specs.Weights.{AnswersAreFree, EachActIsPaid, act_price, answers, local_price, part_weight, world_weight}
 use Rattle.sva_open_laws.proofs.Weighed.{put_in}
 use Rattle.sva_open_laws.proofs.HostPaid as its
@@ -131,8 +130,8 @@ each_act_is_paid now next one h = subst (λ (o : Option Open). IsWorldBelow (wor
 pub answers_are_free : AnswersAreFree
 answers_are_free now next endpoint part one there is h =
     let less : world_weight next < world_weight now + 0 =
-        subst (λ (o : Option Open). IsWorldBelow (world_weight now + 0) o) h
-        (acts_at now endpoint 0 one (slice_get now.parts endpoint) refl
-        (λ other same. answer_at now.settings now.mappings other one
-        (subst (λ (it : Part). answers it one ≡ true) (same_Some part other (sym there ∙ same)) is))) in
+    subst (λ (o : Option Open). IsWorldBelow (world_weight now + 0) o) h
+    (acts_at now endpoint 0 one (slice_get now.parts endpoint) refl
+    (λ other same. answer_at now.settings now.mappings other one
+    (subst (λ (it : Part). answers it one ≡ true) (same_Some part other (sym there ∙ same)) is))) in
     omega (arith, less)

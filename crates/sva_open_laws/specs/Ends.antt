@@ -1,5 +1,5 @@
 -- Each driver comes to an end: whatever is chosen lowers a measure, so that no list of events is longer than the driver's start measures.
-use Rattle.std.specs.Prelude.{◌≡◌, ◌<◌, ◌≤◌, ⊤, ℕ, ◌+◌, ◌*◌, Bool, true, false, List, ◌++◌, drop, length, sum_by, Option, Some, None, slice_get}
+use Rattle.std.specs.Prelude.{◌≡◌, ◌<◌, ◌≤◌, ⊤, ℕ, ◌+◌, ◌*◌, false, List, ◌++◌, drop, length, sum_by, Option, Some, None, slice_get}
 use Rattle.sva_search.specs.Rules.{LeadsTo}
 use Rattle.sva_open.specs.declared.drivers.Budget.{Budget}
 use Rattle.sva_open.specs.declared.drivers.Driver.{Driver}
@@ -11,7 +11,7 @@ use Rattle.sva_open.specs.declared.naming.Named.TheVariants as named
 use Rattle.sva_judge.specs.Choices.{next_in}
 use Rattle.sva_judge.specs.Rules.{rules_of, waits_at}
 use Rattle.sva_judge.specs.Spots.{Spot, start_of}
-use Rattle.sva_judge.specs.Verdicts.{IsAlwaysSafe, IsStuck}
+use Rattle.sva_judge.specs.Verdicts.{IsStuck}
 use Rattle.sva_judge.specs.declared.choices.Choice.{Choice}
 use Rattle.sva_driver_texts.specs.Texts.{ReadsDriver, driver_of}
 use Rattle.sva_driver_texts.specs.declared.kept.Begun.TheVariants.{Stands}

@@ -1,6 +1,6 @@
 -- What each thing weighs that is left to be done in the open world: more than all that it may come to. So whatever endpoints, units,
 -- workers and the link do by themselves leaves less, and what an act of the host adds has a price.
-use Rattle.std.specs.Prelude.{◌≡◌, ◌<◌, ℕ, ◌+◌, Bool, true, false, List, Option, Some, None, sum_by, slice_get}
+use Rattle.std.specs.Prelude.{◌≡◌, ◌<◌, ℕ, ◌+◌, Bool, true, false, Option, Some, None, sum_by, slice_get}
 use Rattle.std.specs.List.{list_any}
 use Rattle.sva_open.specs.declared.frames.Translation.{Translation}
 use Rattle.sva_open.specs.declared.rows.State.{State}

@@ -96,7 +96,8 @@ fault_below wire endpoint pasid page read write last None =
     group_below wire endpoint pasid (outcomes.label (lowest_label (device_of wire endpoint).groups)) page read write last
 fault_below wire endpoint pasid page read write last (Some index) = further_below wire endpoint pasid index page read write last
 
-unfinished : (pasid : ℕ) (o : Option GroupWire) → has_unfinished_group pasid o ≡ true → (group : GroupWire) × (o ≡ Some group) × (is_collecting group.state ≡ true)
+unfinished : (pasid : ℕ) (o : Option GroupWire) → has_unfinished_group pasid o ≡ true
+    → (group : GroupWire) × (o ≡ Some group) × (is_collecting group.state ≡ true)
 unfinished pasid None h = absurd (cc)
 unfinished pasid (Some group) h = (group, refl, (and_parts (is_collecting group.state) (group.pasid == pasid) h).0)
 

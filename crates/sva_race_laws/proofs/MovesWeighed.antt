@@ -14,8 +14,8 @@ use Rattle.sva_model.specs.StateChanges.{sent_as, stale_if}
 use Rattle.sva_model.specs.Labels
 use Rattle.sva_model.specs.Wire.{Wire, EndpointWire, DeviceWire, UnitWire, TranslationWire, UseWire, TakenWire, GroupWire, FlightWire, is_before}
 use Rattle.sva_labels.specs.Finding.{device_of, idle, idle_device, is_at_page, covers, part_of, unit_of}
-use Rattle.sva_labels.specs.Moves.{cleared, delivered, ended, is_noted, kept, killed, requested, sent, sent_copies, stale_of, taking, unnoted, with_device, with_part}
-use Rattle.sva_labels.specs.Moves.{with_pasid, with_request, with_unit, without_named}
+use Rattle.sva_labels.specs.Moves.{cleared, delivered, ended, is_noted, kept, killed, requested, sent, sent_copies, stale_of, taking, unnoted}
+use Rattle.sva_labels.specs.Moves.{with_device, with_part, with_pasid, with_request, with_unit, without_named}
 use Rattle.sva_race_laws.specs.Weights.{collecting_weight, descriptor_weight, device_weight, flight_weight, group_weight, message_weight, part_weight}
 use Rattle.sva_race_laws.specs.Weights.{pasid_weight, slot_weight, taken_weight, translation_weight, wire_weight}
 use Rattle.sva_race_laws.proofs.WeighedLists.{changed, found_out, inserted, left_in, named_out, no_weight, put_most, put_or}

@@ -6,7 +6,8 @@ use Rattle.sva_model.specs.Message.Message.{InvalidatedMessage, PageRequestMessa
 use Rattle.sva_model.specs.State.{PasidState}
 use Rattle.sva_model.specs.State.PasidState.{Off, On, Ending}
 use Rattle.sva_model.specs.States.{is_collecting}
-use Rattle.sva_model.specs.Wire.{Wire, EndpointWire, DeviceWire, TranslationWire, UseWire, TakenWire, GroupWire, Descriptor, PageRequestWire, JobWire, FlightWire}
+use Rattle.sva_model.specs.Wire.{Wire, EndpointWire, DeviceWire, TranslationWire, UseWire, TakenWire, GroupWire, Descriptor}
+use Rattle.sva_model.specs.Wire.{PageRequestWire, JobWire, FlightWire}
 use Rattle.sva_model.specs.Wire.Descriptor.{RangeDescriptor, PasidDescriptor, WaitDescriptor}
 use Rattle.sva_race_texts.specs.declared.terms.devices.Budget.{Budget}
 

@@ -1,5 +1,5 @@
-//! The law of witnesses: each is a scenario, whose replay comes to the moment that was found. What a race calls usable is
-//! what the headline does. And each race comes to an end.
+//! The law of witnesses: each is a scenario, whose replay comes to the moment that was found. What a race calls usable
+//! is what the headline does. And each race comes to an end.
 #![tactic(auto)]
 
 mod ends;

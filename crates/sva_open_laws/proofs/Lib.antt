@@ -6,13 +6,19 @@ pub mod BindActs
 pub mod BindParts
 pub mod Covered
 pub mod DeviceActs
+pub mod DevicesPaid
+pub mod Ended
 pub mod Enough
 pub mod Filters
+pub mod Forward
 pub mod FreshNumbers
 pub mod GatherLists
 pub mod Gathered
+pub mod HostPaid
 pub mod LinkLists
 pub mod LinkOrders
+pub mod LinksPaid
+pub mod Lowered
 pub mod MapActs
 pub mod PageActs
 pub mod PageAlone
@@ -27,3 +33,5 @@ pub mod Safety
 pub mod Shown
 pub mod StartActs
 pub mod Usable
+pub mod Weighed
+pub mod WorldsPaid

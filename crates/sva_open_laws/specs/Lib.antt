@@ -2,8 +2,10 @@ pub mod AsActs
 pub mod AsOpen
 pub mod Beside
 pub mod Covered
+pub mod Ends
 pub mod Fresh
 pub mod LinkOrders
 pub mod PageRows
 pub mod Pages
 pub mod Shown
+pub mod Weights

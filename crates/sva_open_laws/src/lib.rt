@@ -1,8 +1,9 @@
 //! Laws of the open world. This project's own world, seen as an open one, is safe as other hosts are judged; the open
-//! world stands apart by pages; and numbers of groups are fresh.
+//! world stands apart by pages; numbers of groups are fresh; and each driver comes to an end.
 #![tactic(auto)]
 
 mod alongside;
+mod ends;
 mod fresh;
 mod pages;
 
@@ -11,6 +12,7 @@ ghost use Rattle.sva_open_laws.specs.Beside.{RunsBeside};
 ghost use Rattle.sva_open_laws.specs.Shown.{ClosedIsShown, SafeSaysEnough};
 
 pub use alongside::{orders_are_one, scopes_are_one, steps_are_acts};
+pub use ends::{each_act_is_paid, each_driver_ends, texts_go_forward};
 pub use fresh::numbers_are_fresh;
 pub use pages::{pages_stand_alone, rows_of_pages};
 

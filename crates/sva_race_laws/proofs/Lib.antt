@@ -14,3 +14,9 @@ pub mod ThreadNames
 pub mod Threads
 pub mod Scenarios
 pub mod Replaying
+pub mod WeighedLists
+pub mod MovesWeighed
+pub mod StepsWeighed
+pub mod DevicesWeighed
+pub mod RacesLowered
+pub mod RacesEnded

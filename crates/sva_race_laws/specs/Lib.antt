@@ -1,2 +1,4 @@
 pub mod ByNames
+pub mod Ends
+pub mod Weights
 pub mod Witnesses

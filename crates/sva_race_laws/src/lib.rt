@@ -1,11 +1,13 @@
-//! The law of witnesses: each is a scenario, whose replay comes to the moment that was found. And what a race calls
-//! usable is what the headline does.
+//! The law of witnesses: each is a scenario, whose replay comes to the moment that was found. What a race calls usable
+//! is what the headline does. And each race comes to an end.
 #![tactic(auto)]
 
+mod ends;
 mod usable;
 
 ghost use Rattle.sva_race_laws.specs.Witnesses.{WitnessesReplay};
 
+pub use ends::each_race_ends;
 pub use usable::usable_is_the_headlines;
 
 /// A witness of a race that was read, written as a scenario, is one that a replay takes, unless it is too large: it has

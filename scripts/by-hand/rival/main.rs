@@ -1,6 +1,6 @@
 //! A plain rival of `svahost replay` and `svahost check`, to measure these by: the same reports, and nothing is proved.
 //!
-//!     rustc -O --edition 2021 main.rs -o rival
+//!     rustc -O --edition 2021 main.rs -o rival      (rustc 1.70 or newer)
 //!     ./rival replay < FILE.sva
 //!
 //! Written from docs/SCENARIOS.md and docs/MODEL.md. One pass over the text runs each step as it is read; the report is

@@ -30,7 +30,8 @@ use Rattle.sva_open.specs.World.{Part, is_left, is_of, is_stopping, lowest_free,
 use Rattle.sva_open.specs.Devices as device
 use Rattle.sva_open.specs.Units as unit
 use Rattle.sva_open_laws.specs.Weights.{arrived_weight, descriptor_weight, entry_weight, further_price, group_weight, issued_weight, part_weight}
-use Rattle.sva_open_laws.specs.Weights.{presence_weight, received_weight, row_weight, sent_weight, state_weight, translation_weight, unfinished_weight, work_weight}
+use Rattle.sva_open_laws.specs.Weights.{presence_weight, received_weight, row_weight, sent_weight, state_weight}
+use Rattle.sva_open_laws.specs.Weights.{translation_weight, unfinished_weight, work_weight}
 use Rattle.sva_open_laws.proofs.Weighed.{behind, changed, left_in, left_less, less_out, out, placed, put_in, put_most}
 use Rattle.sva_open_laws.proofs.HostPaid.{IsBelow, sends, where_so, with_state}
 

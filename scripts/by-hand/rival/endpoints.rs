@@ -80,6 +80,18 @@ impl Endpoint {
         self.pasids.get(pasid as usize).copied().unwrap_or(PasidState::Off)
     }
 
+    /// Whether it may ask for a page under a PASID, or use one.
+    #[inline(always)]
+    fn may_access(&self, pasid: u64, page: u64) -> Result<(), Refusal> {
+        if page >= PAGE_END {
+            return Err(Refusal::PageRange);
+        }
+        if self.state(pasid) != PasidState::On {
+            return Err(Refusal::NotStarted);
+        }
+        Ok(())
+    }
+
     pub fn set_state(&mut self, pasid: u8, state: PasidState) {
         self.pasids[pasid as usize] = state;
     }
@@ -218,12 +230,7 @@ impl World {
     pub fn ask(&mut self, endpoint: u64, pasid: u64, page: u64) -> Done {
         let number = self.endpoint(endpoint)?;
         let endpoint = &mut self.endpoints[number];
-        if page >= PAGE_END {
-            return Err(Refusal::PageRange);
-        }
-        if endpoint.state(pasid) != PasidState::On {
-            return Err(Refusal::NotStarted);
-        }
+        endpoint.may_access(pasid, page)?;
         let tag = endpoint.tags.trailing_ones() as usize;
         if tag == 32 {
             return Err(Refusal::NoTag);
@@ -240,12 +247,7 @@ impl World {
     pub fn begin_use(&mut self, endpoint: u64, pasid: u64, page: u64, write: bool) -> Done {
         let number = self.endpoint(endpoint)?;
         let endpoint = &mut self.endpoints[number];
-        if page >= PAGE_END {
-            return Err(Refusal::PageRange);
-        }
-        if endpoint.state(pasid) != PasidState::On {
-            return Err(Refusal::NotStarted);
-        }
+        endpoint.may_access(pasid, page)?;
         let held = Entry::of_bits(endpoint.held.get(key(pasid, page)).ok_or(Refusal::NotHeld)?);
         if write && !held.write {
             return Err(Refusal::ReadOnly);

@@ -269,8 +269,10 @@ without a PASID; pages may be hexadecimal:
     replace E P S          it leads there for the owner that P has: a new table in place of the old
     start E P              the device may use the PASID
     stop E P               it is to stop; `await stopped E P`: it has said that it did
-    submit E D [+ D ..]    descriptors are queued: `range P PAGE K`, `pasid P`, `iotlb P [PAGE K]`,
-                           `entry P`, `wait [drain] [fence]`
+    barrier E P            it is to drain it, and doesn't stop it; `await passed E P`: it has
+    submit E D [+ D ..]    descriptors are queued: `range P PAGE K [of F]`, `pasid P [of F]`,
+                           `iotlb P [PAGE K] [of F]`, `entry P [of F]`, `wait [drain] [fence]`;
+                           behind `of` stands another device below the same unit
     await wait E           the last wait that this thread submitted is done; of one line `await NAME`
     await queue E [P]      no page request stands in the queue
     await groups E [P]     each whole group that was filed is answered
@@ -301,12 +303,13 @@ Settings stand above the first act: `link free` or `posted`, `waits fence` or `p
 `arrived`, `caches off` or `on`, `stopped marker`, `status` or `known`, `enables kept` or `cleared` by a
 reset, `timeouts off`, `on` or `stop`; and before these `platform vt-d`, which is `link posted`, `waits
 plain`, `drain arrived` and `caches on`, or `platform free`. By `refuses drain` the unit takes no wait with
-`drain`, and by `allow no-group` a response that finds no group is no finding. Threads, workers and devices
-are as in a race, but that a device may have `lies`, `awaits` and `leaves` too. The lines from `def NAME $X`
-to its `end` stand where `call NAME WORD` does, with the word for `$X`; those from `repeat N` to its `end`
-stand N times. A unit, as a link or a device, acts by itself: `pump E`; `write E`, the oldest page request
-that it has received comes into the queue; `forget E P`; `expire E T`, an invalidation that isn't answered
-runs out of time; and a device that `leaves` is removed at some moment: `gone E`.
+`drain`, by `allow no-group` a response that finds no group is no finding, and by `unit E E ..` devices
+stand below one unit, and share its queues. Threads, workers and devices are as in a race, but that a device
+may have `lies`, `awaits` and `leaves` too. The lines from `def NAME $X` to its `end` stand where `call NAME
+WORD` does, with the word for `$X`; those from `repeat N` to its `end` stand N times. A unit, as a link or a
+device, acts by itself: `pump E`; `write E`, the oldest page request that it has received comes into the
+queue; `forget E P`; `expire E T`, an invalidation that isn't answered runs out of time; and a device that
+`leaves` is removed at some moment: `gone E`.
 
 These steps send a message, and no others. Behind it stands what its delivery is answered:
 

@@ -17,7 +17,7 @@ use Rattle.sva_open.specs.declared.rows.KeptEntry.{KeptEntry}
 use Rattle.sva_open.specs.declared.works.Group.{Group}
 use Rattle.sva_open.specs.declared.drivers.Saying.{Saying}
 use Rattle.sva_open.specs.declared.drivers.Saying.TheVariants as saying
-use Rattle.sva_open.specs.Finding.{is_taken, is_use, kind_of}
+use Rattle.sva_open.specs.Finding.{is_draining, is_taken, is_use, kind_of}
 use Rattle.sva_judge.specs.Choices.{is_found}
 use Rattle.sva_judge.specs.Spots.{Spot}
 use Rattle.sva_judge.specs.declared.choices.Doing.{Doing}
@@ -105,6 +105,8 @@ kind_one kind.PageRequest = refl
 kind_one kind.Marker = refl
 kind_one kind.Status = refl
 kind_one kind.ResetDone = refl
+kind_one kind.Barrier = refl
+kind_one kind.Passed = refl
 
 -- ---- Acts that come by themselves
 
@@ -147,6 +149,9 @@ act_one part endpoint (local.End place) =
 act_one part endpoint (local.Finish place) =
     let older = count_by is_taken (take place part.works) in
     both (with_endpoint (codes "finish") endpoint) (and_older older) (endpoint_one (codes "finish") endpoint refl) (older_one older)
+act_one part endpoint (local.Pass place) =
+    let older = count_by is_draining (take place part.works) in
+    both (with_endpoint (codes "pass") endpoint) (and_older older) (endpoint_one (codes "pass") endpoint refl) (older_one older)
 act_one part endpoint (local.Quit pasid) = pasid_one (codes "quit") endpoint pasid refl
 act_one part endpoint local.Leave = endpoint_one (codes "gone") endpoint refl
 act_one part endpoint (local.More index page write last) = more_one endpoint index page write last (slice_get part.groups index)

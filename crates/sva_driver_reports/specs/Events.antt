@@ -8,7 +8,7 @@ use Rattle.sva_open.specs.declared.messages.Sent.{Sent}
 use Rattle.sva_open.specs.declared.rows.KeptEntry.{KeptEntry}
 use Rattle.sva_open.specs.declared.frames.Translation.{Translation}
 use Rattle.sva_open.specs.declared.works.Group.{Group}
-use Rattle.sva_open.specs.Finding.{is_of_kind, is_taken, is_use, kind_of}
+use Rattle.sva_open.specs.Finding.{is_draining, is_of_kind, is_taken, is_use, kind_of}
 use Rattle.sva_driver_words.specs.Pieces.{access_text, and_number, and_older, code_text, kind_text, last_text}
 use Rattle.sva_driver_words.specs.Pieces.{with_endpoint, with_page, with_pasid}
 
@@ -63,6 +63,8 @@ local_text part endpoint (local.End place) =
     with_endpoint (codes "end") endpoint ++ and_older (count_by is_use (take place part.works))
 local_text part endpoint (local.Finish place) =
     with_endpoint (codes "finish") endpoint ++ and_older (count_by is_taken (take place part.works))
+local_text part endpoint (local.Pass place) =
+    with_endpoint (codes "pass") endpoint ++ and_older (count_by is_draining (take place part.works))
 local_text part endpoint (local.Quit pasid) = with_pasid (codes "quit") endpoint pasid
 local_text part endpoint local.Leave = with_endpoint (codes "gone") endpoint
 local_text part endpoint (local.More index page write last) =

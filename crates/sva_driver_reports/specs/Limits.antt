@@ -48,4 +48,5 @@ asks_text text =
 
 abbrev pub limits_text : Text → List ℕ
 limits_text text =
-    platform_text text.driver.start.settings ++ not_asked_text text.driver.start.settings ++ asks_text text
+    platform_text text.driver.start.settings text.driver.start.units ++ not_asked_text text.driver.start.settings
+    ++ asks_text text

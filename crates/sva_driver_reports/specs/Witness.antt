@@ -27,6 +27,7 @@ use Rattle.sva_driver_texts.specs.Texts.{line_choice}
 use Rattle.sva_driver_texts.specs.declared.kept.Said.{Said}
 use Rattle.sva_driver_texts.specs.declared.kept.Text.{Text}
 use Rattle.sva_driver_words.specs.Pieces.{and_number, with_endpoint}
+use Rattle.sva_driver_words.specs.Units.{units_text}
 use Rattle.sva_driver_reports.specs.Events.{local_text}
 
 -- ---- Lines
@@ -34,6 +35,7 @@ use Rattle.sva_driver_reports.specs.Events.{local_text}
 -- an act that waits and does nothing else
 abbrev pub is_wait : LocalAct → Bool
 is_wait (local.AwaitWait name) = true
+is_wait (local.AwaitPassed pasid thread) = true
 is_wait local.AwaitQueue = true
 is_wait (local.AwaitQueueOf pasid) = true
 is_wait (local.AwaitGroups pasid) = true
@@ -251,5 +253,6 @@ config_text config = codes "config" ++ and_number config.endpoints ++ and_number
 
 abbrev pub front_text : Text → List ℕ
 front_text text =
-    config_text text.config ++ settings_text text.driver.start.settings ++ workers_text text.driver.workers
+    config_text text.config ++ settings_text text.driver.start.settings
+    ++ units_text text.driver.start.units [] (codes "\n") ++ workers_text text.driver.workers
     ++ conducts_from 0 text.driver.start.parts ++ befores text text.before ++ codes "# race\n"

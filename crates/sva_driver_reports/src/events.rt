@@ -9,7 +9,9 @@ use sva_driver_words::{
     access_text, code_text, kind_text, last_text, put_endpoint, put_older, put_one, put_page,
     put_pasid,
 };
-use sva_open::{Kind, LocalAct, Part, Sent, Work, before, is_of_kind, is_taken, is_use, kind_of};
+use sva_open::{
+    Kind, LocalAct, Part, Sent, Work, before, is_draining, is_of_kind, is_taken, is_use, kind_of,
+};
 
 fn count_messages(flight: &[Sent], kind: Kind) -> usize
     ensures { result ≡ count_by (finding.is_of_kind kind) flight.now }
@@ -27,6 +29,12 @@ fn count_taken(works: &[Work]) -> usize
     ensures { result ≡ count_by finding.is_taken works.now }
 {
     works.iter().filter(|work| is_taken(work)).count()
+}
+
+fn count_draining(works: &[Work]) -> usize
+    ensures { result ≡ count_by finding.is_draining works.now }
+{
+    works.iter().filter(|work| is_draining(work)).count()
 }
 
 /// How many messages of a kind are older than the one at a place.
@@ -48,6 +56,13 @@ fn older_taken(works: &[Work], place: usize) -> usize
     ensures { result ≡ count_by finding.is_taken (take place works.now) }
 {
     count_taken(before(works, place))
+}
+
+/// How many barriers are older than the one at a place.
+fn older_draining(works: &[Work], place: usize) -> usize
+    ensures { result ≡ count_by finding.is_draining (take place works.now) }
+{
+    count_draining(before(works, place))
 }
 
 /// Appends a delivery of a message.
@@ -220,6 +235,10 @@ pub(crate) fn put_act(
             put_endpoint(out, b"finish", endpoint)?;
             put_older(out, older_taken(part.works.as_slice(), *place))
         }
+        LocalAct::Pass { place } => {
+            put_endpoint(out, b"pass", endpoint)?;
+            put_older(out, older_draining(part.works.as_slice(), *place))
+        }
         LocalAct::Quit { pasid } => put_pasid(out, b"quit", endpoint, *pasid),
         LocalAct::Leave => put_endpoint(out, b"gone", endpoint),
         LocalAct::More {
@@ -244,6 +263,7 @@ pub(crate) fn put_act(
         | LocalAct::ClearEntry { .. }
         | LocalAct::Start { .. }
         | LocalAct::Stop { .. }
+        | LocalAct::Barrier { .. }
         | LocalAct::Reset
         | LocalAct::Submit { .. }
         | LocalAct::Close
@@ -252,6 +272,7 @@ pub(crate) fn put_act(
         | LocalAct::Resume
         | LocalAct::AwaitWait { .. }
         | LocalAct::AwaitStopped { .. }
+        | LocalAct::AwaitPassed { .. }
         | LocalAct::AwaitQueue
         | LocalAct::AwaitQueueOf { .. }
         | LocalAct::AwaitGroups { .. }

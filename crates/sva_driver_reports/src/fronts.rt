@@ -1,5 +1,5 @@
-//! The front of a witness: its config, its settings, how workers answer, what endpoints are like, and the lines before
-//! `race`.
+//! The front of a witness: its config, its settings, which units are shared, how workers answer, what endpoints are
+//! like, and the lines before `race`.
 
 ghost use Rattle.std.specs.Prelude.{◌≡◌, ◌++◌, OnOk};
 ghost use Rattle.sva_driver_reports.specs.Witness as witness;
@@ -7,7 +7,7 @@ ghost use Rattle.sva_driver_reports.specs.Witness as witness;
 use crate::witness::{Event, event_of, put_front_line};
 use std::alloc::{AllocError, Global};
 use sva_driver_texts::Text;
-use sva_driver_words::{put_endpoint, put_one};
+use sva_driver_words::{put_endpoint, put_one, put_units};
 use sva_judge::{Choice, Doing, Spot, take};
 use sva_open::{Link, Part, Settings, Stopped, Timeouts, Workers};
 use sva_step::Config;
@@ -194,6 +194,7 @@ pub(crate) fn put_front(alloc: Global, out: &mut Vec<u8>, text: &Text) -> Result
 {
     put_config(out, &text.config)?;
     put_settings(out, &text.driver.start.settings)?;
+    put_units(out, text.driver.start.units.as_slice(), b"", b"\n")?;
     put_workers(out, text.driver.workers)?;
     put_conducts(out, text.driver.start.parts.as_slice())?;
     put_befores(alloc, out, text)?;

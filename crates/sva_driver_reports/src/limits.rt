@@ -96,7 +96,8 @@ fn put_asks(out: &mut Vec<u8>, text: &Text) -> Result<(), AllocError>
 pub(crate) fn put_limits(out: &mut Vec<u8>, text: &Text) -> Result<(), AllocError>
     ensures { OnOk result (out.new.items ≡ out.old.items ++ limits.limits_text text.now) }
 {
-    put_platform(out, &text.driver.start.settings)?;
+    let units = text.driver.start.units.as_slice();
+    put_platform(out, &text.driver.start.settings, units)?;
     put_not_asked(out, &text.driver.start.settings)?;
     put_asks(out, text)
 }

@@ -42,6 +42,7 @@ fn is_wait(act: &LocalAct) -> bool
     matches!(
         act,
         LocalAct::AwaitWait { .. }
+            | LocalAct::AwaitPassed { .. }
             | LocalAct::AwaitQueue
             | LocalAct::AwaitQueueOf { .. }
             | LocalAct::AwaitGroups { .. }
@@ -167,6 +168,7 @@ fn put_who(out: &mut Vec<u8>, doing: Doing, at: usize) -> Result<(), AllocError>
         Doing::Serve | Doing::Answer | Doing::Fail => out.extend_from_slice(b"worker"),
         Doing::End
         | Doing::Finish
+        | Doing::Pass
         | Doing::Quit
         | Doing::Leave
         | Doing::Complete

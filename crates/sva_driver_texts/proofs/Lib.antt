@@ -1,5 +1,6 @@
 pub mod Anys
 pub mod Codes
+pub mod Furthers
 pub mod Pages
 pub mod Parts
 pub mod Runs
@@ -14,3 +15,4 @@ pub mod Openings
 pub mod Stands
 pub mod Wholes
 pub mod WayLemmas
+pub mod UnitNumbers

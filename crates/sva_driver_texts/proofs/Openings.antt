@@ -13,14 +13,15 @@ use Rattle.sva_driver_texts.specs.Texts.{IsOpening, conduct_of}
 use Rattle.sva_driver_texts.proofs.Anys.{map_twice}
 
 -- the world, by the conduct of endpoints, and by how many PASIDs they have
-pub start_by : (config : Config) (settings : Settings) (own devices : List DeviceRead) (pasids some : ℕ) (now : Open)
-    → now ≡ opened settings (map (λ (device : DeviceRead). conduct_of (device_seen device)) own) some config.frames
-    → own ≡ devices → some ≡ pasids
-    → now ≡ opened settings (map conduct_of (map device_seen devices)) pasids config.frames
-start_by config settings own devices pasids some now is same as_many =
+pub start_by : (config : Config) (settings : Settings) (own devices : List DeviceRead) (lent units : List ℕ) (pasids some : ℕ)
+    (now : Open)
+    → now ≡ opened settings (map (λ (device : DeviceRead). conduct_of (device_seen device)) own) lent some config.frames
+    → own ≡ devices → lent ≡ units → some ≡ pasids
+    → now ≡ opened settings (map conduct_of (map device_seen devices)) units pasids config.frames
+start_by config settings own devices lent units pasids some now is same shared as_many =
     let conducts : List DeviceRead → List Conduct = λ own. map (λ device. conduct_of (device_seen device)) own in
-    is ∙ (λ i. opened settings (conducts (same i)) (as_many i) config.frames)
-    ∙ ap (λ conducts. opened settings conducts pasids config.frames) (map_twice conduct_of device_seen devices)
+    is ∙ (λ i. opened settings (conducts (same i)) (shared i) (as_many i) config.frames)
+    ∙ ap (λ conducts. opened settings conducts units pasids config.frames) (map_twice conduct_of device_seen devices)
 
 -- as many as there are in a list
 pub as_many : {A B : Type 0} (seen : A → B) (xs : List A) (list : List Bool) (count : ℕ) → list ≡ replicate count false → count ≡ length xs

@@ -21,7 +21,8 @@ use Rattle.sva_driver_words.specs.Taking.{Fails}
 use Rattle.sva_driver_texts.specs.Blocks.{under_of}
 use Rattle.sva_driver_texts.specs.Devices.{DeviceSaid}
 use Rattle.sva_driver_texts.specs.Readings.{Reading, Takes, act_line, act_said, device_line, is_told, name_judged, name_of, saying_in}
-use Rattle.sva_driver_texts.specs.Readings.{told_by, told_by_parts, unanswered, with_block_of, with_flag_of, with_line, with_lock_of}
+use Rattle.sva_driver_texts.specs.Readings.{told_by, told_by_parts, unanswered, unit_line, with_block_of, with_flag_of, with_line, with_lock_of}
+use Rattle.sva_driver_texts.specs.Units.{units_of, units_or_own}
 
 -- ---- What fails
 
@@ -120,6 +121,23 @@ module _ (config : Config) (reading : Reading) (words : List (List ℕ)) where
       (subst (λ (read : Result Reading DriverWrong). Fails read why) (sym (by_parts endpoint at untold some))
       (fails_on (told_by_parts words)
       (λ told. Ok (record reading { devices = slice_set reading.devices endpoint told })) why is))
+
+-- ---- Which endpoints share a unit
+
+module _ (config : Config) (reading : Reading) (words : List (List ℕ)) where
+  abbrev with_units : Result (List ℕ) DriverWrong → Result Reading DriverWrong
+  with_units read = read >>= λ units. Ok (record reading { units = units; set = reading.set ++ word_at 0 words ∷ [] })
+
+  pub unit_right : (units : List ℕ) (new : Reading) → units_of config (units_or_own config reading.units) words ≡ Ok units
+      → new ≡ record reading { units = units; set = reading.set ++ word_at 0 words ∷ [] } → unit_line config reading words ≡ Ok new
+  unit_right units new is behind = ap with_units is ∙ ap Ok (sym behind)
+
+  pub unit_fails : (why : DriverStop) → Fails (units_of config (units_or_own config reading.units) words) why
+      → Takes (unit_line config reading words) reading reading (Err why)
+  unit_fails why is =
+      fails_takes (unit_line config reading words) reading why
+      (fails_on (units_of config (units_or_own config reading.units) words)
+      (λ units. Ok (record reading { units = units; set = reading.set ++ word_at 0 words ∷ [] })) why is)
 
 -- ---- A line that is added
 

@@ -46,6 +46,7 @@ is_setting word =
     || bytes_eq word (codes "timeouts")
     || bytes_eq word (codes "refuses")
     || bytes_eq word (codes "allow")
+    || bytes_eq word (codes "unit")
 
 -- a platform is four settings: `vt-d` what Intel VT-d on PCI Express is, `free` what holds where nothing is said
 abbrev pub platform_set : Settings → List (List ℕ) → Result Settings DriverWrong

@@ -1,4 +1,5 @@
 pub mod Devices
+pub mod Units
 pub mod Blocks
 pub mod WrittenOut
 pub mod Bodies

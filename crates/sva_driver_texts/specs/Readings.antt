@@ -17,6 +17,7 @@ use Rattle.sva_race_texts.specs.declared.faults.RaceWanted.TheVariants as race
 use Rattle.sva_driver_words.specs.Awaits.{LineSaid, is_named}
 use Rattle.sva_driver_texts.specs.Blocks.{BlockSaid, branched, open_texts, opened_wrong, under_of, with_block}
 use Rattle.sva_driver_texts.specs.Devices.{DeviceSaid, is_setting, parts_from, setting_line, unsaid, untold, workers_of}
+use Rattle.sva_driver_texts.specs.Units.{units_of, units_or_own}
 use Rattle.sva_driver_words.specs.Faults.{fault_text, wrong_at, no_more, placed}
 use Rattle.sva_driver_words.specs.Fields.{endpoint_at, has_word, says}
 use Rattle.sva_driver_words.specs.Sayings.{SayingSaid}
@@ -46,6 +47,8 @@ pub record Reading : Type 0 where
   -- the settings, and the words of those that were said
   pub settings : Settings
   pub set : List (List ℕ)
+  -- the units of endpoints, where some share one
+  pub units : List ℕ
   -- what workers answer, if that was said, and what each endpoint was told
   pub workers : Option Workers
   pub devices : List DeviceSaid
@@ -64,6 +67,7 @@ nothing config = record {
   blocks = [];
   settings = unsaid;
   set = [];
+  units = [];
   workers = None;
   devices = replicate config.endpoints untold;
   said = [];
@@ -86,6 +90,7 @@ is_of_endpoint word =
     || bytes_eq word (codes "evict")
     || bytes_eq word (codes "fault")
     || bytes_eq word (codes "finish")
+    || bytes_eq word (codes "pass")
     || bytes_eq word (codes "quit")
     || bytes_eq word (codes "gone")
 
@@ -143,6 +148,7 @@ with_line reading number name thread words saying = record reading {
 abbrev pub is_awaited_word : (name : List ℕ) → Bool
 is_awaited_word name =
     bytes_eq name (codes "stopped")
+    || bytes_eq name (codes "passed")
     || bytes_eq name (codes "queue")
     || bytes_eq name (codes "groups")
     || bytes_eq name (codes "idle")
@@ -164,10 +170,11 @@ abbrev pub unanswered : Parts → Result (Unit {0}) DriverWrong
 unanswered parts =
     if is_some parts.expected then wrong_at (step_begins parts + length parts.step) wanted.NoAnswer else Ok tt
 
--- what its words say, with the lines above, the locks and flags that they name, and the blocks in which it stands
+-- what its words say, with the units of endpoints, the lines above, the locks and flags that they name, and the blocks in which it
+-- stands
 abbrev pub saying_under : Config → Reading → (under : List Under) → (thread : List ℕ) → List (List ℕ) → Result SayingSaid DriverWrong
 saying_under config reading under thread words =
-    saying_by config reading.lines reading.locks reading.flags under thread words (word_at 0 words)
+    saying_by config reading.units reading.lines reading.locks reading.flags under thread words (word_at 0 words)
 
 abbrev pub saying_in : Config → Reading → (thread : List ℕ) → List (List ℕ) → Result SayingSaid DriverWrong
 saying_in config reading thread words = saying_under config reading (under_of thread reading.blocks) thread words
@@ -185,13 +192,20 @@ act_line config reading number parts thread =
 
 -- ---- Lines that are no acts
 
--- a setting stands before the first act, and once; a platform before each other setting
+-- a setting stands before the first act, and but for units once; a platform before each other setting
 abbrev pub is_word : (word own : List ℕ) → Bool
 is_word word own = bytes_eq own word
 
-abbrev pub set_line : Reading → List (List ℕ) → Result Reading DriverWrong
-set_line reading words =
+-- endpoints come to share units, each by one line
+abbrev pub unit_line : Config → Reading → List (List ℕ) → Result Reading DriverWrong
+unit_line config reading words =
+    units_of config (units_or_own config reading.units) words
+    >>= λ units. Ok (record reading { units = units; set = reading.set ++ word_at 0 words ∷ [] })
+
+abbrev pub set_line : Config → Reading → List (List ℕ) → Result Reading DriverWrong
+set_line config reading words =
     if nat_lt 0 (length reading.lines) then wrong_at 0 wanted.Earlier else
+    if says 0 (codes "unit") words then unit_line config reading words else
     if list_any (is_word (word_at 0 words)) reading.set then wrong_at 0 wanted.OneLine else
     if says 0 (codes "platform") words && nat_lt 0 (length reading.set) then wrong_at 0 wanted.Ahead else
     (setting_line reading.settings words
@@ -244,8 +258,9 @@ abbrev pub nameless : Option (List ℕ) → Result (Unit {0}) DriverWrong
 nameless None = Ok tt
 nameless (Some name) = wrong_at 0 (wanted.Race race.NoName)
 
-abbrev pub other_before : Reading → List (List ℕ) → Result Reading DriverWrong
-other_before reading words = if is_setting (word_at 0 words) then set_line reading words else wrong_at 0 wanted.Before
+abbrev pub other_before : Config → Reading → List (List ℕ) → Result Reading DriverWrong
+other_before config reading words =
+    if is_setting (word_at 0 words) then set_line config reading words else wrong_at 0 wanted.Before
 
 abbrev pub other_behind : Reading → List (List ℕ) → Result Reading DriverWrong
 other_behind reading words = if says 0 (codes "thread") words then heading_line reading words else wrong_at 0 wanted.Behind
@@ -260,7 +275,7 @@ other_line config reading words =
     if says 0 (codes "device") words then device_line config reading words else
     if says 0 (codes "race") words then race_line reading words else
     if reading.is_race then other_behind reading words else
-    other_before reading words
+    other_before config reading words
 
 -- the words that begin a line which is no act
 abbrev pub begins_other : (word : List ℕ) → Bool

@@ -80,8 +80,8 @@ with_workers settings workers = record settings { has_workers = workers.are_ther
 
 abbrev pub opened_by : Config → Reading → Open
 opened_by config reading =
-    opened (with_workers reading.settings (workers_or reading.workers)) (map conduct_of reading.devices) (pasids_of reading.lines)
-    config.frames
+    opened (with_workers reading.settings (workers_or reading.workers)) (map conduct_of reading.devices) reading.units
+    (pasids_of reading.lines) config.frames
 
 -- the driver of what was read, before its first line
 pub record IsOpening (config : Config) (reading : Reading) (driver : Driver) : Type 0 where

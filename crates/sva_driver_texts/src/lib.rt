@@ -21,6 +21,7 @@ mod readings;
 mod settings;
 mod texts;
 mod titles;
+mod units;
 mod ways;
 mod writing;
 mod written_out;

@@ -32,7 +32,7 @@ use sva_script::{Names, is, name_in, parts_of};
 use sva_step::Config;
 
 /// The words that begin an act.
-const ACTS: [&[u8]; 39] = [
+const ACTS: [&[u8]; 41] = [
     b"pte",
     b"entry",
     b"replace",
@@ -72,6 +72,8 @@ const ACTS: [&[u8]; 39] = [
     b"gone",
     b"resume",
     b"expire",
+    b"barrier",
+    b"pass",
 ];
 
 /// The word that opens a block.
@@ -167,12 +169,40 @@ fn take_act(
     }
 }
 
-/// Takes a setting: before the first act, and once; a platform before each other setting.
-fn take_setting(alloc: Global, reading: &mut Reading, words: &[&[u8]]) -> Result<(), DriverStop>
-    ensures { Takes (readings.set_line reading.old (map (λ word. word.now) words.now)) reading.old reading.new result }
+/// Takes a line of endpoints that share a unit.
+fn take_units(
+    alloc: Global,
+    config: &Config,
+    reading: &mut Reading,
+    words: &[&[u8]],
+) -> Result<(), DriverStop>
+    ensures { Takes (readings.unit_line config.now reading.old (map (λ word. word.now) words.now))
+        reading.old reading.new result }
+{
+    match reading.units_in(alloc, config, words) {
+        Ok(units) => match reading.set_units(alloc, units, word_at(words, 0)) {
+            Ok(()) => Ok(()),
+            Err(_) => Err(DriverStop::Memory),
+        },
+        Err(why) => Err(why),
+    }
+}
+
+/// Takes a setting: before the first act, and but for units once; a platform before each other setting.
+fn take_setting(
+    alloc: Global,
+    config: &Config,
+    reading: &mut Reading,
+    words: &[&[u8]],
+) -> Result<(), DriverStop>
+    ensures { Takes (readings.set_line config.now reading.old (map (λ word. word.now) words.now))
+        reading.old reading.new result }
 {
     if reading.has_lines() {
         return Err(DriverStop::Wrong(wrong_at(0, DriverWanted::Earlier)));
+    }
+    if says(words, 0, b"unit") {
+        return take_units(alloc, config, reading, words);
     }
     if reading.is_set(word_at(words, 0)) {
         return Err(DriverStop::Wrong(wrong_at(0, DriverWanted::OneLine)));
@@ -317,7 +347,7 @@ fn take_other(
         return Err(DriverStop::Wrong(wrong_at(0, DriverWanted::Behind)));
     }
     if is_setting(word_at(words, 0)) {
-        return take_setting(alloc, reading, words);
+        return take_setting(alloc, config, reading, words);
     }
     Err(DriverStop::Wrong(wrong_at(0, DriverWanted::Before)))
 }

@@ -15,6 +15,7 @@ fn is_awaited_word(name: &[u8]) -> bool
     ensures { result ≡ readings.is_awaited_word name.now }
 {
     is(name, b"stopped")
+        || is(name, b"passed")
         || is(name, b"queue")
         || is(name, b"groups")
         || is(name, b"idle")
@@ -81,6 +82,7 @@ fn is_of_endpoint(word: &[u8]) -> bool
         || is(word, b"evict")
         || is(word, b"fault")
         || is(word, b"finish")
+        || is(word, b"pass")
         || is(word, b"quit")
         || is(word, b"gone")
 }

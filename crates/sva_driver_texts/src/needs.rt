@@ -16,6 +16,7 @@ fn need_at(act: &LocalAct) -> Need
         | LocalAct::ClearEntry { .. }
         | LocalAct::Start { .. }
         | LocalAct::Stop { .. }
+        | LocalAct::Barrier { .. }
         | LocalAct::Reset
         | LocalAct::Resume
         | LocalAct::Turn { .. }
@@ -29,6 +30,7 @@ fn need_at(act: &LocalAct) -> Need
         LocalAct::Skip => Need::Descriptor,
         LocalAct::AwaitWait { .. } => Need::Done,
         LocalAct::AwaitStopped { .. } => Need::Stopped,
+        LocalAct::AwaitPassed { .. } => Need::Passed,
         LocalAct::AwaitQueue => Need::EmptyQueue,
         LocalAct::AwaitQueueOf { .. } => Need::NoneQueued,
         LocalAct::AwaitGroups { .. } => Need::Answered,
@@ -43,6 +45,7 @@ fn need_at(act: &LocalAct) -> Need
         LocalAct::Fault { .. } => Need::Enabled,
         LocalAct::More { .. } => Need::Unfinished,
         LocalAct::Finish { .. } => Need::Covered,
+        LocalAct::Pass { .. } => Need::Drained,
         LocalAct::Quit { .. } => Need::Idle,
         LocalAct::Leave => Need::There,
         LocalAct::Pump => Need::Head,
@@ -72,6 +75,7 @@ fn need_named(named: &Named) -> Need
         Named::Deliver { .. } => Need::Deliverable,
         Named::End { .. } => Need::Running,
         Named::Finish { .. } => Need::Covered,
+        Named::Pass { .. } => Need::Drained,
         Named::More { .. } => Need::Unfinished,
         Named::ForgetEntry { .. } => Need::KeptEntry,
         Named::Forget { .. } => Need::KeptTranslation,

@@ -50,16 +50,19 @@ fn opened_by(
     config: &Config,
     settings: Settings,
     devices: &[DeviceRead],
+    units: &[usize],
     pasids: usize,
 ) -> Result<Open, AllocError>
     ensures { IfOk result (λ now. now
-        ≡ opened settings (map (λ device. conduct_of (device_seen device)) devices.now) pasids config.now.frames) }
+        ≡ opened settings (map (λ device. conduct_of (device_seen device)) devices.now) units.now pasids
+        config.now.frames) }
 {
     let conducts = conducts_of(alloc, devices)?;
     Open::new(
         alloc,
         settings,
         conducts.as_slice(),
+        units,
         pasids,
         config.frames as usize,
     )
@@ -158,6 +161,7 @@ pub fn opening_of(
         blocks: _,
         settings,
         set: _,
+        units,
         workers,
         devices: told,
         said: _,
@@ -165,10 +169,11 @@ pub fn opening_of(
     } = reading;
     let own = told.as_slice();
     let acts = read.as_slice();
+    let shared = units.as_slice();
     let pasids = pasids_of(acts);
     let workers = workers_or(workers);
     let settings = with_workers(settings, workers);
-    let start = opened_by(alloc, config, settings, own, pasids)?;
+    let start = opened_by(alloc, config, settings, own, shared, pasids)?;
     let devices = all_planned(alloc, acts, own)?;
     let taken = falses(alloc, acts.len())?;
     let (at, ways) = ways_of(alloc, acts)?;

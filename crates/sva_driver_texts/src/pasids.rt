@@ -30,7 +30,9 @@ fn pasid_of(act: &LocalAct) -> usize
         LocalAct::ClearEntry { pasid } => *pasid,
         LocalAct::Start { pasid } => *pasid,
         LocalAct::Stop { pasid } => *pasid,
+        LocalAct::Barrier { barrier } => barrier.pasid,
         LocalAct::AwaitStopped { pasid } => *pasid,
+        LocalAct::AwaitPassed { pasid, .. } => *pasid,
         LocalAct::AwaitQueueOf { pasid } => *pasid,
         LocalAct::AwaitGroups { pasid } => or_zero(*pasid),
         LocalAct::Respond { pasid, .. } => *pasid,
@@ -58,6 +60,7 @@ fn pasid_of(act: &LocalAct) -> usize
         | LocalAct::End { .. }
         | LocalAct::More { .. }
         | LocalAct::Finish { .. }
+        | LocalAct::Pass { .. }
         | LocalAct::Leave
         | LocalAct::Pump
         | LocalAct::Expire { .. }

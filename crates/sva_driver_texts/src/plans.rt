@@ -82,6 +82,7 @@ fn started_by(is_there: bool, act: &LocalAct) -> Option<u64>
         | LocalAct::Replace { .. }
         | LocalAct::ClearEntry { .. }
         | LocalAct::Stop { .. }
+        | LocalAct::Barrier { .. }
         | LocalAct::Reset
         | LocalAct::Submit { .. }
         | LocalAct::Close
@@ -90,6 +91,7 @@ fn started_by(is_there: bool, act: &LocalAct) -> Option<u64>
         | LocalAct::Resume
         | LocalAct::AwaitWait { .. }
         | LocalAct::AwaitStopped { .. }
+        | LocalAct::AwaitPassed { .. }
         | LocalAct::AwaitQueue
         | LocalAct::AwaitQueueOf { .. }
         | LocalAct::AwaitGroups { .. }
@@ -109,6 +111,7 @@ fn started_by(is_there: bool, act: &LocalAct) -> Option<u64>
         | LocalAct::Fault { .. }
         | LocalAct::More { .. }
         | LocalAct::Finish { .. }
+        | LocalAct::Pass { .. }
         | LocalAct::Quit { .. }
         | LocalAct::Leave
         | LocalAct::Pump

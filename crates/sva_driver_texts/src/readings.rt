@@ -7,13 +7,15 @@ ghost use Rattle.std.specs.Str.{bytes_eq};
 ghost use Rattle.sva_driver_words.specs.Says.{is_lock_word};
 ghost use Rattle.sva_driver_words.specs.Sayings.{saying_seen};
 ghost use Rattle.sva_driver_words.specs.Taking.{Gives};
-ghost use Rattle.sva_driver_texts.specs.Devices.{device_seen, setting_line, untold};
+ghost use Rattle.sva_driver_texts.specs.Devices.{device_seen, items_of, setting_line, untold};
 ghost use Rattle.sva_driver_texts.specs.Readings as readings;
+ghost use Rattle.sva_driver_texts.specs.Units as below;
 
 use crate::blocks::Block;
 use crate::kept_of_endpoints::DeviceRead;
 use crate::names::{judge_name, own, role_of};
 use crate::settings::setting_line;
+use crate::units::{units_of, units_or_own};
 use std::alloc::{AllocError, Global};
 use std::marker::Model;
 use sva_driver_words::{DriverStop, DriverWrong, LineRead, Under, put_fault, read_saying};
@@ -43,6 +45,8 @@ pub struct Reading {
     pub settings: Settings,
     /// The words of those that were said.
     pub set: Vec<Vec<u8>>,
+    /// The units of endpoints, where some share one.
+    pub units: Vec<usize>,
     /// What workers answer, if that was said.
     pub workers: Option<Workers>,
     /// What each endpoint was told.
@@ -72,6 +76,7 @@ impl Model for Reading {
       blocks = map block_seen reading.blocks.items;
       settings = reading.settings;
       set = map (λ word. word.items) reading.set.items;
+      units = reading.units.items;
       workers = reading.workers;
       devices = map device_seen reading.devices.items;
       said = reading.said.items;
@@ -166,6 +171,7 @@ impl Reading {
                 timeouts: Timeouts::Off,
             },
             set: Vec::new(alloc),
+            units: Vec::new(alloc),
             workers: None,
             devices: all_untold(alloc, config.endpoints as usize)?,
             said: Vec::new(alloc),
@@ -276,6 +282,7 @@ impl Reading {
         read_saying(
             alloc,
             config,
+            self.units.as_slice(),
             self.lines.as_slice(),
             self.locks.as_slice(),
             self.flags.as_slice(),
@@ -443,6 +450,39 @@ impl Reading {
         let own = Vec::from_slice(alloc, word)?;
         self.set.push(own)?;
         self.settings = settings;
+        Ok(())
+    }
+    /// The units of endpoints behind a line that says it of some.
+    pub(crate) fn units_in(
+        &self,
+        alloc: Global,
+        config: &Config,
+        words: &[&[u8]],
+    ) -> Result<Vec<usize>, DriverStop>
+        ensures { Gives items_of (below.units_of config.now (below.units_or_own config.now self.now.units)
+            (map (λ word. word.now) words.now)) result }
+    {
+        match units_or_own(alloc, config, self.units.as_slice()) {
+            Ok(own) => units_of(alloc, config, own, words),
+            Err(_) => Err(DriverStop::Memory),
+        }
+    }
+
+    /// Keeps the units of endpoints, which a line has said that begins by this word.
+    pub(crate) fn set_units(
+        &mut self,
+        alloc: Global,
+        units: Vec<usize>,
+        word: &[u8],
+    ) -> Result<(), AllocError>
+        ensures { IfOk result (λ _. self.new ≡ record self.old {
+          units = units.items;
+          set = self.old.set ++ word.now ∷ [];
+        }) }
+    {
+        let own = Vec::from_slice(alloc, word)?;
+        self.set.push(own)?;
+        self.units = units;
         Ok(())
     }
 }

@@ -21,6 +21,7 @@ pub(crate) fn is_setting(word: &[u8]) -> bool
         || is(word, b"timeouts")
         || is(word, b"refuses")
         || is(word, b"allow")
+        || is(word, b"unit")
 }
 
 /// The four settings of a platform.

@@ -1,6 +1,6 @@
 -- What a line awaits.
-use Rattle.std.specs.Prelude.{ℕ, ◌+◌, ◌==◌, ◌&&◌, not, if◌then◌else◌, Bool, true, false, List, [], ◌∷◌, codes, position, slice_get, Option, Some, None}
-use Rattle.std.specs.Prelude.{Result, Ok}
+use Rattle.std.specs.Prelude.{ℕ, suc, ◌+◌, ◌==◌, ◌&&◌, not, if◌then◌else◌, Bool, true, false, List, [], ◌∷◌, codes, length}
+use Rattle.std.specs.Prelude.{position, slice_get, Option, Some, None, Result, Ok}
 use Rattle.std.specs.List.{list_all, list_any}
 use Rattle.std.specs.Str.{bytes_eq}
 use Rattle.sva_step.specs.declared.limits.Config.{Config}
@@ -13,6 +13,7 @@ use Rattle.sva_driver_words.specs.Faults.{wrong_at, no_more}
 use Rattle.sva_driver_words.specs.Fields.{endpoint_at, has_word, pasid_at, says, some_pasid_at}
 use Rattle.sva_driver_words.specs.Sayings.{SayingSaid, did, saying_seen}
 use Rattle.sva_driver_words.specs.Sayings.SayingSaid.{SubmitsSaid, AwaitsLineSaid, AwaitsWaitsSaid}
+use Rattle.sva_driver_words.specs.Units.{is_below}
 use Rattle.sva_driver_words.specs.declared.kept.LineRead.{LineRead}
 use Rattle.sva_driver_words.specs.declared.kept.Under.{Under}
 use Rattle.sva_driver_words.specs.declared.faults.BranchWanted.TheVariants as branch
@@ -51,20 +52,22 @@ abbrev pub wait_at : SayingSaid → Option ℕ
 wait_at (SubmitsSaid endpoint list) = if list_any is_a_wait list then Some endpoint else None
 wait_at _ = None
 
-abbrev pub is_endpoint : (endpoint : ℕ) → Option ℕ → Bool
-is_endpoint endpoint None = false
-is_endpoint endpoint (Some own) = own == endpoint
+-- a wait is of the unit: it may be submitted at another endpoint below it
+abbrev pub is_of_its_unit : (units : List ℕ) → (endpoint : ℕ) → Option ℕ → Bool
+is_of_its_unit units endpoint None = false
+is_of_its_unit units endpoint (Some own) = is_below units endpoint own
 
-abbrev pub submits_there : (thread : List ℕ) → (endpoint : ℕ) → LineSaid → Bool
-submits_there thread endpoint line = bytes_eq line.thread thread && is_endpoint endpoint (wait_at line.saying)
+abbrev pub submits_there : (units : List ℕ) → (thread : List ℕ) → (endpoint : ℕ) → LineSaid → Bool
+submits_there units thread endpoint line =
+    bytes_eq line.thread thread && is_of_its_unit units endpoint (wait_at line.saying)
 
 -- the place of the last one that is such, or the one found before
 unfoldable pub last_from : {A : Type 0} → (A → Bool) → (place : ℕ) → (found : Option ℕ) → List A → Option ℕ
 last_from is_such place found [] = found
 last_from is_such place found (line ∷ lines) = last_from is_such (place + 1) (if is_such line then Some place else found) lines
 
-abbrev pub last_wait : (thread : List ℕ) → (endpoint : ℕ) → List LineSaid → Option ℕ
-last_wait thread endpoint lines = last_from (submits_there thread endpoint) 0 None lines
+abbrev pub last_wait : (units : List ℕ) → (thread : List ℕ) → (endpoint : ℕ) → List LineSaid → Option ℕ
+last_wait units thread endpoint lines = last_from (submits_there units thread endpoint) 0 None lines
 
 -- does a line that stands in these blocks stand in that one?
 abbrev pub is_block : Under → Under → Bool
@@ -78,7 +81,7 @@ abbrev pub stands_with : (under : List Under) → Option LineSaid → Bool
 stands_with under None = false
 stands_with under (Some line) = list_all (stands_in under) line.under
 
--- `await wait E`: the last wait that a line above in this thread submitted there; it is submitted on each way to here
+-- `await wait E`: the last wait that a line above in this thread submitted to its unit; it is submitted on each way to here
 abbrev pub awaits_last : (endpoint : ℕ) → (under : List Under) → List LineSaid → Option ℕ → Result SayingSaid DriverWrong
 awaits_last endpoint under lines None = wrong_at 2 wanted.WaitAbove
 awaits_last endpoint under lines (Some place) =
@@ -86,11 +89,12 @@ awaits_last endpoint under lines (Some place) =
     then Ok (AwaitsWaitsSaid endpoint place)
     else wrong_at 2 (wanted.Branch branch.OnEachWay)
 
-abbrev pub await_wait : Config → (under : List Under) → (thread : List ℕ) → List LineSaid → List (List ℕ) → Result SayingSaid DriverWrong
-await_wait config under thread lines words = do
+abbrev pub await_wait : Config → (units : List ℕ) → (under : List Under) → (thread : List ℕ) → List LineSaid → List (List ℕ)
+    → Result SayingSaid DriverWrong
+await_wait config units under thread lines words = do
   endpoint ← endpoint_at config 2 words
   _ ← no_more 3 words
-  awaits_last endpoint under lines (last_wait thread endpoint lines)
+  awaits_last endpoint under lines (last_wait units thread endpoint lines)
 
 -- ---- `await NAME`, of a line above: its waits, if it submits some; else that it was taken
 
@@ -117,6 +121,28 @@ awaits_name lines words = do
 
 abbrev pub await_named : List LineSaid → List (List ℕ) → Result SayingSaid DriverWrong
 await_named lines words = if has_word 1 words then awaits_name lines words else wrong_at 1 wanted.Awaited
+
+-- ---- threads by number: 0 is before all of them, any other is one more than the place of its first line
+
+abbrev pub is_of_thread : (thread : List ℕ) → LineSaid → Bool
+is_of_thread thread line = bytes_eq line.thread thread
+
+abbrev pub number_by : (count : ℕ) → Option ℕ → ℕ
+number_by count None = suc count
+number_by count (Some place) = suc place
+
+abbrev pub thread_number : (thread : List ℕ) → List LineSaid → ℕ
+thread_number [] lines = 0
+thread_number thread lines = number_by (length lines) (position (is_of_thread thread) lines)
+
+-- ---- `await passed E P`: the barriers of this thread and of those before all threads
+
+abbrev pub await_passed : Config → (thread : ℕ) → List (List ℕ) → Result SayingSaid DriverWrong
+await_passed config thread words = do
+  endpoint ← endpoint_at config 2 words
+  pasid ← pasid_at 3 words
+  _ ← no_more 4 words
+  Ok (did endpoint (local.AwaitPassed pasid thread))
 
 -- ---- `await stopped E P`, `await queue E [P]`, `await groups E [P]`, `await reset E`, `await idle E`, `await gone E`
 
@@ -163,10 +189,12 @@ await_gone config words = do
   _ ← no_more 3 words
   Ok (did endpoint local.AwaitGone)
 
-abbrev pub await_line : Config → (under : List Under) → (thread : List ℕ) → List LineSaid → List (List ℕ) → Result SayingSaid DriverWrong
-await_line config under thread lines words =
-    if says 1 (codes "wait") words then await_wait config under thread lines words else
+abbrev pub await_line : Config → (units : List ℕ) → (under : List Under) → (thread : List ℕ) → List LineSaid → List (List ℕ)
+    → Result SayingSaid DriverWrong
+await_line config units under thread lines words =
+    if says 1 (codes "wait") words then await_wait config units under thread lines words else
     if says 1 (codes "stopped") words then await_stopped config words else
+    if says 1 (codes "passed") words then await_passed config (thread_number thread lines) words else
     if says 1 (codes "queue") words then await_queue config words else
     if says 1 (codes "groups") words then await_groups config words else
     if says 1 (codes "reset") words then await_reset config words else

@@ -39,7 +39,9 @@ placed start (Err wrong) = wrong_at (start + wrong.at) wrong.wanted
 abbrev pub submit_text : SubmitWanted → List ℕ
 submit_text submit.Few = codes "no more than 64 descriptors"
 submit_text submit.PlusOrEnd = codes "+ or no further word"
-submit_text submit.PageOrPlus = codes "the number of a page or +"
+submit_text submit.OfOrPlus = codes "of, + or no further word"
+submit_text submit.PageOrPlus = codes "the number of a page, of or +"
+submit_text submit.Beside = codes "an endpoint of the same unit"
 submit_text submit.FlagOrPlus = codes "drain, fence or +"
 submit_text submit.FenceOrPlus = codes "fence or +"
 submit_text submit.DrainOrPlus = codes "drain or +"
@@ -77,6 +79,7 @@ wanted_text wanted.Refused = codes "drain"
 wanted_text wanted.Allowed = codes "no-group"
 wanted_text wanted.Enables = codes "kept or cleared"
 wanted_text wanted.Timeouts = codes "off, on or stop"
+wanted_text wanted.Unshared = codes "another endpoint: each stands below one unit"
 wanted_text wanted.Frame = codes "a frame of the config"
 wanted_text wanted.Freed = codes "a frame of the config, space, domain or pasid"
 wanted_text wanted.Pasid = codes "a PASID, 0 to 32"
@@ -97,7 +100,7 @@ wanted_text wanted.Code = codes "success, invalid or failure"
 wanted_text wanted.Kind = codes "the kind of a message"
 wanted_text (wanted.Submit want) = submit_text want
 wanted_text wanted.Descriptor = codes "range, pasid, iotlb, entry or wait"
-wanted_text wanted.Awaited = codes "wait, stopped, queue, groups, reset, idle, gone or the name of a line above"
+wanted_text wanted.Awaited = codes "wait, stopped, passed, queue, groups, reset, idle, gone or the name of a line above"
 wanted_text wanted.WaitAbove = codes "an endpoint at which a line above in this thread submits a wait"
 wanted_text wanted.Lock = codes "the name of a lock"
 wanted_text (wanted.Branch want) = branch_text want
@@ -115,12 +118,12 @@ act_words =
     codes "freeze" ∷ codes "lock" ∷ codes "unlock" ∷ codes "mark" ∷ codes "ask" ∷ codes "use" ∷ codes "end" ∷
     codes "evict" ∷ codes "fault" ∷ codes "finish" ∷ codes "quit" ∷ codes "pump" ∷ codes "write" ∷ codes "deliver" ∷ codes "forget" ∷
     codes "set" ∷ codes "clear" ∷ codes "if" ∷ codes "ats" ∷ codes "pri" ∷ codes "mastering" ∷ codes "gone" ∷
-    codes "resume" ∷ codes "expire" ∷ []
+    codes "resume" ∷ codes "expire" ∷ codes "barrier" ∷ codes "pass" ∷ []
 
 unfoldable pub setting_words : List (List ℕ)
 setting_words =
     codes "platform" ∷ codes "link" ∷ codes "waits" ∷ codes "drain" ∷ codes "caches" ∷ codes "stopped" ∷
-    codes "refuses" ∷ codes "allow" ∷ codes "enables" ∷ codes "timeouts" ∷ []
+    codes "refuses" ∷ codes "allow" ∷ codes "enables" ∷ codes "timeouts" ∷ codes "unit" ∷ []
 
 -- the words that stand behind `platform`
 unfoldable pub platform_words : List (List ℕ)
@@ -137,7 +140,7 @@ behind_words =
 
 -- the kinds of messages that scripts don't have
 unfoldable pub more_kind_words : List (List ℕ)
-more_kind_words = codes "status" ∷ []
+more_kind_words = codes "status" ∷ codes "barrier" ∷ codes "passed" ∷ []
 
 unfoldable pub descriptor_words : List (List ℕ)
 descriptor_words = codes "range" ∷ codes "pasid" ∷ codes "iotlb" ∷ codes "entry" ∷ codes "wait" ∷ []
@@ -149,7 +152,7 @@ freed_words = codes "space" ∷ codes "domain" ∷ codes "pasid" ∷ []
 -- the words that stand behind `await`, where a name doesn't
 unfoldable pub awaited_words : List (List ℕ)
 awaited_words =
-    codes "wait" ∷ codes "stopped" ∷ codes "queue" ∷ codes "groups" ∷ codes "reset" ∷ codes "idle" ∷ codes "gone" ∷ []
+    codes "wait" ∷ codes "stopped" ∷ codes "passed" ∷ codes "queue" ∷ codes "groups" ∷ codes "reset" ∷ codes "idle" ∷ codes "gone" ∷ []
 
 -- the words that stand behind `if`, where a flag doesn't
 unfoldable pub condition_words : List (List ℕ)

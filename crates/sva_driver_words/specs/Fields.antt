@@ -130,6 +130,7 @@ kind_up_at at words =
     if says at (codes "page-request") words then Ok kind.PageRequest else
     if says at (codes "marker") words then Ok kind.Marker else
     if says at (codes "status") words then Ok kind.Status else
+    if says at (codes "passed") words then Ok kind.Passed else
     if says at (codes "reset-done") words then Ok kind.ResetDone else
     wrong_at at wanted.Kind
 
@@ -137,6 +138,7 @@ abbrev pub kind_at : (at : ℕ) → List (List ℕ) → Result Kind DriverWrong
 kind_at at words =
     if says at (codes "start") words then Ok kind.Start else
     if says at (codes "stop") words then Ok kind.Stop else
+    if says at (codes "barrier") words then Ok kind.Barrier else
     if says at (codes "reset") words then Ok kind.Reset else
     if says at (codes "completion") words then Ok kind.Completion else
     if says at (codes "invalidate") words then Ok kind.Invalidate else

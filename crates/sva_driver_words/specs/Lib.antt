@@ -3,6 +3,7 @@ pub mod Faults
 pub mod Fields
 pub mod Needs
 pub mod Pieces
+pub mod Units
 pub mod Platforms
 pub mod Taking
 pub mod Sayings

@@ -36,6 +36,7 @@ code_text false = codes " success"
 abbrev pub kind_text : Kind → List ℕ
 kind_text kind.Start = codes "start"
 kind_text kind.Stop = codes "stop"
+kind_text kind.Barrier = codes "barrier"
 kind_text kind.Reset = codes "reset"
 kind_text kind.Completion = codes "completion"
 kind_text kind.Invalidate = codes "invalidate"
@@ -45,6 +46,7 @@ kind_text kind.Invalidated = codes "invalidated"
 kind_text kind.PageRequest = codes "page-request"
 kind_text kind.Marker = codes "marker"
 kind_text kind.Status = codes "status"
+kind_text kind.Passed = codes "passed"
 kind_text kind.ResetDone = codes "reset-done"
 
 -- of one it is said otherwise than of more

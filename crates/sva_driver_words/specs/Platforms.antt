@@ -1,5 +1,5 @@
 -- What a platform is like, in words: each setting of a pair, also where it is the one that holds where nothing is said; and what is
--- cleared, runs out of time, is refused or allowed, where something is.
+-- cleared, runs out of time, is refused or allowed, where something is; and which units are shared.
 use Rattle.std.specs.Prelude.{ℕ, ◌||◌, not, if◌then◌else◌, Bool, true, false, List, [], ◌∷◌, ◌++◌, codes}
 use Rattle.sva_open.specs.declared.settings.Settings.{Settings}
 use Rattle.sva_open.specs.declared.settings.Link.{Link}
@@ -8,6 +8,7 @@ use Rattle.sva_open.specs.declared.settings.Stopped.{Stopped}
 use Rattle.sva_open.specs.declared.settings.Stopped.TheVariants.{Marker, Status, Known}
 use Rattle.sva_open.specs.declared.settings.Timeouts.{Timeouts}
 use Rattle.sva_open.specs.declared.settings.Timeouts.TheVariants as timeouts
+use Rattle.sva_driver_words.specs.Units.{units_text}
 
 abbrev pub link_words : Link → List ℕ
 link_words Free = codes "with link free"
@@ -42,10 +43,10 @@ unpaired_text settings =
     ++ timeouts_words settings.timeouts
     ++ one_of settings.refuses_drain (codes ", refuses drain") (codes "")
     ++ one_of settings.allows_no_group (codes ", allow no-group") (codes "")
-    ++ 10 ∷ []
 
-abbrev pub platform_text : Settings → List ℕ
-platform_text settings = pairs_text settings ++ unpaired_text settings
+abbrev pub platform_text : Settings → (units : List ℕ) → List ℕ
+platform_text settings units =
+    pairs_text settings ++ unpaired_text settings ++ units_text units (codes ", ") [] ++ 10 ∷ []
 
 -- ---- What leaves more open than the settings do, and so wasn't asked
 -- A link that keeps posted requests in order is what PCI Express has: that `link free` leaves more open isn't told. A unit that refuses

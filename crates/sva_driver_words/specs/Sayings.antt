@@ -94,23 +94,28 @@ endpoint_line config words = do
   _ ← no_more 2 words
   Ok (of_endpoint (word_at 0 words) endpoint)
 
--- ---- `start E P`, `stop E P`, `quit E P`
+-- ---- `start E P`, `stop E P`, `barrier E P`, `quit E P`
 
 abbrev pub takes_pasid : (word : List ℕ) → Bool
-takes_pasid word = bytes_eq word (codes "start") || bytes_eq word (codes "stop") || bytes_eq word (codes "quit")
+takes_pasid word = bytes_eq word (codes "start") || bytes_eq word (codes "stop") || bytes_eq word (codes "barrier") || bytes_eq word (codes "quit")
 
-abbrev pub of_pasid : (word : List ℕ) → (endpoint pasid : ℕ) → SayingSaid
-of_pasid word endpoint pasid =
+-- a barrier has the place of its line for a name
+abbrev pub barrier_by : (endpoint pasid thread place : ℕ) → SayingSaid
+barrier_by endpoint pasid thread place = did endpoint (local.Barrier (record { pasid = pasid; thread = thread; name = place }))
+
+abbrev pub of_pasid : (word : List ℕ) → (endpoint pasid thread place : ℕ) → SayingSaid
+of_pasid word endpoint pasid thread place =
+    if bytes_eq word (codes "barrier") then barrier_by endpoint pasid thread place else
     if bytes_eq word (codes "start") then did endpoint (local.Start pasid) else
     if bytes_eq word (codes "stop") then did endpoint (local.Stop pasid) else
     did endpoint (local.Quit pasid)
 
-abbrev pub pasid_line : Config → List (List ℕ) → Result SayingSaid DriverWrong
-pasid_line config words = do
+abbrev pub pasid_line : Config → (thread place : ℕ) → List (List ℕ) → Result SayingSaid DriverWrong
+pasid_line config thread place words = do
   endpoint ← endpoint_at config 1 words
   pasid ← pasid_at 2 words
   _ ← no_more 3 words
-  Ok (of_pasid (word_at 0 words) endpoint pasid)
+  Ok (of_pasid (word_at 0 words) endpoint pasid thread place)
 
 -- ---- `ask E P PAGE`, `use E P PAGE`, `evict E P PAGE`
 
@@ -282,7 +287,7 @@ fault_line config words = do
   write ← asked_at 4 words
   if says 5 (codes "new") words then fault_begun endpoint pasid page write words else fault_more endpoint pasid page write words
 
--- ---- `end E [N]`, `finish E [N]`, `deliver KIND E [N]`, `forget E P`, `forget E P PAGE`
+-- ---- `end E [N]`, `finish E [N]`, `pass E [N]`, `deliver KIND E [N]`, `forget E P`, `forget E P PAGE`
 
 abbrev pub end_line : Config → List (List ℕ) → Result SayingSaid DriverWrong
 end_line config words = do
@@ -297,6 +302,13 @@ finish_line config words = do
   older ← older_at 2 words
   _ ← no_more 3 words
   Ok (NamesSaid endpoint (named.Finish older))
+
+abbrev pub pass_line : Config → List (List ℕ) → Result SayingSaid DriverWrong
+pass_line config words = do
+  endpoint ← endpoint_at config 1 words
+  older ← older_at 2 words
+  _ ← no_more 3 words
+  Ok (NamesSaid endpoint (named.Pass older))
 
 abbrev pub deliver_line : Config → List (List ℕ) → Result SayingSaid DriverWrong
 deliver_line config words = do

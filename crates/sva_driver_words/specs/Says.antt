@@ -1,4 +1,4 @@
--- What the line of an act says, with the lines above it and the locks and flags that they name.
+-- What the line of an act says, with the units of endpoints, the lines above it and the locks and flags that they name.
 use Rattle.std.specs.Prelude.{ℕ, ◌+◌, ◌||◌, ◌&&◌, not, if◌then◌else◌, Bool, true, false, List, [], ◌∷◌, ◌++◌, codes, length, position, nat_le}
 use Rattle.std.specs.Prelude.{Option, Result, Ok}
 use Rattle.std.specs.List.{list_any}
@@ -17,11 +17,11 @@ use Rattle.sva_driver_words.specs.declared.faults.BranchWanted.TheVariants as br
 use Rattle.sva_driver_words.specs.declared.faults.DriverWanted.TheVariants as wanted
 use Rattle.sva_driver_words.specs.declared.kept.Under.{Under}
 use Rattle.sva_driver_words.specs.declared.faults.DriverWrong.{DriverWrong}
-use Rattle.sva_driver_words.specs.Awaits.{LineSaid, await_line}
+use Rattle.sva_driver_words.specs.Awaits.{LineSaid, await_line, thread_number}
 use Rattle.sva_driver_words.specs.Controls.{turn_line, turns}
 use Rattle.sva_driver_words.specs.Descriptors.{submit_line}
 use Rattle.sva_driver_words.specs.Sayings.{SayingSaid, deliver_line, discard_line, end_line, endpoint_line, entry_line, fault_line, finish_line, forget_line}
-use Rattle.sva_driver_words.specs.Sayings.{free_line, freeze_line, mark_line, page_line, pasid_line, replace_line, respond_line, table_line}
+use Rattle.sva_driver_words.specs.Sayings.{free_line, freeze_line, mark_line, page_line, pasid_line, pass_line, replace_line, respond_line, table_line}
 use Rattle.sva_driver_words.specs.Sayings.{takes_endpoint, takes_page, takes_pasid}
 use Rattle.sva_driver_words.specs.Sayings.SayingSaid.{LocksSaid, LooksSaid, SetsSaid, UnlocksSaid}
 use Rattle.sva_driver_words.specs.Timeouts.{expire_line, failed_at, failed_behind}
@@ -173,6 +173,7 @@ other_by config lines locks flags under thread words word =
     if bytes_eq word (codes "fault") then fault_line config words else
     if bytes_eq word (codes "end") then end_line config words else
     if bytes_eq word (codes "finish") then finish_line config words else
+    if bytes_eq word (codes "pass") then pass_line config words else
     if bytes_eq word (codes "deliver") then deliver_line config words else
     if bytes_eq word (codes "forget") then forget_line config words else
     if bytes_eq word (codes "replace") then replace_line config words else
@@ -182,24 +183,24 @@ other_by config lines locks flags under thread words word =
     own_by config lines locks flags under thread words word
 
 -- all but `submit`
-abbrev pub plain_by : Config → (lines : List LineSaid) → (locks flags : List (List ℕ)) → (under : List Under) → (thread : List ℕ)
-    → List (List ℕ) → (word : List ℕ) → Result SayingSaid DriverWrong
-plain_by config lines locks flags under thread words word =
+abbrev pub plain_by : Config → (units : List ℕ) → (lines : List LineSaid) → (locks flags : List (List ℕ)) → (under : List Under)
+    → (thread : List ℕ) → List (List ℕ) → (word : List ℕ) → Result SayingSaid DriverWrong
+plain_by config units lines locks flags under thread words word =
     if takes_endpoint word then endpoint_line config words else
-    if takes_pasid word then pasid_line config words else
+    if takes_pasid word then pasid_line config (thread_number thread lines) (length lines) words else
     if takes_page word then page_line config words else
     if bytes_eq word (codes "pte") then table_line config words else
     if bytes_eq word (codes "entry") then entry_line config words else
-    if bytes_eq word (codes "await") then await_line config under thread lines words else
+    if bytes_eq word (codes "await") then await_line config units under thread lines words else
     if bytes_eq word (codes "respond") then respond_line config words else
     if bytes_eq word (codes "free") then free_line config words else
     if bytes_eq word (codes "freeze") then freeze_line config words else
     other_by config lines locks flags under thread words word
 
 -- the waits of a line have its place for a name
-abbrev pub saying_by : Config → (lines : List LineSaid) → (locks flags : List (List ℕ)) → (under : List Under) → (thread : List ℕ)
-    → List (List ℕ) → (word : List ℕ) → Result SayingSaid DriverWrong
-saying_by config lines locks flags under thread words word =
+abbrev pub saying_by : Config → (units : List ℕ) → (lines : List LineSaid) → (locks flags : List (List ℕ)) → (under : List Under)
+    → (thread : List ℕ) → List (List ℕ) → (word : List ℕ) → Result SayingSaid DriverWrong
+saying_by config units lines locks flags under thread words word =
     if bytes_eq word (codes "submit")
-    then submit_line config (length lines) words
-    else plain_by config lines locks flags under thread words word
+    then submit_line config units (length lines) words
+    else plain_by config units lines locks flags under thread words word

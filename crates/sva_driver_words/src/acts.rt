@@ -10,7 +10,7 @@ use crate::fields::{
     access_at, endpoint_at, fails_at, frame_at, has_word, index_at, page_at, pasid_at, says,
     some_pasid_at, space_at,
 };
-use sva_open::{Act, LocalAct, Saying};
+use sva_open::{Act, Barrier, LocalAct, Saying};
 use sva_race_texts::word_at;
 use sva_script::is;
 use sva_step::Config;
@@ -91,13 +91,21 @@ pub(crate) fn endpoint_line(config: &Config, words: &[&[u8]]) -> Result<Saying, 
 pub(crate) fn takes_pasid(word: &[u8]) -> bool
     ensures { result ≡ sayings.takes_pasid word.now }
 {
-    is(word, b"start") || is(word, b"stop") || is(word, b"quit")
+    is(word, b"start") || is(word, b"stop") || is(word, b"barrier") || is(word, b"quit")
 }
 
-/// What it says of a PASID.
-fn of_pasid(word: &[u8], endpoint: usize, pasid: usize) -> Saying
-    ensures { saying_seen result ≡ sayings.of_pasid word.now endpoint pasid }
+/// What it says of a PASID, as the line at a place of a thread.
+fn of_pasid(word: &[u8], endpoint: usize, pasid: usize, thread: usize, place: usize) -> Saying
+    ensures { saying_seen result ≡ sayings.of_pasid word.now endpoint pasid thread place }
 {
+    if is(word, b"barrier") {
+        let barrier = Barrier {
+            pasid,
+            thread,
+            name: place,
+        };
+        return did(endpoint, LocalAct::Barrier { barrier });
+    }
     if is(word, b"start") {
         return Saying::Does {
             act: Act::At {
@@ -122,14 +130,19 @@ fn of_pasid(word: &[u8], endpoint: usize, pasid: usize) -> Saying
     }
 }
 
-/// Reads a line with an endpoint and a PASID.
-pub(crate) fn pasid_line(config: &Config, words: &[&[u8]]) -> Result<Saying, DriverWrong>
-    ensures { read_seen result ≡ sayings.pasid_line config.now (map (λ word. word.now) words.now) }
+/// Reads a line with an endpoint and a PASID, at a place, of a thread.
+pub(crate) fn pasid_line(
+    config: &Config,
+    thread: usize,
+    place: usize,
+    words: &[&[u8]],
+) -> Result<Saying, DriverWrong>
+    ensures { read_seen result ≡ sayings.pasid_line config.now thread place (map (λ word. word.now) words.now) }
 {
     let endpoint = endpoint_at(config, words, 1)?;
     let pasid = pasid_at(words, 2)?;
     judge_end(words, 3)?;
-    Ok(of_pasid(word_at(words, 0), endpoint, pasid))
+    Ok(of_pasid(word_at(words, 0), endpoint, pasid, thread, place))
 }
 
 /// Whether an endpoint, a PASID and a page stand behind it.

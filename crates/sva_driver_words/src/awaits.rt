@@ -1,6 +1,6 @@
 //! The lines of what is awaited.
 
-ghost use Rattle.std.specs.Prelude.{◌≡◌, if◌then◌else◌, map, position, slice_get, None, Some};
+ghost use Rattle.std.specs.Prelude.{◌≡◌, ◌<◌, if◌then◌else◌, length, map, position, slice_get, IfSome, None, Some};
 ghost use Rattle.std.specs.List.{list_all, list_any};
 ghost use Rattle.sva_driver_words.specs.Awaits as awaits;
 ghost use Rattle.sva_driver_words.specs.Awaits.{line_seen};
@@ -10,6 +10,7 @@ ghost use Rattle.sva_open.specs.declared.acts.Act.TheVariants as variants;
 use crate::faults::{BranchWanted, DriverWanted, DriverWrong, judge_end, wrong_at};
 use crate::fields::{endpoint_at, has_word, pasid_at, says, some_pasid_at};
 use crate::kept::{LineRead, Under};
+use crate::units::is_below;
 use sva_open::{Act, Descriptor, LocalAct, Saying};
 use sva_race_texts::word_at;
 use sva_script::is;
@@ -44,6 +45,7 @@ fn wait_of(endpoint: usize, act: &LocalAct) -> Option<usize>
         | LocalAct::ClearEntry { .. }
         | LocalAct::Start { .. }
         | LocalAct::Stop { .. }
+        | LocalAct::Barrier { .. }
         | LocalAct::Reset
         | LocalAct::Close
         | LocalAct::Reopen
@@ -51,6 +53,7 @@ fn wait_of(endpoint: usize, act: &LocalAct) -> Option<usize>
         | LocalAct::Resume
         | LocalAct::AwaitWait { .. }
         | LocalAct::AwaitStopped { .. }
+        | LocalAct::AwaitPassed { .. }
         | LocalAct::AwaitQueue
         | LocalAct::AwaitQueueOf { .. }
         | LocalAct::AwaitGroups { .. }
@@ -70,6 +73,7 @@ fn wait_of(endpoint: usize, act: &LocalAct) -> Option<usize>
         | LocalAct::Fault { .. }
         | LocalAct::More { .. }
         | LocalAct::Finish { .. }
+        | LocalAct::Pass { .. }
         | LocalAct::Quit { .. }
         | LocalAct::Leave
         | LocalAct::Pump
@@ -106,27 +110,28 @@ fn wait_at(saying: &Saying) -> Option<usize>
     }
 }
 
-fn is_endpoint(endpoint: usize, found: Option<usize>) -> bool
-    ensures { result ≡ awaits.is_endpoint endpoint found }
+/// Whether a wait is submitted at an endpoint of the same unit.
+fn is_of_its_unit(units: &[usize], endpoint: usize, found: Option<usize>) -> bool
+    ensures { result ≡ awaits.is_of_its_unit units.now endpoint found }
 {
     match found {
         None => false,
-        Some(own) => own == endpoint,
+        Some(own) => is_below(units, endpoint, own),
     }
 }
 
-fn submits_there(thread: &[u8], endpoint: usize, line: &LineRead) -> bool
-    ensures { result ≡ awaits.submits_there thread.now endpoint (line_seen line.now) }
+fn submits_there(units: &[usize], thread: &[u8], endpoint: usize, line: &LineRead) -> bool
+    ensures { result ≡ awaits.submits_there units.now thread.now endpoint (line_seen line.now) }
 {
-    is(line.thread.as_slice(), thread) && is_endpoint(endpoint, wait_at(&line.saying))
+    is(line.thread.as_slice(), thread) && is_of_its_unit(units, endpoint, wait_at(&line.saying))
 }
 
-/// The place of the last line of a thread that submits a wait at an endpoint. It looks from the end.
-fn last_wait(thread: &[u8], endpoint: usize, lines: &[LineRead]) -> Option<usize>
-    ensures { result ≡ awaits.last_wait thread.now endpoint (map line_seen lines.now) }
+/// The place of the last line of a thread that submits a wait to the unit of an endpoint. It looks from the end.
+fn last_wait(units: &[usize], thread: &[u8], endpoint: usize, lines: &[LineRead]) -> Option<usize>
+    ensures { result ≡ awaits.last_wait units.now thread.now endpoint (map line_seen lines.now) }
 {
     for place in (0..lines.len()).rev() {
-        if submits_there(thread, endpoint, &lines[place]) {
+        if submits_there(units, thread, endpoint, &lines[place]) {
             return Some(place);
         }
     }
@@ -166,17 +171,18 @@ fn stands_with(under: &[Under], lines: &[LineRead], place: usize) -> bool
 /// Reads `await wait E`.
 fn await_wait(
     config: &Config,
+    units: &[usize],
     under: &[Under],
     thread: &[u8],
     lines: &[LineRead],
     words: &[&[u8]],
 ) -> Result<Saying, DriverWrong>
-    ensures { read_seen result ≡ awaits.await_wait config.now under.now thread.now (map line_seen lines.now)
-        (map (λ word. word.now) words.now) }
+    ensures { read_seen result ≡ awaits.await_wait config.now units.now under.now thread.now
+        (map line_seen lines.now) (map (λ word. word.now) words.now) }
 {
     let endpoint = endpoint_at(config, words, 2)?;
     judge_end(words, 3)?;
-    let Some(line) = last_wait(thread, endpoint, lines) else {
+    let Some(line) = last_wait(units, thread, endpoint, lines) else {
         return Err(wrong_at(2, DriverWanted::WaitAbove));
     };
     if !stands_with(under, lines, line) {
@@ -242,6 +248,63 @@ fn await_stopped(config: &Config, words: &[&[u8]]) -> Result<Saying, DriverWrong
         act: Act::At {
             endpoint,
             act: LocalAct::AwaitStopped { pasid },
+        },
+    })
+}
+
+fn is_of_thread(line: &LineRead, thread: &[u8]) -> bool
+    ensures { result ≡ awaits.is_of_thread thread.now (line_seen line.now) }
+{
+    is(line.thread.as_slice(), thread)
+}
+
+fn first_line(lines: &[LineRead], thread: &[u8]) -> Option<usize>
+    ensures { result ≡ position (λ line. awaits.is_of_thread thread.now (line_seen line)) lines.now }
+{
+    lines.iter().position(|line| is_of_thread(line, thread))
+}
+
+/// The place of the first line of a thread.
+fn first_of(thread: &[u8], lines: &[LineRead]) -> Option<usize>
+    ensures first { result ≡ position (awaits.is_of_thread thread.now) (map line_seen lines.now) }
+    ensures inside { IfSome result (λ place. place < length lines.now) }
+{
+    let found = first_line(lines, thread);
+    found
+}
+
+/// The number of a thread: 0 is before all of them, any other is one more than the place of its first line, which is
+/// the next one where none stands above.
+pub(crate) fn thread_number(thread: &[u8], lines: &[LineRead]) -> usize
+    ensures { result ≡ awaits.thread_number thread.now (map line_seen lines.now) }
+{
+    match thread {
+        [] => 0,
+        [_first, ..] => match first_of(thread, lines) {
+            None => lines.len() + 1,
+            Some(place) => place + 1,
+        },
+    }
+}
+
+/// Reads `await passed E P`, of a thread.
+fn await_passed(
+    config: &Config,
+    thread: &[u8],
+    lines: &[LineRead],
+    words: &[&[u8]],
+) -> Result<Saying, DriverWrong>
+    ensures { read_seen result ≡ awaits.await_passed config.now
+        (awaits.thread_number thread.now (map line_seen lines.now)) (map (λ word. word.now) words.now) }
+{
+    let endpoint = endpoint_at(config, words, 2)?;
+    let pasid = pasid_at(words, 3)?;
+    judge_end(words, 4)?;
+    let thread = thread_number(thread, lines);
+    Ok(Saying::Does {
+        act: Act::At {
+            endpoint,
+            act: LocalAct::AwaitPassed { pasid, thread },
         },
     })
 }
@@ -335,19 +398,23 @@ fn await_gone(config: &Config, words: &[&[u8]]) -> Result<Saying, DriverWrong>
 /// Reads `await ..`, with the lines above.
 pub(crate) fn await_line(
     config: &Config,
+    units: &[usize],
     under: &[Under],
     thread: &[u8],
     lines: &[LineRead],
     words: &[&[u8]],
 ) -> Result<Saying, DriverWrong>
-    ensures { read_seen result ≡ awaits.await_line config.now under.now thread.now (map line_seen lines.now)
-        (map (λ word. word.now) words.now) }
+    ensures { read_seen result ≡ awaits.await_line config.now units.now under.now thread.now
+        (map line_seen lines.now) (map (λ word. word.now) words.now) }
 {
     if says(words, 1, b"wait") {
-        return await_wait(config, under, thread, lines, words);
+        return await_wait(config, units, under, thread, lines, words);
     }
     if says(words, 1, b"stopped") {
         return await_stopped(config, words);
+    }
+    if says(words, 1, b"passed") {
+        return await_passed(config, thread, lines, words);
     }
     if says(words, 1, b"queue") {
         return await_queue(config, words);

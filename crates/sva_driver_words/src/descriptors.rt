@@ -5,9 +5,11 @@ ghost use Rattle.sva_driver_words.specs.Descriptors as descriptors;
 ghost use Rattle.sva_driver_words.specs.Faults.{placed};
 ghost use Rattle.sva_driver_words.specs.Sayings.{saying_seen};
 ghost use Rattle.sva_driver_words.specs.Taking.{Adds, Gives};
+ghost use Rattle.sva_open.specs.Below.{named_or};
 
 use crate::faults::{DriverStop, DriverWanted, DriverWrong, SubmitWanted, wrong_at};
-use crate::fields::{endpoint_at, has_word, order_at, page_by, pasid_at, says};
+use crate::fields::{endpoint_at, has_word, number_at, order_at, page_by, pasid_at, says};
+use crate::units::is_below;
 use std::alloc::{AllocError, Global};
 use sva_open::{Act, Descriptor, LocalAct, Saying, Scope};
 use sva_race_texts::{count_of, piece_len, words_at, words_from};
@@ -15,6 +17,9 @@ use sva_step::Config;
 
 /// How many descriptors a line may have: its queue has as many places.
 const MOST_DESCRIPTORS: usize = 64;
+
+/// How many endpoints a config may have.
+const MOST_ENDPOINTS: u64 = 8;
 
 /// The aligned range of 2^order pages that has a page.
 fn aligned(pasid: usize, page: u64, order: u64) -> Scope
@@ -39,35 +44,167 @@ fn ends_at(words: &[&[u8]], count: usize) -> Result<(), DriverWrong>
     Ok(())
 }
 
-/// Reads `P PAGE K` behind the first word.
-fn range_of(words: &[&[u8]], wanted: DriverWanted) -> Result<Scope, DriverWrong>
-    ensures { result ≡ descriptors.range_of wanted (map (λ word. word.now) words.now) }
+/// Reads an endpoint of the same unit.
+fn beside_at(
+    words: &[&[u8]],
+    at: usize,
+    units: &[usize],
+    endpoint: usize,
+) -> Result<usize, DriverWrong>
+    ensures { result ≡ descriptors.beside_at at units.now endpoint (map (λ word. word.now) words.now) }
 {
+    let wanted = DriverWanted::Submit(SubmitWanted::Beside);
+    let number = number_at(words, at, 0, MOST_ENDPOINTS, wanted)?;
+    let other = number as usize;
+    if is_below(units, endpoint, other) {
+        return Ok(other);
+    }
+    Err(wrong_at(at, wanted))
+}
+
+/// Reads `of F`.
+fn other_at(
+    words: &[&[u8]],
+    at: usize,
+    units: &[usize],
+    endpoint: usize,
+) -> Result<Option<usize>, DriverWrong>
+    requires { at < 8 }
+    ensures { result ≡ descriptors.other_at at units.now endpoint (map (λ word. word.now) words.now) }
+{
+    let other = beside_at(words, at + 1, units, endpoint)?;
+    ends_at(words, at + 2)?;
+    Ok(Some(other))
+}
+
+/// Whether nothing stands behind so many words.
+fn none_at(words: &[&[u8]], at: usize) -> Result<Option<usize>, DriverWrong>
+    ensures { result ≡ descriptors.none_at at (map (λ word. word.now) words.now) }
+{
+    if at < count_of(words) {
+        return Err(wrong_at(at, DriverWanted::Submit(SubmitWanted::OfOrPlus)));
+    }
+    Ok(None)
+}
+
+/// Reads `of F`, or nothing.
+fn of_at(
+    words: &[&[u8]],
+    at: usize,
+    units: &[usize],
+    endpoint: usize,
+) -> Result<Option<usize>, DriverWrong>
+    requires { at < 8 }
+    ensures { result ≡ descriptors.of_at at units.now endpoint (map (λ word. word.now) words.now) }
+{
+    if says(words, at, b"of") {
+        return other_at(words, at, units, endpoint);
+    }
+    none_at(words, at)
+}
+
+/// The endpoint that is named, or the line's.
+fn named_or(endpoint: usize, other: Option<usize>) -> usize
+    ensures { result ≡ named_or endpoint other }
+{
+    match other {
+        None => endpoint,
+        Some(own) => own,
+    }
+}
+
+/// Reads `range P PAGE K [of F]`.
+fn range_descriptor(
+    units: &[usize],
+    endpoint: usize,
+    words: &[&[u8]],
+) -> Result<Descriptor, DriverWrong>
+    ensures { result ≡ descriptors.range_descriptor units.now endpoint (map (λ word. word.now) words.now) }
+{
+    let pasid = pasid_at(words, 1)?;
+    let page = page_by(words, 2, DriverWanted::Page)?;
+    let order = order_at(words, 3)?;
+    let other = of_at(words, 4, units, endpoint)?;
+    Ok(Descriptor::Device {
+        endpoint: named_or(endpoint, other),
+        scope: aligned(pasid, page, order),
+    })
+}
+
+/// Reads `pasid P [of F]`.
+fn pasid_descriptor(
+    units: &[usize],
+    endpoint: usize,
+    words: &[&[u8]],
+) -> Result<Descriptor, DriverWrong>
+    ensures { result ≡ descriptors.pasid_descriptor units.now endpoint (map (λ word. word.now) words.now) }
+{
+    let pasid = pasid_at(words, 1)?;
+    let other = of_at(words, 2, units, endpoint)?;
+    Ok(Descriptor::Device {
+        endpoint: named_or(endpoint, other),
+        scope: Scope::Pasid { pasid },
+    })
+}
+
+/// Reads `iotlb P PAGE K [of F]`.
+fn kept_range(units: &[usize], endpoint: usize, words: &[&[u8]]) -> Result<Descriptor, DriverWrong>
+    ensures { result ≡ descriptors.kept_range units.now endpoint (map (λ word. word.now) words.now) }
+{
+    let wanted = DriverWanted::Submit(SubmitWanted::PageOrPlus);
     let pasid = pasid_at(words, 1)?;
     let page = page_by(words, 2, wanted)?;
     let order = order_at(words, 3)?;
-    ends_at(words, 4)?;
-    Ok(aligned(pasid, page, order))
+    let other = of_at(words, 4, units, endpoint)?;
+    Ok(Descriptor::Translations {
+        endpoint: other,
+        scope: aligned(pasid, page, order),
+    })
 }
 
-/// Reads `P` behind the first word.
-fn pasid_of(words: &[&[u8]]) -> Result<usize, DriverWrong>
-    ensures { result ≡ descriptors.pasid_of (map (λ word. word.now) words.now) }
+/// Reads `iotlb P [of F]`.
+fn kept_pasid(units: &[usize], endpoint: usize, words: &[&[u8]]) -> Result<Descriptor, DriverWrong>
+    ensures { result ≡ descriptors.kept_pasid units.now endpoint (map (λ word. word.now) words.now) }
 {
     let pasid = pasid_at(words, 1)?;
-    ends_at(words, 2)?;
-    Ok(pasid)
+    let other = of_at(words, 2, units, endpoint)?;
+    Ok(Descriptor::Translations {
+        endpoint: other,
+        scope: Scope::Pasid { pasid },
+    })
 }
 
-/// Reads `P` or `P PAGE K` behind the first word.
-fn scope_of(words: &[&[u8]]) -> Result<Scope, DriverWrong>
-    ensures { result ≡ descriptors.scope_of (map (λ word. word.now) words.now) }
+/// Reads `iotlb P [PAGE K] [of F]`.
+fn iotlb_descriptor(
+    units: &[usize],
+    endpoint: usize,
+    words: &[&[u8]],
+) -> Result<Descriptor, DriverWrong>
+    ensures { result ≡ descriptors.iotlb_descriptor units.now endpoint (map (λ word. word.now) words.now) }
 {
-    if has_word(words, 2) {
-        return range_of(words, DriverWanted::Submit(SubmitWanted::PageOrPlus));
+    if says(words, 2, b"of") {
+        return kept_pasid(units, endpoint, words);
     }
-    let pasid = pasid_of(words)?;
-    Ok(Scope::Pasid { pasid })
+    if has_word(words, 2) {
+        return kept_range(units, endpoint, words);
+    }
+    kept_pasid(units, endpoint, words)
+}
+
+/// Reads `entry P [of F]`.
+fn entry_descriptor(
+    units: &[usize],
+    endpoint: usize,
+    words: &[&[u8]],
+) -> Result<Descriptor, DriverWrong>
+    ensures { result ≡ descriptors.entry_descriptor units.now endpoint (map (λ word. word.now) words.now) }
+{
+    let pasid = pasid_at(words, 1)?;
+    let other = of_at(words, 2, units, endpoint)?;
+    Ok(Descriptor::Entry {
+        endpoint: other,
+        pasid,
+    })
 }
 
 /// The place behind a word that may stand there.
@@ -139,27 +276,26 @@ fn drain_first(name: usize, words: &[&[u8]]) -> Result<Descriptor, DriverWrong>
     wait_with(name, drain, fence, behind(at, fence), words)
 }
 
-/// A descriptor; waits get a name.
-fn descriptor_of(name: usize, words: &[&[u8]]) -> Result<Descriptor, DriverWrong>
-    ensures { result ≡ descriptors.descriptor_of name (map (λ word. word.now) words.now) }
+/// A descriptor of a line at an endpoint; waits get a name.
+fn descriptor_of(
+    units: &[usize],
+    endpoint: usize,
+    name: usize,
+    words: &[&[u8]],
+) -> Result<Descriptor, DriverWrong>
+    ensures { result ≡ descriptors.descriptor_of units.now endpoint name (map (λ word. word.now) words.now) }
 {
     if says(words, 0, b"range") {
-        let scope = range_of(words, DriverWanted::Page)?;
-        return Ok(Descriptor::Device { scope });
+        return range_descriptor(units, endpoint, words);
     }
     if says(words, 0, b"pasid") {
-        let pasid = pasid_of(words)?;
-        return Ok(Descriptor::Device {
-            scope: Scope::Pasid { pasid },
-        });
+        return pasid_descriptor(units, endpoint, words);
     }
     if says(words, 0, b"iotlb") {
-        let scope = scope_of(words)?;
-        return Ok(Descriptor::Translations { scope });
+        return iotlb_descriptor(units, endpoint, words);
     }
     if says(words, 0, b"entry") {
-        let pasid = pasid_of(words)?;
-        return Ok(Descriptor::Entry { pasid });
+        return entry_descriptor(units, endpoint, words);
     }
     if says(words, 0, b"wait") {
         return wait_of(name, words);
@@ -180,13 +316,15 @@ fn place_stop(start: usize, found: DriverWrong) -> Result<Descriptor, DriverStop
 
 /// A descriptor behind so many; its words begin at `at`.
 fn read_descriptor(
+    units: &[usize],
+    endpoint: usize,
     name: usize,
     count: usize,
     words: &[&[u8]],
     at: usize,
 ) -> Result<Descriptor, DriverStop>
-    ensures { Gives descriptors.itself (descriptors.descriptor_at name count at (map (λ word. word.now) words.now))
-        result }
+    ensures { Gives descriptors.itself
+        (descriptors.descriptor_at units.now endpoint name count at (map (λ word. word.now) words.now)) result }
 {
     if MOST_DESCRIPTORS <= count {
         return Err(DriverStop::Wrong(wrong_at(
@@ -194,7 +332,7 @@ fn read_descriptor(
             DriverWanted::Submit(SubmitWanted::Few),
         )));
     }
-    match descriptor_of(name, words) {
+    match descriptor_of(units, endpoint, name, words) {
         Ok(descriptor) => Ok(descriptor),
         Err(found) => place_stop(at, found),
     }
@@ -211,16 +349,19 @@ fn push_descriptor(list: &mut Vec<Descriptor>, one: Descriptor) -> Result<(), Al
 
 /// Adds a descriptor; its words begin at `at`.
 fn add_descriptor(
+    units: &[usize],
+    endpoint: usize,
     name: usize,
     words: &[&[u8]],
     at: usize,
     list: &mut Vec<Descriptor>,
 ) -> Result<(), DriverStop>
     ensures { Adds descriptors.itself
-        (descriptors.descriptor_at name (length list.old.items) at (map (λ word. word.now) words.now))
+        (descriptors.descriptor_at units.now endpoint name (length list.old.items) at
+        (map (λ word. word.now) words.now))
         list.old.items list.new.items result }
 {
-    match read_descriptor(name, list.len(), words, at) {
+    match read_descriptor(units, endpoint, name, list.len(), words, at) {
         Ok(one) => match push_descriptor(list, one) {
             Ok(()) => Ok(()),
             Err(_) => Err(DriverStop::Memory),
@@ -232,26 +373,28 @@ fn add_descriptor(
 /// Descriptors with `+` between two; the words begin at `at`.
 fn read_descriptors(
     alloc: Global,
+    units: &[usize],
+    endpoint: usize,
     name: usize,
     words: &[&[u8]],
     at: usize,
 ) -> Result<Vec<Descriptor>, DriverStop>
     requires { at + length words.now + 4 < 2 ^ 64 }
-    ensures { Gives descriptors.items_of (descriptors.descriptors_of name at (map (λ word. word.now) words.now))
-        result }
+    ensures { Gives descriptors.items_of
+        (descriptors.descriptors_of units.now endpoint name at (map (λ word. word.now) words.now)) result }
 {
     let mut list = Vec::new(alloc);
     let mut start = 0;
     while let Some(count) = piece_len(words, start, b"+") {
         let piece = words_at(words, start, count);
-        match add_descriptor(name, piece, at + start, &mut list) {
+        match add_descriptor(units, endpoint, name, piece, at + start, &mut list) {
             Ok(()) => {}
             Err(stop) => return Err(stop),
         }
         start += count + 1;
     }
     let piece = words_from(words, start);
-    match add_descriptor(name, piece, at + start, &mut list) {
+    match add_descriptor(units, endpoint, name, piece, at + start, &mut list) {
         Ok(()) => Ok(list),
         Err(stop) => Err(stop),
     }
@@ -261,14 +404,16 @@ fn read_descriptors(
 pub(crate) fn submit_line(
     alloc: Global,
     config: &Config,
+    units: &[usize],
     name: usize,
     words: &[&[u8]],
 ) -> Result<Saying, DriverStop>
-    ensures { Gives saying_seen (descriptors.submit_line config.now name (map (λ word. word.now) words.now)) result }
+    ensures { Gives saying_seen
+        (descriptors.submit_line config.now units.now name (map (λ word. word.now) words.now)) result }
 {
     let endpoint = endpoint_at(config, words, 1).map_err(DriverStop::Wrong)?;
     let rest = words_from(words, 2);
-    let descriptors = read_descriptors(alloc, name, rest, 2)?;
+    let descriptors = read_descriptors(alloc, units, endpoint, name, rest, 2)?;
     Ok(Saying::Does {
         act: Act::At {
             endpoint,

@@ -19,8 +19,12 @@ pub enum SubmitWanted {
     Few,
     /// The next descriptor, or no further word.
     PlusOrEnd,
-    /// The number of a page, or the next descriptor.
+    /// Another endpoint behind `of`, the next descriptor, or no further word.
+    OfOrPlus,
+    /// The number of a page, another endpoint behind `of`, or the next descriptor.
     PageOrPlus,
+    /// An endpoint below the unit of the line's.
+    Beside,
     /// What a wait may have, or the next descriptor.
     FlagOrPlus,
     /// What a wait with `drain` may have, or the next descriptor.
@@ -95,6 +99,8 @@ pub enum DriverWanted {
     Enables,
     /// What becomes of an invalidation that isn't answered.
     Timeouts,
+    /// An endpoint that doesn't stand below a unit with another one yet.
+    Unshared,
     /// A frame that the config has.
     Frame,
     /// What may be freed.
@@ -199,7 +205,9 @@ fn submit_words(wanted: &SubmitWanted) -> &'static str
     match wanted {
         SubmitWanted::Few => "no more than 64 descriptors",
         SubmitWanted::PlusOrEnd => "+ or no further word",
-        SubmitWanted::PageOrPlus => "the number of a page or +",
+        SubmitWanted::OfOrPlus => "of, + or no further word",
+        SubmitWanted::PageOrPlus => "the number of a page, of or +",
+        SubmitWanted::Beside => "an endpoint of the same unit",
         SubmitWanted::FlagOrPlus => "drain, fence or +",
         SubmitWanted::FenceOrPlus => "fence or +",
         SubmitWanted::DrainOrPlus => "drain or +",
@@ -250,6 +258,7 @@ fn words_of(wanted: &DriverWanted) -> &'static str
         DriverWanted::Allowed => "no-group",
         DriverWanted::Enables => "kept or cleared",
         DriverWanted::Timeouts => "off, on or stop",
+        DriverWanted::Unshared => "another endpoint: each stands below one unit",
         DriverWanted::Frame => "a frame of the config",
         DriverWanted::Freed => "a frame of the config, space, domain or pasid",
         DriverWanted::Pasid => "a PASID, 0 to 32",
@@ -271,7 +280,7 @@ fn words_of(wanted: &DriverWanted) -> &'static str
         DriverWanted::Submit(wanted) => submit_words(wanted),
         DriverWanted::Descriptor => "range, pasid, iotlb, entry or wait",
         DriverWanted::Awaited =>
-            "wait, stopped, queue, groups, reset, idle, gone or the name of a line above",
+            "wait, stopped, passed, queue, groups, reset, idle, gone or the name of a line above",
         DriverWanted::WaitAbove =>
             "an endpoint at which a line above in this thread submits a wait",
         DriverWanted::Lock => "the name of a lock",

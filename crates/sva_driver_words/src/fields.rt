@@ -48,7 +48,7 @@ fn within(
 }
 
 /// A number from one on and below another.
-fn number_at(
+pub(crate) fn number_at(
     words: &[&[u8]],
     at: usize,
     low: u64,
@@ -267,6 +267,9 @@ pub fn kind_at(words: &[&[u8]], at: usize) -> Result<Kind, DriverWrong>
     if says(words, at, b"stop") {
         return Ok(Kind::Stop);
     }
+    if says(words, at, b"barrier") {
+        return Ok(Kind::Barrier);
+    }
     if says(words, at, b"reset") {
         return Ok(Kind::Reset);
     }
@@ -300,6 +303,9 @@ fn kind_up_at(words: &[&[u8]], at: usize) -> Result<Kind, DriverWrong>
     }
     if says(words, at, b"status") {
         return Ok(Kind::Status);
+    }
+    if says(words, at, b"passed") {
+        return Ok(Kind::Passed);
     }
     if says(words, at, b"reset-done") {
         return Ok(Kind::ResetDone);

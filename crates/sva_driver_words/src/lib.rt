@@ -18,6 +18,7 @@ mod pieces;
 mod platforms;
 mod sayings;
 mod timeouts;
+mod units;
 mod written;
 
 pub use branches::{flag_place, names_flag};
@@ -34,4 +35,5 @@ pub use pieces::{
 };
 pub use platforms::{put_not_asked, put_platform};
 pub use sayings::read_saying;
+pub use units::put_units;
 pub use written::WrittenWanted;

@@ -15,7 +15,7 @@ use sva_race_texts::first_near;
 use sva_script::{Names, near_kind};
 
 /// The words that begin an act.
-const ACT_WORDS: [&[u8]; 39] = [
+const ACT_WORDS: [&[u8]; 41] = [
     b"pte",
     b"entry",
     b"replace",
@@ -55,10 +55,12 @@ const ACT_WORDS: [&[u8]; 39] = [
     b"gone",
     b"resume",
     b"expire",
+    b"barrier",
+    b"pass",
 ];
 
 /// The words that begin a setting.
-const SETTING_WORDS: [&[u8]; 10] = [
+const SETTING_WORDS: [&[u8]; 11] = [
     b"platform",
     b"link",
     b"waits",
@@ -69,6 +71,7 @@ const SETTING_WORDS: [&[u8]; 10] = [
     b"allow",
     b"enables",
     b"timeouts",
+    b"unit",
 ];
 
 /// The words that stand behind `platform`.
@@ -85,7 +88,7 @@ const BEHIND_WORDS: [&[u8]; 7] = [
 ];
 
 /// The kinds of messages that scripts don't have.
-const MORE_KINDS: [&[u8]; 1] = [b"status"];
+const MORE_KINDS: [&[u8]; 3] = [b"status", b"barrier", b"passed"];
 
 /// The words that begin a descriptor.
 const DESCRIPTOR_WORDS: [&[u8]; 5] = [b"range", b"pasid", b"iotlb", b"entry", b"wait"];
@@ -94,8 +97,8 @@ const DESCRIPTOR_WORDS: [&[u8]; 5] = [b"range", b"pasid", b"iotlb", b"entry", b"
 const FREED_WORDS: [&[u8]; 3] = [b"space", b"domain", b"pasid"];
 
 /// The words that stand behind `await`, where a name doesn't.
-const AWAITED_WORDS: [&[u8]; 7] = [
-    b"wait", b"stopped", b"queue", b"groups", b"reset", b"idle", b"gone",
+const AWAITED_WORDS: [&[u8]; 8] = [
+    b"wait", b"stopped", b"passed", b"queue", b"groups", b"reset", b"idle", b"gone",
 ];
 
 /// The words that stand behind `if`, where a flag doesn't.

@@ -20,6 +20,8 @@ pub enum Need {
     Done,
     /// To await a stop: an answer to it.
     Stopped,
+    /// To await barriers: that each one is passed.
+    Passed,
     /// To await the page request queue: that it is empty.
     EmptyQueue,
     /// To await the page requests of a PASID: that none stands in the queue.
@@ -63,6 +65,8 @@ pub enum Need {
     Running,
     /// To complete an invalidation: one that has come, with no older use of what it covers.
     Covered,
+    /// To pass a barrier: one that has come, and nothing older of its PASID that has to end.
+    Drained,
     /// To quit a PASID: a stop that has come, and nothing of the PASID that has to end.
     Idle,
     /// To begin a group: the PASID and page requests on, and no Response Failure since.
@@ -83,6 +87,7 @@ pub(crate) fn need_words(need: Need) -> &'static str
         Need::Descriptor => ": skip needs a descriptor in the queue",
         Need::Done => ": await needs the wait done",
         Need::Stopped => ": await needs an answer to the stop",
+        Need::Passed => ": await needs each barrier passed",
         Need::EmptyQueue => ": await needs an empty page request queue",
         Need::NoneQueued => ": await needs no page request of the PASID in the queue",
         Need::Answered => ": await needs each whole group answered",
@@ -108,6 +113,8 @@ pub(crate) fn need_words(need: Need) -> &'static str
         Need::Running => ": end needs a use that runs",
         Need::Covered =>
             ": finish needs an invalidation that has come, with no older use of what it covers",
+        Need::Drained =>
+            ": pass needs a barrier that has come, and nothing older of its PASID to end",
         Need::Idle =>
             ": quit needs a stop that has come, and no group, request or use of the PASID to end",
         Need::Enabled =>

@@ -102,6 +102,19 @@ pub(crate) fn finish_line(config: &Config, words: &[&[u8]]) -> Result<Saying, Dr
     })
 }
 
+/// Reads `pass E [N]`.
+pub(crate) fn pass_line(config: &Config, words: &[&[u8]]) -> Result<Saying, DriverWrong>
+    ensures { read_seen result ≡ sayings.pass_line config.now (map (λ word. word.now) words.now) }
+{
+    let endpoint = endpoint_at(config, words, 1)?;
+    let older = older_at(words, 2)?;
+    judge_end(words, 3)?;
+    Ok(Saying::Names {
+        endpoint,
+        named: Named::Pass { older },
+    })
+}
+
 /// Reads `deliver KIND E [N]`.
 pub(crate) fn deliver_line(config: &Config, words: &[&[u8]]) -> Result<Saying, DriverWrong>
     ensures { read_seen result ≡ sayings.deliver_line config.now (map (λ word. word.now) words.now) }

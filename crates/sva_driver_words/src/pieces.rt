@@ -88,6 +88,7 @@ pub fn kind_text(kind: Kind) -> &'static str
     match kind {
         Kind::Start => "start",
         Kind::Stop => "stop",
+        Kind::Barrier => "barrier",
         Kind::Reset => "reset",
         Kind::Completion => "completion",
         Kind::Invalidate => "invalidate",
@@ -97,6 +98,7 @@ pub fn kind_text(kind: Kind) -> &'static str
         Kind::PageRequest => "page-request",
         Kind::Marker => "marker",
         Kind::Status => "status",
+        Kind::Passed => "passed",
         Kind::ResetDone => "reset-done",
     }
 }

@@ -10,14 +10,14 @@ use crate::acts::{
     discard_line, endpoint_line, entry_line, free_line, freeze_line, mark_line, page_line,
     pasid_line, replace_line, respond_line, table_line, takes_endpoint, takes_page, takes_pasid,
 };
-use crate::awaits::await_line;
+use crate::awaits::{await_line, thread_number};
 use crate::branches::{look_line, set_line, sets_flag};
 use crate::controls::{turn_line, turns};
 use crate::descriptors::submit_line;
 use crate::faults::{DriverStop, DriverWrong};
 use crate::kept::{LineRead, Under};
 use crate::locks::lock_line;
-use crate::others::{deliver_line, end_line, fault_line, finish_line, forget_line};
+use crate::others::{deliver_line, end_line, fault_line, finish_line, forget_line, pass_line};
 use crate::timeouts::expire_line;
 use std::alloc::Global;
 use sva_open::Saying;
@@ -27,6 +27,7 @@ use sva_step::Config;
 /// What a line says whose words say all.
 fn read_plain(
     config: &Config,
+    units: &[usize],
     lines: &[LineRead],
     locks: &[Vec<u8>],
     flags: &[Vec<u8>],
@@ -35,7 +36,7 @@ fn read_plain(
     words: &[&[u8]],
     word: &[u8],
 ) -> Result<Saying, DriverWrong>
-    ensures { read_seen result ≡ says.plain_by config.now (map line_seen lines.now)
+    ensures { read_seen result ≡ says.plain_by config.now units.now (map line_seen lines.now)
         (map (λ lock. lock.items) locks.now) (map (λ flag. flag.items) flags.now) under.now thread.now
         (map (λ word. word.now) words.now) word.now }
 {
@@ -43,7 +44,7 @@ fn read_plain(
         return endpoint_line(config, words);
     }
     if takes_pasid(word) {
-        return pasid_line(config, words);
+        return pasid_line(config, thread_number(thread, lines), lines.len(), words);
     }
     if takes_page(word) {
         return page_line(config, words);
@@ -55,7 +56,7 @@ fn read_plain(
         return entry_line(config, words);
     }
     if is(word, b"await") {
-        return await_line(config, under, thread, lines, words);
+        return await_line(config, units, under, thread, lines, words);
     }
     if is(word, b"respond") {
         return respond_line(config, words);
@@ -92,6 +93,9 @@ fn read_other(
     }
     if is(word, b"finish") {
         return finish_line(config, words);
+    }
+    if is(word, b"pass") {
+        return pass_line(config, words);
     }
     if is(word, b"deliver") {
         return deliver_line(config, words);
@@ -145,6 +149,7 @@ fn read_own(
 pub fn read_saying(
     alloc: Global,
     config: &Config,
+    units: &[usize],
     lines: &[LineRead],
     locks: &[Vec<u8>],
     flags: &[Vec<u8>],
@@ -153,14 +158,16 @@ pub fn read_saying(
     words: &[&[u8]],
     word: &[u8],
 ) -> Result<Saying, DriverStop>
-    ensures { Gives saying_seen (says.saying_by config.now (map line_seen lines.now)
+    ensures { Gives saying_seen (says.saying_by config.now units.now (map line_seen lines.now)
         (map (λ lock. lock.items) locks.now) (map (λ flag. flag.items) flags.now) under.now thread.now
         (map (λ word. word.now) words.now) word.now) result }
 {
     if is(word, b"submit") {
-        return submit_line(alloc, config, lines.len(), words);
+        return submit_line(alloc, config, units, lines.len(), words);
     }
-    match read_plain(config, lines, locks, flags, under, thread, words, word) {
+    match read_plain(
+        config, units, lines, locks, flags, under, thread, words, word,
+    ) {
         Ok(saying) => Ok(saying),
         Err(wrong) => Err(DriverStop::Wrong(wrong)),
     }

@@ -1,3 +1,4 @@
 mod Highest
 mod Removed
 mod Counted
+pub mod Opened

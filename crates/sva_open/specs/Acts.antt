@@ -1,6 +1,6 @@
 -- The world that an act leads to, or none where it isn't permitted now.
-use Rattle.std.specs.Prelude.{ℕ, suc, ◌&&◌, not, Bool, List, [], ◌∷◌, ◌++◌, filter, find, position, slice_get, slice_set}
-use Rattle.std.specs.Prelude.{Option, Some, None, option_map, option_and_then}
+use Rattle.std.specs.Prelude.{ℕ, suc, not, Bool, List, [], ◌∷◌, ◌++◌, filter, position, slice_get, slice_set}
+use Rattle.std.specs.Prelude.{Option, Some, None, option_map}
 use Rattle.sva_open.specs.declared.frames.Tenure.{Tenure}
 use Rattle.sva_open.specs.declared.frames.Mapping.{Mapping}
 use Rattle.sva_open.specs.declared.settings.Settings.{Settings}
@@ -9,6 +9,7 @@ use Rattle.sva_open.specs.declared.acts.Act.TheVariants as act
 use Rattle.sva_open.specs.declared.acts.LocalAct.{LocalAct}
 use Rattle.sva_open.specs.declared.acts.LocalAct.TheVariants as local
 use Rattle.sva_open.specs.World.{Open, Part, is_of, is_page}
+use Rattle.sva_open.specs.Below.{about, shared}
 use Rattle.sva_open.specs.Host as host
 use Rattle.sva_open.specs.Devices as device
 use Rattle.sva_open.specs.Units as unit
@@ -22,6 +23,7 @@ next_part settings mappings part (local.Replace pasid space) = host.replace part
 next_part settings mappings part (local.ClearEntry pasid) = host.clear_entry part pasid (slice_get part.rows pasid)
 next_part settings mappings part (local.Start pasid) = host.start part pasid (slice_get part.rows pasid)
 next_part settings mappings part (local.Stop pasid) = host.stop part pasid (slice_get part.rows pasid)
+next_part settings mappings part (local.Barrier barrier) = Some (host.barrier part barrier)
 next_part settings mappings part local.Reset = Some (host.reset part)
 next_part settings mappings part (local.Submit descriptors) = host.submit part descriptors.items
 next_part settings mappings part local.Close = host.close part
@@ -30,6 +32,7 @@ next_part settings mappings part local.Skip = host.skip part (slice_get part.que
 next_part settings mappings part local.Resume = Some (host.resume part)
 next_part settings mappings part (local.AwaitWait name) = host.await_wait part name
 next_part settings mappings part (local.AwaitStopped pasid) = host.await_stopped part pasid (slice_get part.rows pasid)
+next_part settings mappings part (local.AwaitPassed pasid thread) = host.await_passed part pasid thread
 next_part settings mappings part local.AwaitQueue = host.await_queue part
 next_part settings mappings part (local.AwaitQueueOf pasid) = host.await_queue_of part pasid
 next_part settings mappings part (local.AwaitGroups pasid) = host.await_groups part pasid
@@ -50,6 +53,7 @@ next_part settings mappings part (local.Fault pasid page write last) =
     device.fault part pasid page write last (device.fresh_number part) (slice_get part.rows pasid)
 next_part settings mappings part (local.More index page write last) = device.more part index page write last (slice_get part.groups index)
 next_part settings mappings part (local.Finish place) = device.finish part place (slice_get part.works place)
+next_part settings mappings part (local.Pass place) = device.pass settings.stopped part place (slice_get part.works place)
 next_part settings mappings part (local.Quit pasid) = device.quit settings.stopped part pasid (slice_get part.rows pasid)
 next_part settings mappings part local.Leave = device.leave part
 next_part settings mappings part local.Pump = unit.pump settings part
@@ -99,6 +103,10 @@ abbrev pub at_endpoint : Open → (endpoint : ℕ) → LocalAct → Option Open
 at_endpoint now endpoint its =
     option_map (with_parts now) (parts_after now.settings now.mappings now.parts endpoint its (slice_get now.parts endpoint))
 
+-- and what the others see of it that stand below the same unit
+abbrev pub done_at : Open → (endpoint : ℕ) → LocalAct → Option Open
+done_at now endpoint its = shared now.units endpoint its now.parts (at_endpoint now endpoint its)
+
 abbrev pub next_open : Open → Act → Option Open
 next_open now act.Mark = Some now
 next_open now (act.SetPage space page frame write) = set_page now space page frame write (slice_get now.frames frame)
@@ -107,4 +115,4 @@ next_open now (act.FreeFrame frame) = free_frame now frame (slice_get now.frames
 next_open now (act.Freeze frame) = freeze now frame (slice_get now.frames frame)
 next_open now (act.FreeSpace space) = Some (record now { freed = now.freed ++ space ∷ [] })
 next_open now (act.FreeDomain space) = Some (record now { domains = now.domains ++ space ∷ [] })
-next_open now (act.At endpoint its) = at_endpoint now endpoint its
+next_open now (act.At endpoint its) = done_at now (about now.units endpoint its (slice_get now.parts endpoint)) its

@@ -13,7 +13,7 @@ use Rattle.sva_open.specs.declared.messages.Sent.{Sent}
 use Rattle.sva_open.specs.declared.works.Request.{Request}
 use Rattle.sva_open.specs.declared.works.Group.{Group}
 use Rattle.sva_open.specs.declared.works.Work.{Work}
-use Rattle.sva_open.specs.declared.works.Work.TheVariants.{Use, Taken}
+use Rattle.sva_open.specs.declared.works.Work.TheVariants.{Use, Taken, Draining}
 use Rattle.sva_open.specs.declared.descriptors.Arrived.{Arrived}
 use Rattle.sva_open.specs.declared.descriptors.Filed.{Filed}
 use Rattle.sva_open.specs.declared.descriptors.Received.{Received}
@@ -47,6 +47,7 @@ is_good frames part translation = is_current frames translation.target && is_pre
 abbrev pub is_good_work : List Tenure → Part → Work → Bool
 is_good_work frames part (Use translation) = is_good frames part translation
 is_good_work frames part (Taken itag scope) = true
+is_good_work frames part (Draining barrier) = true
 
 abbrev pub is_good_request : Part → Option Request → Bool
 is_good_request part None = true
@@ -90,8 +91,12 @@ is_right_sent settings frames part one = is_right settings frames part one one.m
 
 -- ---- the unit
 
+-- is it the endpoint's own, and not another's that stands below the same unit?
+abbrev pub is_of_endpoint : (endpoint : ℕ) → Arrived → Bool
+is_of_endpoint endpoint one = one.endpoint == endpoint
+
 abbrev pub is_good_arrived : Part → Arrived → Bool
-is_good_arrived part one = is_present part one.request.pasid one.owner
+is_good_arrived part one = not (is_of_endpoint part.endpoint one) || is_present part one.request.pasid one.owner
 
 abbrev pub is_good_received : Part → Received → Bool
 is_good_received part (Asked one) = is_good_arrived part one
@@ -100,9 +105,9 @@ is_good_received part (Drain name) = true
 abbrev pub joins_own : Arrived → Filed → Bool
 joins_own one filed = not (is_joined one.request filed) || (filed.number == one.number)
 
-abbrev pub joins_own_group : List Filed → Option Arrived → Bool
-joins_own_group filed None = true
-joins_own_group filed (Some one) = list_all (joins_own one) filed
+abbrev pub joins_own_group : (endpoint : ℕ) → List Filed → Option Arrived → Bool
+joins_own_group endpoint filed None = true
+joins_own_group endpoint filed (Some one) = not (is_of_endpoint endpoint one) || list_all (joins_own one) filed
 
 -- does the space stand among these?
 abbrev pub is_freed : List ℕ → (space : ℕ) → Bool
@@ -150,7 +155,7 @@ is_safe_device frames part =
 abbrev pub is_safe_unit : (freed : List ℕ) → Part → Bool
 is_safe_unit freed part =
     list_all (is_good_arrived part) part.arrived
-    && (joins_own_group part.filed (slice_get part.arrived 0)
+    && (joins_own_group part.endpoint part.filed (slice_get part.arrived 0)
     && (list_all (is_good_kept part) part.kept && list_all (is_good_entry freed part) part.kept_entries))
 
 -- what is on its way to the queue, and what workers have to serve

@@ -1,12 +1,13 @@
 -- What each act of an endpoint leaves, where it is permitted, and what an invalidation and a reset do to it.
-use Rattle.std.specs.Prelude.{ℕ, suc, max, ◌==◌, ◌&&◌, ◌||◌, not, if◌then◌else◌, Bool, true, false, List, [], ◌∷◌, ◌++◌, map, filter, take, find}
-use Rattle.std.specs.Prelude.{remove, position, slice_get, slice_set, Option, Some, None, option_map}
+use Rattle.std.specs.Prelude.{ℕ, suc, max, ◌==◌, ◌&&◌, ◌||◌, not, if◌then◌else◌, Bool, true, false, List, [], ◌∷◌, ◌++◌, map, take, find}
+use Rattle.std.specs.Prelude.{remove, slice_get, slice_set, Option, Some, None}
 use Rattle.std.specs.List.{list_any}
 use Rattle.sva_open.specs.declared.frames.Target.{Target}
 use Rattle.sva_open.specs.declared.frames.Translation.{Translation}
 use Rattle.sva_open.specs.declared.scopes.Scope.{Scope}
 use Rattle.sva_open.specs.declared.rows.State.TheVariants.{Off}
 use Rattle.sva_open.specs.declared.rows.Row.{Row}
+use Rattle.sva_open.specs.declared.messages.Barrier.{Barrier}
 use Rattle.sva_open.specs.declared.messages.Message.{Message}
 use Rattle.sva_open.specs.declared.messages.Message.TheVariants as message
 use Rattle.sva_open.specs.declared.messages.Sent.{Sent}
@@ -17,7 +18,7 @@ use Rattle.sva_open.specs.declared.descriptors.Received.TheVariants.{Request as 
 use Rattle.sva_open.specs.declared.works.Request.{Request}
 use Rattle.sva_open.specs.declared.works.Group.{Group}
 use Rattle.sva_open.specs.declared.works.Work.{Work}
-use Rattle.sva_open.specs.declared.works.Work.TheVariants.{Use, Taken}
+use Rattle.sva_open.specs.declared.works.Work.TheVariants.{Use, Taken, Draining}
 use Rattle.sva_open.specs.declared.acts.Control.{Control}
 use Rattle.sva_open.specs.declared.acts.Control.TheVariants.{Ats, PageRequests, Mastering}
 use Rattle.sva_open.specs.declared.settings.Settings.{Settings}
@@ -37,7 +38,7 @@ ask part pasid page None = None
 ask part pasid page (Some row) =
     if_so (may_access part row)
     (sent
-    (record part { requests = put part.requests (record { pasid = pasid; page = page; owner = row.user; is_doomed = false }) })
+    (record part { requests = put part.requests (record { pasid = pasid; page = page; owner = row.user; is_doomed = false; noted = None }) })
     row.user part.time (message.Request (lowest_free part.requests) pasid page))
 
 -- a use needs the same, and a held translation of the page
@@ -53,6 +54,7 @@ abbrev pub end_use : Part → (place : ℕ) → Option Work → Option Part
 end_use part place None = None
 end_use part place (Some (Use translation)) = Some (record part { works = remove part.works place })
 end_use part place (Some (Taken itag scope)) = None
+end_use part place (Some (Draining barrier)) = None
 
 -- a held translation may go whatever the state of its PASID is; a use that began through it runs on
 abbrev pub evict : Part → Option ℕ → Option Part
@@ -107,7 +109,7 @@ fault part pasid page write last number None = None
 fault part pasid page write last number (Some row) =
     if_so (may_fault part row)
     (sent
-    (record part { groups = put part.groups (record { pasid = pasid; owner = row.user; number = number; is_finished = last }) })
+    (record part { groups = put part.groups (record { pasid = pasid; owner = row.user; number = number; is_finished = last; noted = None }) })
     row.user number
     (message.PageRequest (record { pasid = pasid; index = lowest_free part.groups; page = page; write = write; last = last })))
 
@@ -129,12 +131,14 @@ more part index page write last (Some (Some group)) =
 abbrev pub is_use_of : Scope → Work → Bool
 is_use_of scope (Use translation) = covers scope translation.pasid translation.page
 is_use_of scope (Taken itag other) = false
+is_use_of scope (Draining barrier) = false
 
 -- An invalidation is completed once the uses that began before it, of what it covers, have ended (PCI Express Base 5.0, section
 -- 10.3.3). An endpoint that lies doesn't await them.
 abbrev pub finish : Part → (place : ℕ) → Option Work → Option Part
 finish part place None = None
 finish part place (Some (Use translation)) = None
+finish part place (Some (Draining barrier)) = None
 finish part place (Some (Taken itag scope)) =
     if_so (part.lies || not (list_any (is_use_of scope) (take place part.works)))
     (sent (record part { works = remove part.works place }) 0 part.time (message.Invalidated itag))
@@ -152,6 +156,7 @@ asks_under pasid (Some request) = request.pasid == pasid
 abbrev pub is_use_under : (pasid : ℕ) → Work → Bool
 is_use_under pasid (Use translation) = translation.pasid == pasid
 is_use_under pasid (Taken itag scope) = false
+is_use_under pasid (Draining barrier) = false
 
 abbrev pub is_busy : Part → (pasid : ℕ) → Bool
 is_busy part pasid =
@@ -167,6 +172,75 @@ said Known part pasid row = with_row part pasid (record row { state = Off; answe
 abbrev pub quit : Stopped → Part → (pasid : ℕ) → Option Row → Option Part
 quit stopped part pasid None = None
 quit stopped part pasid (Some row) = if_so (is_stopping row.state && not (is_busy part pasid)) (said stopped part pasid row)
+
+-- ---- to pass a barrier
+
+-- What is under way of its PASID when a barrier comes notes the first one that does: it is older than that, and than each that comes later.
+abbrev pub noted_by : Barrier → (pasid : ℕ) → (noted : Option ℕ) → Option ℕ
+noted_by barrier pasid None = if pasid == barrier.pasid then Some barrier.name else None
+noted_by barrier pasid (Some name) = Some name
+
+abbrev pub request_noted : Barrier → Request → Request
+request_noted barrier request = record request { noted = noted_by barrier request.pasid request.noted }
+
+abbrev pub asked_noted : Barrier → Option Request → Option Request
+asked_noted barrier None = None
+asked_noted barrier (Some request) = Some (request_noted barrier request)
+
+abbrev pub group_noted : Barrier → Group → Group
+group_noted barrier group = record group { noted = noted_by barrier group.pasid group.noted }
+
+abbrev pub begun_noted : Barrier → Option Group → Option Group
+begun_noted barrier None = None
+begun_noted barrier (Some group) = Some (group_noted barrier group)
+
+-- it is awaited behind all that the endpoint is at
+abbrev pub barred : Part → Barrier → Part
+barred part barrier =
+    record part {
+      requests = map (asked_noted barrier) part.requests;
+      works = part.works ++ Draining barrier ∷ [];
+      groups = map (begun_noted barrier) part.groups;
+    }
+
+abbrev pub is_barrier : (name : ℕ) → Work → Bool
+is_barrier name (Use translation) = false
+is_barrier name (Taken itag scope) = false
+is_barrier name (Draining barrier) = barrier.name == name
+
+-- is what has noted this older than the last of these barriers?
+abbrev pub is_older : (works : List Work) → (noted : Option ℕ) → Bool
+is_older works None = false
+is_older works (Some name) = list_any (is_barrier name) works
+
+abbrev pub is_asked_before : (works : List Work) → (pasid : ℕ) → Option Request → Bool
+is_asked_before works pasid None = false
+is_asked_before works pasid (Some request) = (request.pasid == pasid) && is_older works request.noted
+
+abbrev pub is_begun_before : (works : List Work) → (awaits : Bool) → (pasid : ℕ) → Option Group → Bool
+is_begun_before works awaits pasid None = false
+is_begun_before works awaits pasid (Some group) = is_unended awaits pasid (Some group) && is_older works group.noted
+
+-- What came before a barrier has to end as it has before the endpoint stops a PASID; the PASID stays on, and what begins later holds up
+-- none.
+abbrev pub is_held_up : Part → (place : ℕ) → Barrier → Bool
+is_held_up part place barrier =
+    list_any (is_use_under barrier.pasid) (take place part.works)
+    || (list_any (is_asked_before (take (suc place) part.works) barrier.pasid) part.requests
+    || list_any (is_begun_before (take (suc place) part.works) part.awaits barrier.pasid) part.groups)
+
+-- the host knows it at once, or by a posted write, whatever says that a PASID is stopped
+abbrev pub passed : Stopped → Part → Barrier → Part
+passed Marker part barrier = sent part 0 part.time (message.Passed barrier)
+passed Status part barrier = sent part 0 part.time (message.Passed barrier)
+passed Known part barrier = part
+
+abbrev pub pass : Stopped → Part → (place : ℕ) → Option Work → Option Part
+pass stopped part place None = None
+pass stopped part place (Some (Use translation)) = None
+pass stopped part place (Some (Taken itag scope)) = None
+pass stopped part place (Some (Draining barrier)) =
+    if_so (not (is_held_up part place barrier)) (passed stopped (record part { works = remove part.works place }) barrier)
 
 -- ---- what comes to it
 

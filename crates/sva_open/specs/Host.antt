@@ -3,12 +3,14 @@ use Rattle.std.specs.Prelude.{ℕ, suc, ◌+◌, ◌==◌, ◌&&◌, ◌||◌, n
 use Rattle.std.specs.Prelude.{remove, position, slice_get, slice_set, Option, Some, None, is_some}
 use Rattle.std.specs.List.{list_any}
 use Rattle.sva_step.specs.Limits
-use Rattle.sva_open.specs.declared.rows.Entry.{Entry}
 use Rattle.sva_open.specs.declared.rows.Row.{Row}
+use Rattle.sva_open.specs.declared.messages.Barrier.{Barrier}
 use Rattle.sva_open.specs.declared.messages.Message.{Message}
 use Rattle.sva_open.specs.declared.messages.Message.TheVariants as message
 use Rattle.sva_open.specs.declared.messages.PageRequest.{PageRequest}
 use Rattle.sva_open.specs.declared.messages.Sent.{Sent}
+use Rattle.sva_open.specs.declared.works.Work.{Work}
+use Rattle.sva_open.specs.declared.works.Work.TheVariants.{Use, Taken, Draining}
 use Rattle.sva_open.specs.declared.descriptors.Descriptor.{Descriptor}
 use Rattle.sva_open.specs.declared.descriptors.Arrived.{Arrived}
 use Rattle.sva_open.specs.declared.descriptors.Filed.{Filed}
@@ -63,6 +65,10 @@ start part pasid (Some row) = Some (sent part row.owner part.time (message.Start
 abbrev pub stop : Part → (pasid : ℕ) → Option Row → Option Part
 stop part pasid None = None
 stop part pasid (Some row) = Some (sent (with_row part pasid (record row { answer = None })) row.owner part.time (message.Stop pasid))
+
+-- a barrier is known by its name, whoever has its PASID since
+abbrev pub barrier : Part → Barrier → Part
+barrier part its = sent part 0 part.time (message.Barrier its)
 
 -- a reset is of no PASID
 abbrev pub reset : Part → Part
@@ -154,6 +160,28 @@ is_of_reset one = is_reset one.message
 
 abbrev pub await_resets : Part → Option Part
 await_resets part = if_so (not (list_any is_of_reset part.flight)) part
+
+-- A barrier isn't passed as long as it, or its answer, is in flight, or the endpoint is at it. Those that other threads have sent are
+-- for these to await.
+abbrev pub is_for : (pasid thread : ℕ) → Barrier → Bool
+is_for pasid thread its = (its.pasid == pasid) && ((its.thread == thread) || (its.thread == 0))
+
+abbrev pub brings_one : (pasid thread : ℕ) → Message → Bool
+brings_one pasid thread (message.Barrier its) = is_for pasid thread its
+brings_one pasid thread (message.Passed its) = is_for pasid thread its
+brings_one pasid thread _ = false
+
+abbrev pub is_of_barrier : (pasid thread : ℕ) → Sent → Bool
+is_of_barrier pasid thread one = brings_one pasid thread one.message
+
+abbrev pub drains : (pasid thread : ℕ) → Work → Bool
+drains pasid thread (Use translation) = false
+drains pasid thread (Taken itag scope) = false
+drains pasid thread (Draining its) = is_for pasid thread its
+
+abbrev pub await_passed : Part → (pasid thread : ℕ) → Option Part
+await_passed part pasid thread =
+    if_so (not (list_any (is_of_barrier pasid thread) part.flight || list_any (drains pasid thread) part.works)) part
 
 -- no translation request is out, and no use runs
 abbrev pub is_idle : Part → Bool

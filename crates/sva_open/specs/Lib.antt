@@ -4,6 +4,7 @@ pub mod Host
 pub mod Devices
 pub mod Units
 pub mod Links
+pub mod Below
 pub mod Acts
 pub mod Safe
 pub mod Checks

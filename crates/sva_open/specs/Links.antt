@@ -13,7 +13,7 @@ use Rattle.sva_open.specs.declared.descriptors.Received.TheVariants.{Request as 
 use Rattle.sva_open.specs.declared.settings.Settings.{Settings}
 use Rattle.sva_open.specs.World.{Part, if_so, stopped_by, with_row}
 use Rattle.sva_open.specs.Order.{goes_up, may_deliver}
-use Rattle.sva_open.specs.Devices.{complete, end_group, invalidated, reset_taken}
+use Rattle.sva_open.specs.Devices.{barred, complete, end_group, invalidated, reset_taken}
 use Rattle.sva_open.specs.Units.{answer, answered_stop, complete_itag}
 
 -- an endpoint is told of a PASID, by an owner of it
@@ -28,14 +28,14 @@ told_to_stop part pasid owner (Some row) = told part pasid (stopped_by row.state
 
 -- A page request stands in the queue at once where drains need that to be empty; else the unit has received it, and has yet to write
 -- it there (Intel VT-d, "Page Request Queue").
-abbrev pub arrived_as : Sent → PageRequest → Arrived
-arrived_as one request = record { request = request; owner = one.owner; number = one.number }
+abbrev pub arrived_as : (endpoint : ℕ) → Sent → PageRequest → Arrived
+arrived_as endpoint one request = record { endpoint = endpoint; request = request; owner = one.owner; number = one.number }
 
 abbrev pub arrive : Settings → Part → Sent → PageRequest → Part
 arrive settings part one request =
     if settings.drain_empties
-    then record part { arrived = part.arrived ++ arrived_as one request ∷ [] }
-    else record part { received = part.received ++ Asked (arrived_as one request) ∷ [] }
+    then record part { arrived = part.arrived ++ arrived_as part.endpoint one request ∷ [] }
+    else record part { received = part.received ++ Asked (arrived_as part.endpoint one request) ∷ [] }
 
 -- a unit that is closed drops all but a status and a reset-done
 abbrev pub if_open : Part → Part → Part
@@ -55,6 +55,8 @@ received settings mappings part one (message.PageRequest request) = if_open part
 received settings mappings part one (message.Marker pasid) = if_open part (answered_stop part pasid one.owner (slice_get part.rows pasid))
 received settings mappings part one (message.Status pasid) = answered_stop part pasid one.owner (slice_get part.rows pasid)
 received settings mappings part one message.ResetDone = part
+received settings mappings part one (message.Barrier barrier) = barred part barrier
+received settings mappings part one (message.Passed barrier) = part
 
 -- what goes down to an endpoint that is gone is dropped
 abbrev pub is_lost : Part → Message → Bool

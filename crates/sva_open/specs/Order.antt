@@ -3,7 +3,6 @@ use Rattle.std.specs.Prelude.{ℕ, Bool, true, false, List, take, ◌&&◌, ◌|
 use Rattle.std.specs.List.{list_any}
 use Rattle.sva_open.specs.declared.messages.Message.{Message}
 use Rattle.sva_open.specs.declared.messages.Message.TheVariants as message
-use Rattle.sva_open.specs.declared.messages.PageRequest.{PageRequest}
 use Rattle.sva_open.specs.declared.messages.Sent.{Sent}
 use Rattle.sva_open.specs.declared.settings.Link.{Link}
 use Rattle.sva_open.specs.declared.settings.Link.TheVariants.{Free, Posted}
@@ -16,6 +15,7 @@ goes_up message.Reset = false
 goes_up (message.Completion tag page target) = false
 goes_up (message.Invalidate itag scope) = false
 goes_up (message.Response index fails filed) = false
+goes_up (message.Barrier barrier) = false
 goes_up _ = true
 
 abbrev pub is_completion : Message → Bool
@@ -34,13 +34,14 @@ is_posted (message.Completion tag page target) = false
 is_posted _ = true
 
 -- Must a message not overtake an older one of its endpoint? A page request that is the last of its group, and a marker,
--- overtake no page request; a start, a stop and a reset overtake no message down but a translation completion; a
--- reset-done overtakes nothing. Nothing else is ordered.
+-- overtake no page request; a start, a stop, a barrier and a reset overtake no message down but a translation
+-- completion; a reset-done overtakes nothing. Nothing else is ordered.
 abbrev pub stays_behind : Message → Message → Bool
 stays_behind (message.PageRequest request) older = request.last && is_page_request older
 stays_behind (message.Marker pasid) older = is_page_request older
 stays_behind (message.Start pasid) older = not (goes_up older) && not (is_completion older)
 stays_behind (message.Stop pasid) older = not (goes_up older) && not (is_completion older)
+stays_behind (message.Barrier barrier) older = not (goes_up older) && not (is_completion older)
 stays_behind message.Reset older = not (goes_up older) && not (is_completion older)
 stays_behind message.ResetDone older = true
 stays_behind _ older = false

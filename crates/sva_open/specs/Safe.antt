@@ -1,7 +1,7 @@
 -- When a moment is safe: each translation that an endpoint may still use leads to a frame that nobody else has been given since;
 -- whatever is there of a PASID is of its present owner; no message would be taken for what it isn't of; no entry leads to a table
 -- whose memory was given away; and no worker has a group to serve by what is gone.
-use Rattle.std.specs.Prelude.{◌≡◌, ◌⊎◌, ◌||◌, ℕ, ⊤, Bool, true, false, List, Option, Some, None, slice_get, Contains, IfSome}
+use Rattle.std.specs.Prelude.{◌≡◌, ◌⊎◌, ◌||◌, ℕ, ⊤, true, false, List, Option, Some, None, slice_get, Contains, IfSome}
 use Rattle.sva_open.specs.declared.frames.Tenure.{Tenure}
 use Rattle.sva_open.specs.declared.frames.Target.{Target}
 use Rattle.sva_open.specs.declared.frames.Translation.{Translation}
@@ -10,7 +10,6 @@ use Rattle.sva_open.specs.declared.rows.Row.{Row}
 use Rattle.sva_open.specs.declared.rows.KeptEntry.{KeptEntry}
 use Rattle.sva_open.specs.declared.messages.Message.{Message}
 use Rattle.sva_open.specs.declared.messages.Message.TheVariants as message
-use Rattle.sva_open.specs.declared.messages.PageRequest.{PageRequest}
 use Rattle.sva_open.specs.declared.messages.Sent.{Sent}
 use Rattle.sva_open.specs.declared.works.Request.{Request}
 use Rattle.sva_open.specs.declared.works.Group.{Group}
@@ -60,7 +59,8 @@ pub record EndsNone (settings : Settings) (part : Part) (index : ℕ) : Type 0 w
   pub allowed : (settings.allows_no_group || part.is_gone) ≡ true
   pub none : group_at (slice_get part.groups index) ≡ None
 
--- what is asked of a message in flight. What flies to a closed unit, or to an endpoint that is gone, is dropped there.
+-- What is asked of a message in flight. What flies to a closed unit, or to an endpoint that is gone, is dropped there. A barrier, and
+-- the answer to one, are known by a name that no other has, so none is taken for another's, whoever has the PASID.
 abbrev pub IsRight : Settings → List Tenure → Part → Sent → Message → Type 0
 IsRight settings frames part one (message.Start pasid) = part.is_gone ≡ false → IsPresent part pasid one.owner
 IsRight settings frames part one (message.Stop pasid) = part.is_gone ≡ false → IsPresent part pasid one.owner
@@ -92,11 +92,11 @@ pub record IsSafePart (settings : Settings) (frames : List Tenure) (freed domain
       → IsPresent part request.pasid request.owner
   -- what is in flight
   pub flight : (one : Sent) → Contains part.flight one → IsRight settings frames part one one.message
-  -- The page requests that the unit has received, and those in its queue; and the oldest there, which would be filed next, joins no
-  -- other group.
-  pub received : (one : Arrived) → Contains part.received (Asked one) → IsPresent part one.request.pasid one.owner
-  pub arrived : (one : Arrived) → Contains part.arrived one → IsPresent part one.request.pasid one.owner
-  pub joined : (one : Arrived) (filed : Filed) → slice_get part.arrived 0 ≡ Some one → Contains part.filed filed
+  -- The page requests of the endpoint that the unit has received, and those in its queue; and the oldest there, which would be filed
+  -- next, joins no other group.
+  pub received : (one : Arrived) → Contains part.received (Asked one) → one.endpoint ≡ part.endpoint → IsPresent part one.request.pasid one.owner
+  pub arrived : (one : Arrived) → Contains part.arrived one → one.endpoint ≡ part.endpoint → IsPresent part one.request.pasid one.owner
+  pub joined : (one : Arrived) (filed : Filed) → slice_get part.arrived 0 ≡ Some one → one.endpoint ≡ part.endpoint → Contains part.filed filed
       → filed.is_whole ≡ false → filed.pasid ≡ one.request.pasid → filed.index ≡ one.request.index → filed.number ≡ one.number
   -- the whole groups that workers have to serve, where there are workers
   pub filed : settings.has_workers ≡ true → (filed : Filed) → Contains part.filed filed → filed.is_whole ≡ true

@@ -1,6 +1,6 @@
 -- What a unit does by itself, and what it makes of what comes to it.
 use Rattle.std.specs.Prelude.{ℕ, zero, suc, ◌-◌, ◌==◌, ◌&&◌, ◌||◌, not, if◌then◌else◌, Bool, true, false, List, [], ◌∷◌, ◌++◌, filter, find, drop, length}
-use Rattle.std.specs.Prelude.{remove, position, slice_get, slice_set, Option, Some, None, option_map, is_none, is_some}
+use Rattle.std.specs.Prelude.{remove, position, slice_get, slice_set, Option, Some, None, option_map, is_none}
 use Rattle.std.specs.List.{flat_map, list_any}
 use Rattle.sva_step.specs.Limits
 use Rattle.sva_open.specs.declared.frames.Target.{Target}
@@ -20,7 +20,7 @@ use Rattle.sva_open.specs.declared.descriptors.Issued.TheVariants.{Sent as Issue
 use Rattle.sva_open.specs.declared.descriptors.Received.{Received}
 use Rattle.sva_open.specs.declared.descriptors.Received.TheVariants.{Request as Asked, Drain}
 use Rattle.sva_open.specs.declared.works.Work.{Work}
-use Rattle.sva_open.specs.declared.works.Work.TheVariants.{Use, Taken}
+use Rattle.sva_open.specs.declared.works.Work.TheVariants.{Use, Taken, Draining}
 use Rattle.sva_open.specs.declared.settings.Settings.{Settings}
 use Rattle.sva_open.specs.declared.settings.Timeouts.{Timeouts}
 use Rattle.sva_open.specs.declared.settings.Timeouts.TheVariants.{Off, On, Stop}
@@ -34,15 +34,19 @@ is_wait name (descriptor.Wait own drain fence) = own == name
 is_wait name _ = false
 
 abbrev pub is_sent : Issued → Bool
-is_sent (Issue itag) = true
+is_sent (Issue endpoint itag) = true
 is_sent (Waiting name drain) = false
 
 abbrev pub has_itag : (itag : ℕ) → Issued → Bool
-has_itag itag (Issue own) = own == itag
+has_itag itag (Issue endpoint own) = own == itag
 has_itag itag (Waiting name drain) = false
 
+abbrev pub is_sent_to : (endpoint itag : ℕ) → Issued → Bool
+is_sent_to endpoint itag (Issue own other) = (own == endpoint) && (other == itag)
+is_sent_to endpoint itag (Waiting name drain) = false
+
 abbrev pub is_waiting : (name : ℕ) → Issued → Bool
-is_waiting name (Issue itag) = false
+is_waiting name (Issue endpoint itag) = false
 is_waiting name (Waiting own drain) = own == name
 
 -- the lowest ITag of so many from one on that no invalidation has
@@ -91,7 +95,7 @@ shifted part = record part { queue = remove part.queue 0 }
 abbrev pub issue : Part → Scope → Option ℕ → Option Part
 issue part scope None = None
 issue part scope (Some itag) =
-    Some (sent (record (shifted part) { issued = part.issued ++ Issue itag ∷ [] }) 0 part.time (message.Invalidate itag scope))
+    Some (sent (record (shifted part) { issued = part.issued ++ Issue part.endpoint itag ∷ [] }) 0 part.time (message.Invalidate itag scope))
 
 -- May a wait leave the queue? One that drains never does where the unit refuses it (Intel VT-d, "Invalidation Queue Error"). A fence
 -- needs all ITags free, and with them all waits before it done; one that drains needs an empty page request queue, where the platform
@@ -130,9 +134,9 @@ without_entry pasid kept = filter (is_no_entry_of pasid) kept
 
 abbrev pub pump_head : Settings → Part → Option Descriptor → Option Part
 pump_head settings part None = None
-pump_head settings part (Some (descriptor.Device scope)) = issue part scope (free_itag part.issued Limits.itags 0)
-pump_head settings part (Some (descriptor.Translations scope)) = Some (record (shifted part) { kept = without_covered scope part.kept })
-pump_head settings part (Some (descriptor.Entry pasid)) = Some (record (shifted part) { kept_entries = without_entry pasid part.kept_entries })
+pump_head settings part (Some (descriptor.Device endpoint scope)) = issue part scope (free_itag part.issued Limits.itags 0)
+pump_head settings part (Some (descriptor.Translations endpoint scope)) = Some (record (shifted part) { kept = without_covered scope part.kept })
+pump_head settings part (Some (descriptor.Entry endpoint pasid)) = Some (record (shifted part) { kept_entries = without_entry pasid part.kept_entries })
 pump_head settings part (Some (descriptor.Wait name drain fence)) = if_so (may_pass settings part drain fence) (pass part name drain)
 
 -- a unit that is closed takes nothing, nor does one that has stopped at a time-out
@@ -160,6 +164,7 @@ is_completion_of itag one = completes itag one.message
 abbrev pub is_taken_of : (itag : ℕ) → Work → Bool
 is_taken_of itag (Use translation) = false
 is_taken_of itag (Taken own scope) = own == itag
+is_taken_of itag (Draining barrier) = false
 
 -- Does nobody answer it? It was lost, or its endpoint is gone. An endpoint that may be silent may leave unanswered what has come to it,
 -- or comes; a completion that is on its way is in time.
@@ -181,11 +186,11 @@ stalls Stop = true
 abbrev pub may_expire : Settings → Part → (itag : ℕ) → (silent : Bool) → Bool
 may_expire settings part itag silent =
     (is_timed settings.timeouts && (part.is_open && not part.is_stalled))
-    && (is_none (pump settings part) && (list_any (has_itag itag) part.issued && is_unanswered part itag silent))
+    && (is_none (pump settings part) && (list_any (is_sent_to part.endpoint itag) part.issued && is_unanswered part itag silent))
 
 -- the waits that have left the queue and aren't done
 abbrev pub wait_in : Issued → List ℕ
-wait_in (Issue itag) = []
+wait_in (Issue endpoint itag) = []
 wait_in (Waiting name drain) = name ∷ []
 
 abbrev pub waits_in : List Issued → List ℕ
@@ -298,7 +303,7 @@ answer settings mappings part one tag pasid page =
 abbrev pub settled : Part → (place : ℕ) → (is_out : Bool) → Option Issued → Part
 settled part place true next = part
 settled part place false None = part
-settled part place false (Some (Issue itag)) = part
+settled part place false (Some (Issue endpoint itag)) = part
 settled part place false (Some (Waiting name drain)) = waited (record part { issued = remove part.issued place }) name drain
 
 abbrev pub without_issued : Part → (place : ℕ) → Part

@@ -1,7 +1,7 @@
 -- The open world: what memory, endpoints, units and links have while a host of whatever kind acts. It has no rule of a host
 -- in it.
-use Rattle.std.specs.Prelude.{ℕ, suc, ◌-◌, ◌==◌, ◌&&◌, not, nat_lt, nat_le, if◌then◌else◌, Bool, true, false, List, [], ◌∷◌, ◌++◌}
-use Rattle.std.specs.Prelude.{filter, length, map, replicate}
+use Rattle.std.specs.Prelude.{ℕ, suc, ◌-◌, ◌==◌, ◌&&◌, not, nat_lt, nat_le, Bool, true, false, List, [], ◌∷◌, ◌++◌}
+use Rattle.std.specs.Prelude.{filter, length, replicate}
 use Rattle.std.specs.Prelude.{Option, Some, None, is_none, position, slice_set}
 use Rattle.sva_open.specs.declared.frames.Tenure.{Tenure}
 use Rattle.sva_open.specs.declared.frames.Mapping.{Mapping}
@@ -27,6 +27,8 @@ use Rattle.sva_open.specs.declared.settings.Settings.{Settings}
 
 -- an endpoint with its unit and its link
 pub record Part : Type 0 where
+  -- which endpoint it is
+  pub endpoint : ℕ
   -- by PASID
   pub rows : List Row
   -- the translation requests that are out, by tag
@@ -82,6 +84,8 @@ pub record Open : Type 0 where
   pub domains : List ℕ
   -- the endpoints
   pub parts : List Part
+  -- the unit below which each endpoint stands; one of which nothing is said has a unit of its own
+  pub units : List ℕ
 
 -- ---- small words
 
@@ -191,9 +195,10 @@ abbrev pub blank : Row
 blank = record { entry = None; owner = 0; space = None; answer = None; state = Off; user = 0 }
 
 -- an endpoint of a conduct; its PASIDs are below a number
-abbrev pub part_opened : (pasids : ℕ) → Conduct → Part
-part_opened pasids conduct =
+abbrev pub part_opened : (pasids endpoint : ℕ) → Conduct → Part
+part_opened pasids endpoint conduct =
     record {
+      endpoint = endpoint;
       rows = replicate pasids blank;
       requests = [];
       held = [];
@@ -220,13 +225,20 @@ part_opened pasids conduct =
       filed = [];
     }
 
-abbrev pub opened : Settings → List Conduct → (pasids frames : ℕ) → Open
-opened settings conducts pasids frames =
+-- endpoints, the first of which has this number
+unfoldable pub parts_opened : (pasids endpoint : ℕ) → List Conduct → List Part
+parts_opened pasids endpoint [] = []
+parts_opened pasids endpoint (conduct ∷ conducts) = part_opened pasids endpoint conduct ∷ parts_opened pasids (suc endpoint) conducts
+
+-- each endpoint has a unit of its own, unless it is said below which it stands
+abbrev pub opened : Settings → List Conduct → (units : List ℕ) → (pasids frames : ℕ) → Open
+opened settings conducts units pasids frames =
     record {
       settings = settings;
       mappings = [];
       frames = replicate frames untouched;
       freed = [];
       domains = [];
-      parts = map (part_opened pasids) conducts;
+      parts = parts_opened pasids 0 conducts;
+      units = units;
     }

@@ -1,6 +1,7 @@
 //! The acts: of the host, which are a driver's to choose, and of the others, which come as they like.
 
 use crate::descriptors::Descriptor;
+use crate::messages::Barrier;
 
 /// What a configuration write turns on or off at an endpoint.
 #[derive(Clone, Copy, PartialEq, Eq)]
@@ -46,6 +47,11 @@ pub enum LocalAct {
         /// The PASID.
         pasid: usize,
     },
+    /// The host: sends a barrier.
+    Barrier {
+        /// The barrier.
+        barrier: Barrier,
+    },
     /// The host: sends a reset.
     Reset,
     /// The host: puts descriptors into the invalidation queue, all at once.
@@ -71,6 +77,13 @@ pub enum LocalAct {
     AwaitStopped {
         /// The PASID.
         pasid: usize,
+    },
+    /// The host: each barrier of a PASID that a thread has sent is passed, and each that was sent before all threads.
+    AwaitPassed {
+        /// The PASID.
+        pasid: usize,
+        /// The thread.
+        thread: usize,
     },
     /// The host: no page request of any PASID stands in the page request queue.
     AwaitQueue,
@@ -176,6 +189,11 @@ pub enum LocalAct {
     },
     /// The endpoint: completes an invalidation.
     Finish {
+        /// Its place among what the endpoint is at.
+        place: usize,
+    },
+    /// The endpoint: passes a barrier, and says so.
+    Pass {
         /// Its place among what the endpoint is at.
         place: usize,
     },

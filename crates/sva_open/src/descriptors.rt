@@ -6,18 +6,24 @@ use crate::scopes::Scope;
 /// What stands in an invalidation queue (Intel VT-d, "Queued Invalidation Interface").
 #[derive(Clone, Copy, PartialEq, Eq)]
 pub enum Descriptor {
-    /// An invalidation of the endpoint's translations.
+    /// An invalidation of an endpoint's translations.
     Device {
+        /// The endpoint.
+        endpoint: usize,
         /// What it covers.
         scope: Scope,
     },
     /// An invalidation of the translations that the unit keeps.
     Translations {
+        /// The endpoint of which it keeps them; each below the unit, where none is named.
+        endpoint: Option<usize>,
         /// What it covers.
         scope: Scope,
     },
     /// An invalidation of the PASID table entry that the unit keeps.
     Entry {
+        /// The endpoint of which it keeps it; each below the unit, where none is named.
+        endpoint: Option<usize>,
         /// The PASID.
         pasid: usize,
     },
@@ -50,8 +56,10 @@ impl Descriptor {
 /// What has left an invalidation queue and isn't done, in order.
 #[derive(Clone, Copy, PartialEq, Eq)]
 pub enum Issued {
-    /// An invalidation of the endpoint's translations.
+    /// An invalidation of an endpoint's translations.
     Sent {
+        /// The endpoint.
+        endpoint: usize,
         /// Its ITag, which is busy.
         itag: usize,
     },
@@ -66,7 +74,7 @@ pub enum Issued {
 
 impl Issued {
     ghost use Rattle.std.specs.Prelude.{◌≡◌};
-    ghost use Rattle.sva_open.specs.Units.{has_itag, is_sent, is_waiting};
+    ghost use Rattle.sva_open.specs.Units.{has_itag, is_sent, is_sent_to, is_waiting};
 
     /// Whether it is an invalidation.
     pub fn is_sent(&self) -> bool
@@ -80,7 +88,20 @@ impl Issued {
         ensures { result ≡ has_itag itag self.now }
     {
         match self {
-            Issued::Sent { itag: own } => *own == itag,
+            Issued::Sent { itag: own, .. } => *own == itag,
+            Issued::Waiting { .. } => false,
+        }
+    }
+
+    /// Whether it is the invalidation of an endpoint's translations that has this ITag.
+    pub fn is_sent_to(&self, endpoint: usize, itag: usize) -> bool
+        ensures { result ≡ is_sent_to endpoint itag self.now }
+    {
+        match self {
+            Issued::Sent {
+                endpoint: own,
+                itag: other,
+            } => *own == endpoint && *other == itag,
             Issued::Waiting { .. } => false,
         }
     }
@@ -99,6 +120,8 @@ impl Issued {
 /// A page request in a unit's page request queue.
 #[derive(Clone, Copy, PartialEq, Eq)]
 pub struct Arrived {
+    /// The endpoint that sent it.
+    pub endpoint: usize,
     /// The page request.
     pub request: PageRequest,
     /// The owner that its PASID had when its group began.

@@ -18,6 +18,17 @@ pub struct PageRequest {
     pub last: bool,
 }
 
+/// A barrier: the endpoint is to drain a PASID, which it doesn't stop.
+#[derive(Clone, Copy, PartialEq, Eq)]
+pub struct Barrier {
+    /// The PASID.
+    pub pasid: usize,
+    /// The thread of the line that sent it; 0, where that stands before all threads.
+    pub thread: usize,
+    /// Its name, which no other barrier has: the place of that line.
+    pub name: usize,
+}
+
 /// A message between an endpoint and its host or unit.
 #[derive(Clone, Copy, PartialEq, Eq)]
 pub enum Message {
@@ -86,6 +97,10 @@ pub enum Message {
     },
     /// Up: a reset is done.
     ResetDone,
+    /// Down: a barrier.
+    Barrier(Barrier),
+    /// Up: a posted write which says that a barrier was passed.
+    Passed(Barrier),
 }
 
 /// A message in flight.
@@ -93,7 +108,8 @@ pub enum Message {
 pub struct Sent {
     /// The message.
     pub message: Message,
-    /// The owner that its PASID had when it was sent; of a completion, when its translation was asked for.
+    /// The owner that its PASID had when it was sent; of a completion, when its translation was asked for; 0 of what
+    /// is known by a number or a name of its own.
     pub owner: u64,
     /// Of a page request or a response, the number of its group; of any other message, how many resets had come to
     /// the endpoint when what it is of began.

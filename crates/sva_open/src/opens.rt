@@ -14,6 +14,7 @@ pub struct Open {
     pub freed: Vec<u64>,
     pub domains: Vec<u64>,
     pub parts: Vec<Part>,
+    pub units: Vec<usize>,
 }
 
 impl Model for Open {
@@ -28,5 +29,6 @@ impl Model for Open {
       freed = now.freed.items;
       domains = now.domains.items;
       parts = now.parts.items;
+      units = now.units.items;
     } };
 }

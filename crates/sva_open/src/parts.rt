@@ -15,6 +15,7 @@ use std::marker::Model;
 /// An endpoint with its unit and its link.
 #[derive(Drop)]
 pub struct Part {
+    pub endpoint: usize,
     pub rows: Vec<Row>,
     pub requests: Vec<Option<Request>>,
     pub held: Vec<Translation>,
@@ -47,6 +48,7 @@ impl Model for Part {
     ghost Value = { world.Part };
 
     ghost view = { λ part. record {
+      endpoint = part.endpoint;
       rows = part.rows.items;
       requests = part.requests.items;
       held = part.held.items;

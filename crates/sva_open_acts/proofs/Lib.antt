@@ -1,2 +1,3 @@
 mod Itags
 mod Stepped
+mod Shared

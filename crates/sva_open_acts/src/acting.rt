@@ -4,8 +4,11 @@ ghost use Rattle.std.specs.Prelude.{◌≡◌, IfOk, slice_get};
 ghost use Rattle.sva_search.specs.Rules.{IsStep};
 ghost use Rattle.sva_open.specs.Acts as acts;
 ghost use Rattle.sva_open.specs.Acts.{next_open, next_part};
+ghost use Rattle.sva_open.specs.Below.{head_of, shared_by, told, with_told};
 
 use crate::asking::{ask, begin_use, end_use, evict, fault, more};
+use crate::barriers::{await_passed, pass, send_barrier};
+use crate::below::{about, is_held_up, is_of_unit, tell};
 use crate::controls::{leave, turn};
 use crate::deliveries::deliver;
 use crate::expiring::{expire, resume};
@@ -19,7 +22,7 @@ use crate::pumping::{forget, forget_entry, pump};
 use crate::receiving::write;
 use crate::serving::{discard, respond, respond_all, serve};
 use std::alloc::AllocError;
-use sva_open::{Act, LocalAct, Mapping, Open, Part, Settings, Target, Tenure, set_at};
+use sva_open::{Act, Descriptor, LocalAct, Mapping, Open, Part, Settings, Target, Tenure, set_at};
 
 /// Does an act where it is permitted, and says whether it is. Else nothing changes.
 fn act_at_part(
@@ -37,6 +40,7 @@ fn act_at_part(
         LocalAct::ClearEntry { pasid } => Ok(clear_entry(part, *pasid)),
         LocalAct::Start { pasid } => start(part, *pasid),
         LocalAct::Stop { pasid } => stop(part, *pasid),
+        LocalAct::Barrier { barrier } => send_barrier(part, *barrier),
         LocalAct::Reset => reset(part),
         LocalAct::Submit { descriptors } => submit(part, descriptors.as_slice()),
         LocalAct::Close => Ok(close(part)),
@@ -45,6 +49,7 @@ fn act_at_part(
         LocalAct::Resume => Ok(resume(part)),
         LocalAct::AwaitWait { name } => Ok(await_wait(part, *name)),
         LocalAct::AwaitStopped { pasid } => Ok(await_stopped(part, *pasid)),
+        LocalAct::AwaitPassed { pasid, thread } => Ok(await_passed(part, *pasid, *thread)),
         LocalAct::AwaitQueue => Ok(await_queue(part)),
         LocalAct::AwaitQueueOf { pasid } => Ok(await_queue_of(part, *pasid)),
         LocalAct::AwaitGroups { pasid } => Ok(await_groups(part, *pasid)),
@@ -90,6 +95,7 @@ fn act_at_part(
             last,
         } => more(part, *index, *page, *write, *last),
         LocalAct::Finish { place } => finish(part, *place),
+        LocalAct::Pass { place } => pass(part, settings.stopped, *place),
         LocalAct::Quit { pasid } => quit(part, settings.stopped, *pasid),
         LocalAct::Leave => Ok(leave(part)),
         LocalAct::Pump => pump(part, settings),
@@ -128,8 +134,87 @@ pub fn act(now: &mut Open, act: &Act) -> Result<bool, AllocError>
             now.domains.push(*space)?;
             Ok(true)
         }
-        Act::At { endpoint, act } => act_at(now, *endpoint, act),
+        Act::At { endpoint, act } => {
+            let endpoint = about(now.units.as_slice(), *endpoint, act, now.parts.as_slice());
+            done_at(now, endpoint, act)
+        }
     }
+}
+
+/// The same with what the others see of it that stand below the same unit.
+fn done_at(now: &mut Open, endpoint: usize, act: &LocalAct) -> Result<bool, AllocError>
+    ensures { IfOk result (λ done. IsStep (acts.done_at now.old endpoint act.now) done now.old now.new) }
+{
+    if now.units.is_empty() {
+        return act_at(now, endpoint, act);
+    }
+    shared_at(now, endpoint, act)
+}
+
+fn shared_at(now: &mut Open, endpoint: usize, act: &LocalAct) -> Result<bool, AllocError>
+    ensures { IfOk result (λ done.
+        IsStep (shared_by now.old.units endpoint act.now now.old.parts (acts.at_endpoint now.old endpoint act.now))
+        done now.old now.new) }
+{
+    if is_held_up(now.parts.as_slice(), now.units.as_slice(), endpoint, act) {
+        return Ok(false);
+    }
+    let head = head_of(now.parts.as_slice(), endpoint);
+    let done = act_at(now, endpoint, act)?;
+    if done && is_of_unit(act) {
+        tell_all(now, endpoint, act, head)?;
+    }
+    Ok(done)
+}
+
+fn head_of(parts: &[Part], endpoint: usize) -> Option<Descriptor>
+    ensures { result ≡ head_of (slice_get parts.now endpoint) }
+{
+    match parts.get(endpoint) {
+        None => None,
+        Some(part) => part.queue.get(0).copied(),
+    }
+}
+
+fn tell_all(
+    now: &mut Open,
+    endpoint: usize,
+    act: &LocalAct,
+    head: Option<Descriptor>,
+) -> Result<(), AllocError>
+    ensures { IfOk result (λ _. now.new ≡ with_told now.old.units endpoint act.now head now.old) }
+{
+    let Open {
+        settings: _,
+        mappings: _,
+        frames: _,
+        freed: _,
+        domains: _,
+        parts,
+        units,
+    } = now;
+    tell_parts(parts, units.as_slice(), endpoint, act, head)?;
+    Ok(())
+}
+
+/// What an endpoint has now is told to all.
+fn tell_parts(
+    parts: &mut Vec<Part>,
+    units: &[usize],
+    endpoint: usize,
+    act: &LocalAct,
+    head: Option<Descriptor>,
+) -> Result<(), AllocError>
+    ensures { IfOk result (λ _.
+        parts.new.items ≡ told units.now endpoint act.now head (slice_get parts.old.items endpoint) parts.old.items) }
+{
+    let alloc = *parts.allocator();
+    let after = match parts.get(endpoint) {
+        None => return Ok(()),
+        Some(part) => part.copy(alloc)?,
+    };
+    tell(parts, units, endpoint, act, head, &after)?;
+    Ok(())
 }
 
 fn act_at(now: &mut Open, endpoint: usize, act: &LocalAct) -> Result<bool, AllocError>
@@ -142,6 +227,7 @@ fn act_at(now: &mut Open, endpoint: usize, act: &LocalAct) -> Result<bool, Alloc
         freed: _,
         domains: _,
         parts,
+        units: _,
     } = now;
     let done = act_in(parts, settings, mappings.as_slice(), endpoint, act)?;
     Ok(done)

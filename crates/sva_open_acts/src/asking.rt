@@ -36,6 +36,7 @@ pub(crate) fn ask(part: &mut Part, pasid: usize, page: u64) -> Result<bool, Allo
             page,
             owner: row.user,
             is_doomed: false,
+            noted: None,
         },
     )?;
     part.send(row.user, time, Message::Request { tag, pasid, page })?;
@@ -67,6 +68,7 @@ pub(crate) fn end_use(part: &mut Part, place: usize) -> bool
             true
         }
         Some(Work::Taken { .. }) => false,
+        Some(Work::Draining(_)) => false,
         None => false,
     }
 }
@@ -113,6 +115,7 @@ pub(crate) fn fault(
         owner: row.user,
         number,
         is_finished: last,
+        noted: None,
     };
     put(&mut part.groups, group)?;
     let request = PageRequest {

@@ -7,6 +7,7 @@ ghost use Rattle.sva_open.specs.Units.{answered_stop};
 ghost use Rattle.sva_open.specs.Links as link;
 
 use crate::answering::{answer, put_translation};
+use crate::barriers::bar;
 use crate::order::{goes_up, may_deliver};
 use crate::pumping::{complete_itag, drop_covered};
 use std::alloc::AllocError;
@@ -108,6 +109,8 @@ fn receive(
             Ok(())
         }
         Message::ResetDone => Ok(()),
+        Message::Barrier(barrier) => bar(part, barrier),
+        Message::Passed(_) => Ok(()),
     }
 }
 
@@ -165,6 +168,7 @@ fn arrive(
         return Ok(());
     }
     let arrived = Arrived {
+        endpoint: part.endpoint,
         request,
         owner: one.owner,
         number: one.number,

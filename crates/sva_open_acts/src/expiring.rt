@@ -6,7 +6,7 @@ ghost use Rattle.sva_search.specs.Rules.{IsStep};
 ghost use Rattle.sva_open.specs.Host as host;
 ghost use Rattle.sva_open.specs.Units as unit;
 
-use crate::pumping::{free_itag, is_busy, may_pass};
+use crate::pumping::{free_itag, may_pass};
 use std::alloc::AllocError;
 use sva_open::{Descriptor, Issued, Message, Part, Sent, Settings, Timeouts, Work, drop_at};
 
@@ -39,7 +39,15 @@ fn may_expire(part: &Part, settings: &Settings, itag: usize, silent: bool) -> bo
 {
     (is_timed(settings.timeouts) && (part.is_open && !part.is_stalled))
         && (takes_none(part, settings)
-            && (is_busy(part.issued.as_slice(), itag) && is_unanswered(part, itag, silent)))
+            && (is_sent_to(part.issued.as_slice(), part.endpoint, itag)
+                && is_unanswered(part, itag, silent)))
+}
+
+/// Whether an invalidation of the endpoint's translations is out under an ITag.
+fn is_sent_to(issued: &[Issued], endpoint: usize, itag: usize) -> bool
+    ensures { result ≡ list_any (unit.is_sent_to endpoint itag) issued.now }
+{
+    issued.iter().any(|one| one.is_sent_to(endpoint, itag))
 }
 
 fn is_timed(timeouts: Timeouts) -> bool
@@ -95,7 +103,7 @@ fn is_taken_of(itag: usize, work: &Work) -> bool
     ensures { result ≡ unit.is_taken_of itag work.now }
 {
     match work {
-        Work::Use(_) => false,
+        Work::Use(_) | Work::Draining(_) => false,
         Work::Taken { itag: own, .. } => *own == itag,
     }
 }

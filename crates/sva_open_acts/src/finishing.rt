@@ -16,6 +16,7 @@ pub(crate) fn finish(part: &mut Part, place: usize) -> Result<bool, AllocError>
     match part.works.get(place).copied() {
         Some(Work::Taken { itag, scope }) => finish_taken(part, place, itag, &scope),
         Some(Work::Use(_)) => Ok(false),
+        Some(Work::Draining(_)) => Ok(false),
         None => Ok(false),
     }
 }
@@ -97,7 +98,7 @@ fn is_used(works: &[Work], scope: &Scope) -> bool
     works.iter().any(|one| one.is_use_of(scope))
 }
 
-fn is_unended(group: &Option<Group>, awaits: bool, pasid: usize) -> bool
+pub(crate) fn is_unended(group: &Option<Group>, awaits: bool, pasid: usize) -> bool
     ensures { result ≡ device.is_unended awaits pasid group.now }
 {
     match group {
@@ -127,7 +128,7 @@ fn has_asked(requests: &[Option<Request>], pasid: usize) -> bool
     requests.iter().any(|request| asks_under(request, pasid))
 }
 
-fn is_using(works: &[Work], pasid: usize) -> bool
+pub(crate) fn is_using(works: &[Work], pasid: usize) -> bool
     ensures { result ≡ list_any (device.is_use_under pasid) works.now }
 {
     works.iter().any(|one| one.is_use_under(pasid))

@@ -4,6 +4,8 @@
 mod acting;
 mod answering;
 mod asking;
+mod barriers;
+mod below;
 mod controls;
 mod deliveries;
 mod expiring;

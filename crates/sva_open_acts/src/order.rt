@@ -16,13 +16,15 @@ pub(crate) fn goes_up(message: &Message) -> bool
         | Message::Reset
         | Message::Completion { .. }
         | Message::Invalidate { .. }
-        | Message::Response { .. } => false,
+        | Message::Response { .. }
+        | Message::Barrier(_) => false,
         Message::Request { .. }
         | Message::Invalidated { .. }
         | Message::PageRequest(_)
         | Message::Marker { .. }
         | Message::Status { .. }
-        | Message::ResetDone => true,
+        | Message::ResetDone
+        | Message::Passed(_) => true,
     }
 }
 
@@ -56,6 +58,7 @@ fn stays_behind(message: &Message, older: &Message) -> bool
         Message::Marker { .. } => is_page_request(older),
         Message::Start { .. } => !goes_up(older) && !is_completion(older),
         Message::Stop { .. } => !goes_up(older) && !is_completion(older),
+        Message::Barrier(_) => !goes_up(older) && !is_completion(older),
         Message::Reset => !goes_up(older) && !is_completion(older),
         Message::ResetDone => true,
         Message::Completion { .. }
@@ -63,7 +66,8 @@ fn stays_behind(message: &Message, older: &Message) -> bool
         | Message::Response { .. }
         | Message::Request { .. }
         | Message::Invalidated { .. }
-        | Message::Status { .. } => false,
+        | Message::Status { .. }
+        | Message::Passed(_) => false,
     }
 }
 

@@ -34,13 +34,13 @@ fn pump_head(
 {
     match head {
         None => Ok(false),
-        Some(Descriptor::Device { scope }) => issue(part, scope),
-        Some(Descriptor::Translations { scope }) => {
+        Some(Descriptor::Device { scope, .. }) => issue(part, scope),
+        Some(Descriptor::Translations { scope, .. }) => {
             drop_at(&mut part.queue, 0);
             drop_covered(&mut part.kept, &scope);
             Ok(true)
         }
-        Some(Descriptor::Entry { pasid }) => {
+        Some(Descriptor::Entry { pasid, .. }) => {
             drop_at(&mut part.queue, 0);
             drop_entry(&mut part.kept_entries, pasid);
             Ok(true)
@@ -58,7 +58,8 @@ fn issue(part: &mut Part, scope: Scope) -> Result<bool, AllocError>
     };
     let time = part.time;
     drop_at(&mut part.queue, 0);
-    part.issued.push(Issued::Sent { itag })?;
+    let endpoint = part.endpoint;
+    part.issued.push(Issued::Sent { endpoint, itag })?;
     part.send(0, time, Message::Invalidate { itag, scope })?;
     Ok(true)
 }
@@ -182,7 +183,7 @@ fn itag_place(issued: &[Issued], itag: usize) -> Option<usize>
     issued.iter().position(|one| one.has_itag(itag))
 }
 
-pub(crate) fn is_busy(issued: &[Issued], itag: usize) -> bool
+fn is_busy(issued: &[Issued], itag: usize) -> bool
     ensures { result ≡ list_any (unit.has_itag itag) issued.now }
 {
     issued.iter().any(|one| one.has_itag(itag))

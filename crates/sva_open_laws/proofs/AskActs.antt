@@ -96,7 +96,7 @@ module _ (w : World) (e u : ℕ) (i : Invariant w) (low : e < w.config.endpoints
 -- ---- To ask
 
 abbrev asking : (pasid page owner : ℕ) → (doomed : Bool) → Request
-asking pasid page owner doomed = record { pasid = pasid; page = page; owner = owner; is_doomed = doomed }
+asking pasid page owner doomed = record { pasid = pasid; page = page; owner = owner; is_doomed = doomed; noted = None }
 
 abbrev flown : (tag pasid page owner number : ℕ) → List Flying
 flown tag pasid page owner number = one owner number (message.Request tag pasid page)

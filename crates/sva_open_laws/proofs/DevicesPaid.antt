@@ -11,10 +11,11 @@ use Rattle.sva_open.specs.declared.rows.State.{State}
 use Rattle.sva_open.specs.declared.rows.State.TheVariants.{Off, On, Stopping, Answering}
 use Rattle.sva_open.specs.declared.rows.KeptEntry.{KeptEntry}
 use Rattle.sva_open.specs.declared.rows.Row.{Row}
+use Rattle.sva_open.specs.declared.messages.Barrier.{Barrier}
 use Rattle.sva_open.specs.declared.messages.Message.TheVariants as message
 use Rattle.sva_open.specs.declared.works.Group.{Group}
 use Rattle.sva_open.specs.declared.works.Work.{Work}
-use Rattle.sva_open.specs.declared.works.Work.TheVariants.{Use, Taken}
+use Rattle.sva_open.specs.declared.works.Work.TheVariants.{Use, Taken, Draining}
 use Rattle.sva_open.specs.declared.descriptors.Descriptor.{Descriptor}
 use Rattle.sva_open.specs.declared.descriptors.Descriptor.TheVariants as descriptor
 use Rattle.sva_open.specs.declared.descriptors.Issued.{Issued}
@@ -40,7 +41,7 @@ use Rattle.sva_open_laws.proofs.HostPaid.{IsBelow, sends, where_so, with_state}
 pub ask : (part : Part) (pasid page : ℕ) (o : Option Row) → IsBelow (part_weight part + 6) (device.ask part pasid page o)
 ask part pasid page None = tt
 ask part pasid page (Some row) =
-    let asked = record part { requests = put part.requests (record { pasid = pasid; page = page; owner = row.user; is_doomed = false }) } in
+    let asked = record part { requests = put part.requests (record { pasid = pasid; page = page; owner = row.user; is_doomed = false; noted = None }) } in
     let more = sends asked row.user part.time (message.Request (lowest_free part.requests) pasid page) in
     where_so _ (device.may_access part row) (sent asked row.user part.time (message.Request (lowest_free part.requests) pasid page))
     (λ so. omega (arith, more))
@@ -61,6 +62,7 @@ end_use part place (Some (Use translation)) h =
     let less = out work_weight part.works place (Use translation) h in
     omega (arith, less)
 end_use part place (Some (Taken itag scope)) h = tt
+end_use part place (Some (Draining barrier)) h = tt
 
 evicted : (part : Part) (pasid page : ℕ) (o : Option ℕ) → position (is_of pasid page) part.held ≡ o → IsBelow (part_weight part + 0) (device.evict part o)
 evicted part pasid page None h = tt
@@ -91,7 +93,7 @@ pub fault : (part : Part) (pasid page : ℕ) (write last : Bool) (number : ℕ) 
     → IsBelow (part_weight part + 12) (device.fault part pasid page write last number o)
 fault part pasid page write last number None = tt
 fault part pasid page write last number (Some row) =
-    let group : Group = record { pasid = pasid; owner = row.user; number = number; is_finished = last } in
+    let group : Group = record { pasid = pasid; owner = row.user; number = number; is_finished = last; noted = None } in
     let begun = record part { groups = put part.groups group } in
     let one = message.PageRequest (record { pasid = pasid; index = lowest_free part.groups; page = page; write = write; last = last }) in
     let most = put_group part.groups group (position is_none part.groups) in
@@ -119,7 +121,7 @@ more part index page write last (Some (Some group)) h =
     let paid = further group.is_finished last (not-true group.is_finished (and_parts (not group.is_finished) part.is_enabled so).0) in
     omega (arith, put_there, added, paid))
 
--- ---- to complete an invalidation, to quit a PASID, to be turned on and off, and to go
+-- ---- to complete an invalidation, to pass a barrier, to quit a PASID, to be turned on and off, and to go
 
 pub finish : (part : Part) (place : ℕ) (o : Option Work) → slice_get part.works place ≡ o → IsBelow (part_weight part + 0) (device.finish part place o)
 finish part place None h = tt
@@ -128,6 +130,26 @@ finish part place (Some (Taken itag scope)) h =
     let less = out work_weight part.works place (Taken itag scope) h in
     let added = sends (record part { works = remove part.works place }) 0 part.time (message.Invalidated itag) in
     where_so _ _ (sent (record part { works = remove part.works place }) 0 part.time (message.Invalidated itag)) (λ so. omega (arith, less, added))
+finish part place (Some (Draining barrier)) h = tt
+
+barrier_passed : (stopped : Stopped) (part : Part) (barrier : Barrier) → part_weight (device.passed stopped part barrier) ≤ part_weight part + 1
+barrier_passed Marker part barrier =
+    let added = sends part 0 part.time (message.Passed barrier) in
+    omega (arith, added)
+barrier_passed Status part barrier =
+    let added = sends part 0 part.time (message.Passed barrier) in
+    omega (arith, added)
+barrier_passed Known part barrier = omega arith
+
+pub pass_barrier : (stopped : Stopped) (part : Part) (place : ℕ) (o : Option Work) → slice_get part.works place ≡ o
+    → IsBelow (part_weight part + 0) (device.pass stopped part place o)
+pass_barrier stopped part place None h = tt
+pass_barrier stopped part place (Some (Use translation)) h = tt
+pass_barrier stopped part place (Some (Taken itag scope)) h = tt
+pass_barrier stopped part place (Some (Draining barrier)) h =
+    let less = out work_weight part.works place (Draining barrier) h in
+    let most = barrier_passed stopped (record part { works = remove part.works place }) barrier in
+    where_so _ _ (device.passed stopped (record part { works = remove part.works place }) barrier) (λ so. omega (arith, less, most))
 
 stopping_weight : (state : State) → is_stopping state ≡ true → state_weight state ≡ 2
 stopping_weight Off h = absurd (cc)

@@ -105,7 +105,7 @@ absent driver spot one safe true h = absurd (cc)
 abbrev every : List Doing
 every =
     doing.Line ∷ doing.Deliver ∷ doing.Pump ∷ doing.Write ∷ doing.Expire ∷ doing.Serve ∷
-    doing.Answer ∷ doing.Fail ∷ doing.End ∷ doing.Finish ∷ doing.Quit ∷ doing.Complete ∷
+    doing.Answer ∷ doing.Fail ∷ doing.End ∷ doing.Finish ∷ doing.Pass ∷ doing.Quit ∷ doing.Complete ∷
     doing.Ask ∷ doing.Use ∷ doing.Fault ∷ doing.Further ∷ doing.Evict ∷ doing.ForgetEntry ∷
     doing.Forget ∷ doing.Leave ∷ []
 
@@ -120,16 +120,17 @@ among_every doing.Answer = (6, omega arith, refl)
 among_every doing.Fail = (7, omega arith, refl)
 among_every doing.End = (8, omega arith, refl)
 among_every doing.Finish = (9, omega arith, refl)
-among_every doing.Quit = (10, omega arith, refl)
-among_every doing.Complete = (11, omega arith, refl)
-among_every doing.Ask = (12, omega arith, refl)
-among_every doing.Use = (13, omega arith, refl)
-among_every doing.Fault = (14, omega arith, refl)
-among_every doing.Further = (15, omega arith, refl)
-among_every doing.Evict = (16, omega arith, refl)
-among_every doing.ForgetEntry = (17, omega arith, refl)
-among_every doing.Forget = (18, omega arith, refl)
-among_every doing.Leave = (19, omega arith, refl)
+among_every doing.Pass = (10, omega arith, refl)
+among_every doing.Quit = (11, omega arith, refl)
+among_every doing.Complete = (12, omega arith, refl)
+among_every doing.Ask = (13, omega arith, refl)
+among_every doing.Use = (14, omega arith, refl)
+among_every doing.Fault = (15, omega arith, refl)
+among_every doing.Further = (16, omega arith, refl)
+among_every doing.Evict = (17, omega arith, refl)
+among_every doing.ForgetEntry = (18, omega arith, refl)
+among_every doing.Forget = (19, omega arith, refl)
+among_every doing.Leave = (20, omega arith, refl)
 
 abbrev AreRefused : Driver → Spot → Doing → Type 0
 AreRefused driver spot own = (at : ℕ) → at < places_of driver own → (number : ℕ) → number < count_of driver spot own at

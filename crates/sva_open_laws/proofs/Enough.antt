@@ -46,10 +46,10 @@ current_of settings frames part freed domains t s (shows_coming q tag one h is a
 -- ---- one endpoint
 
 safe_at : (w : World) (e : ℕ) → ShowsAll w → IsSafe (open_of w) → e < w.config.endpoints
-    → IsSafePart (open_of w).settings (open_of w).frames (open_of w).freed (open_of w).domains (part_of w (w.part e))
-safe_at w e sh s l = s.parts (part_of w (w.part e)) (got_in (open_of w).parts e (part_of w (w.part e)) (sh.part e l))
+    → IsSafePart (open_of w).settings (open_of w).frames (open_of w).freed (open_of w).domains (part_of w e (w.part e))
+safe_at w e sh s l = s.parts (part_of w e (w.part e)) (got_in (open_of w).parts e (part_of w e (w.part e)) (sh.part e l))
 
-bears : (w : World) (e b : ℕ) → ShowsAll w → IsOfOne w e b → IsPresent (part_of w (w.part e)) ((w.part e).pasid b) (owner_of (w.part e) b)
+bears : (w : World) (e b : ℕ) → ShowsAll w → IsOfOne w e b → IsPresent (part_of w e (w.part e)) ((w.part e).pasid b) (owner_of (w.part e) b)
     → IsBearer (w.part e) b
 bears w e b sh of there = (sh.owner e b of.1).0 there
 
@@ -59,7 +59,7 @@ usable_well w e b q m sh s u =
     let x = sh.usable e b q m u in
     let p = safe_at w e sh s x.0.0 in
     let t = translation_of w.mappings (w.part e) b q m in
-    let g = current_of (open_of w).settings (open_of w).frames (part_of w (w.part e)) (open_of w).freed (open_of w).domains t p x.2 in
+    let g = current_of (open_of w).settings (open_of w).frames (part_of w e (w.part e)) (open_of w).freed (open_of w).domains t p x.2 in
     let c = (sh.current m x.1).0 g.0 in
     ((bears w e b sh x.0 g.1).unreleased, c.0, c.1)
 
@@ -68,7 +68,7 @@ asked_well w e r sh s h =
     let p = w.part e in
     let x = sh.out e r (ap is_out h) in
     bears w e (p.request_binding r) sh x.0
-    ((safe_at w e sh s x.0.0).asked (request_of p r) (got_in (part_of w p).requests (p.request_tag r) (Some (request_of p r)) x.1) (ap is_doomed h))
+    ((safe_at w e sh s x.0.0).asked (request_of p r) (got_in (part_of w e p).requests (p.request_tag r) (Some (request_of p r)) x.1) (ap is_doomed h))
 
 -- ---- rows
 
@@ -76,7 +76,7 @@ row_safe : (w : World) (e t : ℕ) → ShowsAll w → IsSafe (open_of w) → e <
     → IsOwned (open_of w).freed (row_at w.bindings (w.part e) t)
 row_safe w e t sh s l low =
     (safe_at w e sh s l).rows (row_at w.bindings (w.part e) t)
-    (got_in (part_of w (w.part e)).rows t (row_at w.bindings (w.part e) t) (tabulate_get 33 (row_at w.bindings (w.part e)) t (omega (arith, low))))
+    (got_in (part_of w e (w.part e)).rows t (row_at w.bindings (w.part e) t) (tabulate_get 33 (row_at w.bindings (w.part e)) t (omega (arith, low))))
 
 row_bears : (w : World) (e b : ℕ) → ShowsAll w → IsOfOne w e b → (w.part e).pasid b ≤ 32
     → owner_of (w.part e) b ≡ (row_at w.bindings (w.part e) ((w.part e).pasid b)).owner → IsBearer (w.part e) b
@@ -129,7 +129,7 @@ started_well w e b sh s h =
 -- ---- what is in flight
 
 flies : (w : World) (e c : ℕ) (s : Subject) (one : Flying) → ShowsAll w → IsSafe (open_of w) → (w.part e).message c ≡ Some s
-    → Contains (sent_of w.mappings (w.part e) s) one → IsRight (open_of w).settings (open_of w).frames (part_of w (w.part e)) one one.message
+    → Contains (sent_of w.mappings (w.part e) s) one → IsRight (open_of w).settings (open_of w).frames (part_of w e (w.part e)) one one.message
 flies w e c s one sh safe h k = let x = sh.flight e c s h in (safe_at w e sh safe x.0).flight one (x.2 one k)
 
 start_well : (w : World) (e c b : ℕ) → ShowsAll w → IsSafe (open_of w) → (w.part e).message c ≡ Some (StartOf b) → IsBearer (w.part e) b
@@ -155,7 +155,7 @@ completion_well : (w : World) (e c r o d : ℕ) (f : Option ℕ) → ShowsAll w 
     → is_out ((w.part e).request o) ≡ true → (w.part e).request_tag o ≡ (w.part e).request_tag r → (w.part e).phase ≢ Cleared d
 completion_well w e c r o d f sh s h out same cleared =
     let p = w.part e in
-    let at = subst (λ z. slice_get (part_of w p).requests z ≡ Some (Some (request_of p o))) same (sh.out e o out).1 in
+    let at = subst (λ z. slice_get (part_of w e p).requests z ≡ Some (Some (request_of p o))) same (sh.out e o out).1 in
     let own = flies w e c (CompletionOf r f) _ sh s h (in_one _) (request_of p o) at in
     no_later p.resets (own.time ∙ ap (λ z. time_by z p.resets) cleared)
 
@@ -163,7 +163,7 @@ page_well : (w : World) (e c r o : ℕ) (f : Option ℕ) → ShowsAll w → IsSa
     → is_out ((w.part e).request o) ≡ true → (w.part e).request_tag o ≡ (w.part e).request_tag r → (w.part e).request_page r ≡ (w.part e).request_page o
 page_well w e c r o f sh s h out same =
     let p = w.part e in
-    let at = subst (λ z. slice_get (part_of w p).requests z ≡ Some (Some (request_of p o))) same (sh.out e o out).1 in
+    let at = subst (λ z. slice_get (part_of w e p).requests z ≡ Some (Some (request_of p o))) same (sh.out e o out).1 in
     let own = flies w e c (CompletionOf r f) _ sh s h (in_one _) (request_of p o) at in
     own.same
 
@@ -192,7 +192,7 @@ response_well : (w : World) (e c g : ℕ) (code : Code) → ShowsAll w → IsSaf
 response_well w e c g code sh s h =
     let p = w.part e in
     let met = flies w e c (ResponseOf g code) _ sh s h (in_one _) in
-    let own = ends_one (open_of w).settings (part_of w p) _ (p.index g) _ refl met in
+    let own = ends_one (open_of w).settings (part_of w e p) _ (p.index g) _ refl met in
     let x = at_its_index p (p.index g) own.1.group own.1.found in
     let same : g ≡ x.0 = own.1.number ∙ ap (λ (z : Group). z.number) (sym x.2) in
     let done : not (is_collecting (p.group x.0)) ≡ true = ap (λ (z : Group). z.is_finished) x.2 ∙ own.1.finished in (
@@ -206,7 +206,7 @@ response_well w e c g code sh s h =
 arrived_well : (w : World) (e r : ℕ) → ShowsAll w → IsSafe (open_of w) → (w.part e).page_request r ≡ Arrived → IsBearer (w.part e) (asker_of (w.part e) r)
 arrived_well w e r sh s h =
     let x = sh.arrived e r h in
-    bears w e (asker_of (w.part e) r) sh x.0 ((safe_at w e sh s x.0.0).arrived (arrived_of (w.part e) r) x.1)
+    bears w e (asker_of (w.part e) r) sh x.0 ((safe_at w e sh s x.0.0).arrived (arrived_of e (w.part e) r) x.1 refl)
 
 joined_well : (w : World) (e g : ℕ) → ShowsAll w → IsSafe (open_of w) → (w.part e).page_request (oldest_arrived (w.part e)) ≡ Arrived
     → (w.part e).host_group g ≡ PartFiled → (w.part e).pasid ((w.part e).filed_under g) ≡ (w.part e).pasid (asker_of (w.part e) (oldest_arrived (w.part e)))
@@ -214,7 +214,7 @@ joined_well : (w : World) (e g : ℕ) → ShowsAll w → IsSafe (open_of w) → 
 joined_well w e g sh s h k pasid index =
     let p = w.part e in
     let x = sh.arrived e (oldest_arrived p) h in
-    (safe_at w e sh s x.0.0).joined (arrived_of p (oldest_arrived p)) (filed_of p g) (sh.oldest e h) (sh.filed e g k) (not_whole k) pasid index
+    (safe_at w e sh s x.0.0).joined (arrived_of e p (oldest_arrived p)) (filed_of p g) (sh.oldest e h) refl (sh.filed e g k) (not_whole k) pasid index
   where
     not_whole : (w.part e).host_group g ≡ PartFiled → (filed_of (w.part e) g).is_whole ≡ false
     not_whole k = ap (λ z. not (is_part_filed z)) k

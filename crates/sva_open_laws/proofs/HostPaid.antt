@@ -5,6 +5,7 @@ use Rattle.std.proofs.lemmas.List.Sums.{sum_by-append, sum_by-cons, sum_by_push}
 use Rattle.std.specs.Prelude.{⊤, ◌==◌, not, if◌then◌else◌, filter, is_some, position, remove, slice_get, sum_by}
 use Rattle.std.specs.List.{list_any}
 use Rattle.sva_open.specs.declared.rows.Row.{Row}
+use Rattle.sva_open.specs.declared.messages.Barrier.{Barrier}
 use Rattle.sva_open.specs.declared.messages.Message.{Message}
 use Rattle.sva_open.specs.declared.messages.Message.TheVariants as message
 use Rattle.sva_open.specs.declared.descriptors.Arrived.{Arrived}
@@ -102,6 +103,11 @@ stop part pasid (Some row) h =
 pub reset : (part : Part) → part_weight (host.reset part) < part_weight part + 3
 reset part =
     let more = sends part 0 part.time message.Reset in
+    omega (arith, more)
+
+pub barrier : (part : Part) (its : Barrier) → part_weight (host.barrier part its) < part_weight part + 4
+barrier part its =
+    let more = sends part 0 part.time (message.Barrier its) in
     omega (arith, more)
 
 -- ---- the unit

@@ -20,15 +20,19 @@ pub mod LinkOrders
 pub mod LinksPaid
 pub mod Lowered
 pub mod MapActs
+pub mod OneUnit
+mod OneUnitActs
 pub mod PageActs
 pub mod PageAlone
+pub mod PageBarriers
+pub mod PageBelow
 pub mod PageLinks
 pub mod PageLists
 pub mod PagePlaces
 pub mod PageRuns
 pub mod PageSafety
 pub mod PageTimes
-pub mod PageWorlds
+mod PageWorlds
 pub mod Safety
 pub mod Shown
 pub mod StartActs

@@ -17,7 +17,8 @@ use Rattle.sva_open_laws.specs.AsOpen.{ended_of, sent_of}
 use Rattle.sva_open_laws.specs.LinkOrders.{OrdersAreOne}
 use Rattle.sva_open_laws.proofs.Gathered.{gathered, none_in, one_in}
 
--- the kind of a message; a status, which no world of MODEL's has in flight, is ordered as a translation request is
+-- the kind of a message; a status, which no world of MODEL's has in flight, is ordered as a translation request is; and so
+-- is the answer to a barrier, which itself is ordered as a stop
 abbrev pub kind_by : Message → MessageKind
 kind_by (message.Start pasid) = StartKind
 kind_by (message.Stop pasid) = StopKind
@@ -31,6 +32,8 @@ kind_by (message.PageRequest request) = PageRequestKind request.last
 kind_by (message.Marker pasid) = MarkerKind
 kind_by (message.Status pasid) = RequestKind
 kind_by message.ResetDone = ResetDoneKind
+kind_by (message.Barrier barrier) = StopKind
+kind_by (message.Passed barrier) = RequestKind
 
 page_alike : (m : Message) → is_page_request m ≡ model.is_page_request (kind_by m)
 page_alike (message.Start pasid) = refl
@@ -45,6 +48,8 @@ page_alike (message.PageRequest request) = refl
 page_alike (message.Marker pasid) = refl
 page_alike (message.Status pasid) = refl
 page_alike message.ResetDone = refl
+page_alike (message.Barrier barrier) = refl
+page_alike (message.Passed barrier) = refl
 
 down_alike : (m : Message) → (not (goes_up m) && not (is_completion m)) ≡ model.is_order_down (kind_by m)
 down_alike (message.Start pasid) = refl
@@ -59,6 +64,8 @@ down_alike (message.PageRequest request) = refl
 down_alike (message.Marker pasid) = refl
 down_alike (message.Status pasid) = refl
 down_alike message.ResetDone = refl
+down_alike (message.Barrier barrier) = refl
+down_alike (message.Passed barrier) = refl
 
 pub alike : (m older : Message) → stays_behind m older ≡ model.stays_behind (kind_by m) (kind_by older)
 alike (message.Start pasid) older = down_alike older
@@ -77,6 +84,8 @@ alike (message.PageRequest request) older = by request.last
 alike (message.Marker pasid) older = page_alike older
 alike (message.Status pasid) older = refl
 alike message.ResetDone older = refl
+alike (message.Barrier barrier) older = down_alike older
+alike (message.Passed barrier) older = refl
 
 -- what is read off has the kind of what it speaks of
 pub read_off : (ms : Mappings) (p : Endpoint) (x : Subject) (one : Sent) → Contains (sent_of ms p x) one → kind_by one.message ≡ kind_of p x

@@ -10,12 +10,14 @@ use Rattle.sva_open.specs.declared.rows.Entry.{Entry}
 use Rattle.sva_open.specs.declared.rows.State.{State}
 use Rattle.sva_open.specs.declared.rows.State.TheVariants.{Off, On, Stopping, Answering}
 use Rattle.sva_open.specs.declared.rows.Row.{Row}
+use Rattle.sva_open.specs.declared.messages.Barrier.{Barrier}
 use Rattle.sva_open.specs.declared.messages.Message.{Message}
 use Rattle.sva_open.specs.declared.messages.Message.TheVariants as message
 use Rattle.sva_open.specs.declared.messages.PageRequest.{PageRequest}
 use Rattle.sva_open.specs.declared.messages.Sent.{Sent}
+use Rattle.sva_open.specs.declared.works.Group.{Group}
 use Rattle.sva_open.specs.declared.works.Request.{Request}
-use Rattle.sva_open.specs.declared.works.Work.TheVariants.{Taken}
+use Rattle.sva_open.specs.declared.works.Work.TheVariants.{Taken, Draining}
 use Rattle.sva_open.specs.declared.descriptors.Issued.{Issued}
 use Rattle.sva_open.specs.declared.descriptors.Issued.TheVariants.{Sent as Issue, Waiting}
 use Rattle.sva_open.specs.declared.descriptors.Received.TheVariants.{Request as Asked}
@@ -27,7 +29,7 @@ use Rattle.sva_open.specs.Order.{may_deliver}
 use Rattle.sva_open.specs.Units as unit
 use Rattle.sva_open_laws.specs.Weights.{arrived_weight, entry_weight, group_weight, issued_weight, message_weight, part_weight, received_weight}
 use Rattle.sva_open_laws.specs.Weights.{sent_weight, state_weight, translation_weight, work_weight}
-use Rattle.sva_open_laws.proofs.Weighed.{left_in, less_out, out, put_most}
+use Rattle.sva_open_laws.proofs.Weighed.{changed, left_in, less_out, out, put_most}
 use Rattle.sva_open_laws.proofs.DevicesPaid.{off_rows, waited}
 use Rattle.sva_open_laws.proofs.HostPaid.{IsBelow, same_state, sends, where_so, with_state}
 
@@ -103,6 +105,17 @@ group_ended : (part : Part) (index : ℕ) (fails : Bool) → part_weight (device
 group_ended part index fails =
     let most = put_most group_weight part.groups index None in
     omega (arith, most)
+
+-- what a barrier notes weighs as it did
+noted_most : (barrier : Barrier) (o : Option Group) → group_weight (device.begun_noted barrier o) ≤ group_weight o
+noted_most barrier None = omega arith
+noted_most barrier (Some group) = omega arith
+
+barred : (part : Part) (barrier : Barrier) → part_weight (device.barred part barrier) < part_weight part + 3
+barred part barrier =
+    let most = changed group_weight group_weight (device.begun_noted barrier) (noted_most barrier) part.groups in
+    let more = sum_by_push work_weight part.works (Draining barrier) in
+    omega (arith, most, more)
 
 -- ---- to a unit
 
@@ -209,6 +222,8 @@ received settings mappings part one (message.Marker pasid) =
     (stop_answered part pasid one.owner (slice_get part.rows pasid) refl)
 received settings mappings part one (message.Status pasid) = stop_answered part pasid one.owner (slice_get part.rows pasid) refl
 received settings mappings part one message.ResetDone = omega arith
+received settings mappings part one (message.Barrier barrier) = barred part barrier
+received settings mappings part one (message.Passed barrier) = omega arith
 
 weighs : (its : Message) → 0 < message_weight its
 weighs (message.Start pasid) = omega arith
@@ -223,6 +238,8 @@ weighs (message.PageRequest request) = omega arith
 weighs (message.Marker pasid) = omega arith
 weighs (message.Status pasid) = omega arith
 weighs message.ResetDone = omega arith
+weighs (message.Barrier barrier) = omega arith
+weighs (message.Passed barrier) = omega arith
 
 taken_in : (settings : Settings) (mappings : List Mapping) (part : Part) (one : Sent)
     → part_weight (link.taken_in settings mappings part one) < part_weight part + message_weight one.message

@@ -28,7 +28,7 @@ use Rattle.sva_open.specs.declared.naming.Named.{Named}
 use Rattle.sva_open.specs.declared.naming.Named.TheVariants as named
 use Rattle.sva_open.specs.World.{Open, Part}
 use Rattle.sva_open.specs.Acts.{next_open, next_part}
-use Rattle.sva_open.specs.Finding.{found, is_of_kind, is_taken, is_use, more_of, nth}
+use Rattle.sva_open.specs.Finding.{found, is_draining, is_of_kind, is_taken, is_use, more_of, nth}
 use Rattle.sva_open.specs.Host.{is_group}
 use Rattle.sva_judge.specs.Choices as choice
 use Rattle.sva_judge.specs.Choices.{act_of, behind_act, behind_choice, behind_line, behind_local, behind_named, behind_own, found_at, goes_on}
@@ -89,6 +89,7 @@ named_costs : (part : Part) (name : Named) → Costs (named_price name) (found p
 named_costs part (named.Deliver own older) = placed_costs local.Deliver (λ place. refl) (nth (is_of_kind own) older part.flight)
 named_costs part (named.End older) = placed_costs local.End (λ place. refl) (nth is_use older part.works)
 named_costs part (named.Finish older) = placed_costs local.Finish (λ place. refl) (nth is_taken older part.works)
+named_costs part (named.Pass older) = placed_costs local.Pass (λ place. refl) (nth is_draining older part.works)
 named_costs part (named.More pasid index page write last) = more_costs pasid index page write last (slice_get part.groups index)
 named_costs part (named.ForgetEntry pasid) = placed_costs local.ForgetEntry (λ place. refl) _
 named_costs part (named.Forget pasid page) = placed_costs local.Forget (λ place. refl) _
@@ -275,6 +276,7 @@ own_pays driver device settings mappings part doing.Fail number =
     respond_pays settings mappings part (driver.workers.are_there && driver.workers.fail) true number (slice_get part.filed number) refl
 own_pays driver device settings mappings part doing.End number = act_at settings mappings part (local.End number)
 own_pays driver device settings mappings part doing.Finish number = act_at settings mappings part (local.Finish number)
+own_pays driver device settings mappings part doing.Pass number = act_at settings mappings part (local.Pass number)
 own_pays driver device settings mappings part doing.Quit number = act_at settings mappings part (local.Quit number)
 own_pays driver device settings mappings part doing.Complete number = completes settings mappings part number (slice_get part.groups number)
 own_pays driver device settings mappings part doing.Ask number = asks settings mappings part (slice_get device.pages.items number)

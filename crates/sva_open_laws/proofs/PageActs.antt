@@ -142,6 +142,8 @@ is_reset page (message.Invalidated itag) = refl
 is_reset page (message.Marker pasid) = refl
 is_reset page (message.Status pasid) = refl
 is_reset page message.ResetDone = refl
+is_reset page (message.Barrier barrier) = refl
+is_reset page (message.Passed barrier) = refl
 
 pub await_resets : (page : ℕ) (part : Part) → IsLed page (host.await_resets part) (host.await_resets (its_part page part))
 await_resets page part = where_so page _ _ _ _
@@ -242,7 +244,7 @@ quit page stopped part pasid None = tt
 quit page stopped part pasid (Some row) = where_so page _ _ _ _ (and_so _ _ _ (quiet page part pasid)) (said page stopped part pasid row)
 
 -- so it is of what the host sees: an endpoint that is idle is so of each page
-none_still : (b c : Bool) → (b ≡ false → c ≡ false) → not b ≡ true → not c ≡ true
+pub none_still : (b c : Bool) → (b ≡ false → c ≡ false) → not b ≡ true → not c ≡ true
 none_still false c h k = ap not (h refl)
 none_still true c h k = absurd (cc)
 

@@ -45,6 +45,8 @@ leads page (message.Invalidated itag) = refl
 leads page (message.Marker pasid) = refl
 leads page (message.Status pasid) = refl
 leads page message.ResetDone = refl
+leads page (message.Barrier barrier) = refl
+leads page (message.Passed barrier) = refl
 
 none_if : (b : Bool) → target_if b None ≡ None
 none_if true = refl
@@ -64,6 +66,8 @@ same_message page (message.Invalidated itag) h = refl
 same_message page (message.Marker pasid) h = refl
 same_message page (message.Status pasid) h = refl
 same_message page message.ResetDone h = refl
+same_message page (message.Barrier barrier) h = refl
+same_message page (message.Passed barrier) h = refl
 
 same_sent : (page : ℕ) (one : Sent) → leads_by_sent page one ≡ true → its_sent page one ≡ one
 same_sent page one h = λ i. record one { message = same_message page one.message h i }

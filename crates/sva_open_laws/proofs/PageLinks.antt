@@ -34,6 +34,7 @@ use Rattle.sva_open_laws.specs.Pages.{is_at, is_work_at, its_message, its_part, 
 use Rattle.sva_open_laws.proofs.PageLists.{any, less}
 use Rattle.sva_open_laws.proofs.Filters.{filter_both, filter_inner, filter_left, filter_without, find_in, find_none}
 use Rattle.sva_open_laws.proofs.PageActs.{IsLed, also, sends, waits, where_open, where_so}
+use Rattle.sva_open_laws.proofs.PageBarriers.{barred}
 use Rattle.sva_open_laws.proofs.PagePlaces.{of_other, of_page, with_kept}
 
 -- ---- what is asked of a completion in flight, which is so of each at a safe moment: the request that has its tag is for its page
@@ -68,7 +69,7 @@ settled : (page : ℕ) (part : Part) (place : ℕ) (is_out : Bool) (o : Option I
     → its_part page (unit.settled part place is_out o) ≡ unit.settled (its_part page part) place is_out o
 settled page part place true o = refl
 settled page part place false None = refl
-settled page part place false (Some (Issue itag)) = refl
+settled page part place false (Some (Issue endpoint itag)) = refl
 settled page part place false (Some (Waiting name drain)) = waits page (record part { issued = remove part.issued place }) name drain
 
 completed : (page : ℕ) (part : Part) (o : Option ℕ) → its_part page (unit.completed_at part o) ≡ unit.completed_at (its_part page part) o
@@ -218,6 +219,8 @@ received page settings mappings part one (message.Marker pasid) h =
     where_open page part.is_open _ _ _ _ refl (answered_stop page part pasid one.owner (slice_get part.rows pasid))
 received page settings mappings part one (message.Status pasid) h = answered_stop page part pasid one.owner (slice_get part.rows pasid)
 received page settings mappings part one message.ResetDone h = refl
+received page settings mappings part one (message.Barrier barrier) h = barred page part barrier
+received page settings mappings part one (message.Passed barrier) h = refl
 
 -- ---- the order reads no page
 
@@ -241,6 +244,8 @@ seen_as page (message.Invalidated itag) = record { up = refl; completion = refl;
 seen_as page (message.Marker pasid) = record { up = refl; completion = refl; request = refl; posted = refl }
 seen_as page (message.Status pasid) = record { up = refl; completion = refl; request = refl; posted = refl }
 seen_as page message.ResetDone = record { up = refl; completion = refl; request = refl; posted = refl }
+seen_as page (message.Barrier barrier) = record { up = refl; completion = refl; request = refl; posted = refl }
+seen_as page (message.Passed barrier) = record { up = refl; completion = refl; request = refl; posted = refl }
 
 -- so does the host where it awaits that nothing of an endpoint that is gone is on its way up
 pub await_gone : (page : ℕ) (part : Part) → IsLed page (host.await_gone part) (host.await_gone (its_part page part))
@@ -258,6 +263,7 @@ pair page (message.PageRequest request) older = λ i. request.last && (seen_as p
 pair page (message.Marker pasid) older = (seen_as page older).request
 pair page (message.Start pasid) older = λ i. not ((seen_as page older).up i) && not ((seen_as page older).completion i)
 pair page (message.Stop pasid) older = λ i. not ((seen_as page older).up i) && not ((seen_as page older).completion i)
+pair page (message.Barrier barrier) older = λ i. not ((seen_as page older).up i) && not ((seen_as page older).completion i)
 pair page message.Reset older = λ i. not ((seen_as page older).up i) && not ((seen_as page older).completion i)
 pair page message.ResetDone older = refl
 pair page (message.Completion tag own target) older = refl
@@ -266,6 +272,7 @@ pair page (message.Response index fails filed) older = refl
 pair page (message.Request tag pasid other) older = refl
 pair page (message.Invalidated itag) older = refl
 pair page (message.Status pasid) older = refl
+pair page (message.Passed barrier) older = refl
 
 stays_at : (page : ℕ) (link : Link) (own older : Message)
     → must_stay link own older ≡ must_stay link (its_message page own) (its_message page older)
@@ -302,6 +309,8 @@ untouched part place (message.Invalidated itag) h = tt
 untouched part place (message.Marker pasid) h = tt
 untouched part place (message.Status pasid) h = tt
 untouched part place message.ResetDone h = tt
+untouched part place (message.Barrier barrier) h = tt
+untouched part place (message.Passed barrier) h = tt
 
 -- what is lost of the whole is lost of a page
 lost : (page : ℕ) (part : Part) (its : Message) → link.is_lost part its ≡ link.is_lost (its_part page part) (its_message page its)

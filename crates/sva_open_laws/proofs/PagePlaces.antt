@@ -11,7 +11,7 @@ use Rattle.sva_open.specs.declared.rows.Row.{Row}
 use Rattle.sva_open.specs.declared.rows.KeptEntry.{KeptEntry}
 use Rattle.sva_open.specs.declared.messages.Message.TheVariants as message
 use Rattle.sva_open.specs.declared.works.Work.{Work}
-use Rattle.sva_open.specs.declared.works.Work.TheVariants.{Use, Taken}
+use Rattle.sva_open.specs.declared.works.Work.TheVariants.{Use, Taken, Draining}
 use Rattle.sva_open.specs.declared.descriptors.Descriptor.{Descriptor}
 use Rattle.sva_open.specs.declared.descriptors.Descriptor.TheVariants as descriptor
 use Rattle.sva_open.specs.declared.settings.Settings.{Settings}
@@ -56,6 +56,7 @@ pub end_use : (page : ℕ) (settings : Settings) (mappings : List Mapping) (part
     (next_at page settings mappings part (if_so (is_left_at (is_work_at page) o) (local.End (place_in (is_work_at page) part.works place))))
 end_use page settings mappings part place None h = tt
 end_use page settings mappings part place (Some (Taken itag scope)) h = tt
+end_use page settings mappings part place (Some (Draining barrier)) h = tt
 end_use page settings mappings part place (Some (Use translation)) h = end_by page settings mappings part place translation (translation.page == page) h refl
 
 -- ---- finish
@@ -82,6 +83,7 @@ pub finish : (page : ℕ) (settings : Settings) (mappings : List Mapping) (part 
     (next_at page settings mappings part (if_so (is_left_at (is_work_at page) o) (local.Finish (place_in (is_work_at page) part.works place))))
 finish page settings mappings part place None h = tt
 finish page settings mappings part place (Some (Use translation)) h = tt
+finish page settings mappings part place (Some (Draining barrier)) h = tt
 finish page settings mappings part place (Some (Taken itag scope)) h =
     subst (λ (o : Option Work). IsLed page (device.finish part place (Some (Taken itag scope)))
     (device.finish (its_part page part) (place_in (is_work_at page) part.works place) o))
@@ -156,10 +158,10 @@ issue page part scope (Some itag) = sends page (record (unit.shifted part) { iss
 pump_head : (page : ℕ) (settings : Settings) (part : Part) (o : Option Descriptor)
     → IsLed page (unit.pump_head settings part o) (unit.pump_head settings (its_part page part) o)
 pump_head page settings part None = tt
-pump_head page settings part (Some (descriptor.Device scope)) = issue page part scope _
-pump_head page settings part (Some (descriptor.Translations scope)) =
+pump_head page settings part (Some (descriptor.Device endpoint scope)) = issue page part scope _
+pump_head page settings part (Some (descriptor.Translations endpoint scope)) =
     with_kept page (unit.shifted part) _ _ (filter_both (is_at page) (is_left scope) part.kept)
-pump_head page settings part (Some (descriptor.Entry pasid)) = refl
+pump_head page settings part (Some (descriptor.Entry endpoint pasid)) = refl
 pump_head page settings part (Some (descriptor.Wait name drain fence)) =
     where_so page _ _ _ _ (λ h. h)
     (where_open page (unit.is_out_before part.issued (length part.issued)) _ _ _ _ (waits page (unit.shifted part) name drain) refl)

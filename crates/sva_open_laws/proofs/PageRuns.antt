@@ -8,7 +8,8 @@ use Rattle.sva_open.specs.Acts.{next_open}
 use Rattle.sva_open.specs.Checks.{is_safe}
 use Rattle.sva_open_laws.specs.Pages.{AreAlwaysSafeApart, AreRunsApart, AreRunsSafeApart, AreTakenSafely, IsAlwaysSafe, IsPageLaw, IsSafeAlong}
 use Rattle.sva_open_laws.specs.Pages.{after, its_act, its_acts, its_world, next_by}
-use Rattle.sva_open_laws.proofs.PageWorlds.{IsLedTo, act_in}
+use Rattle.sva_open_laws.proofs.PageBelow.{IsLedTo}
+use Rattle.sva_open_laws.proofs.PageWorlds.{act_in}
 use Rattle.sva_open_laws.proofs.PageSafety.{safe_tagged, safe_whole}
 
 -- ---- one act

@@ -11,7 +11,7 @@ use Rattle.sva_open.specs.declared.messages.Message.TheVariants as message
 use Rattle.sva_open.specs.declared.messages.Sent.{Sent}
 use Rattle.sva_open.specs.declared.works.Request.{Request}
 use Rattle.sva_open.specs.declared.works.Work.{Work}
-use Rattle.sva_open.specs.declared.works.Work.TheVariants.{Use, Taken}
+use Rattle.sva_open.specs.declared.works.Work.TheVariants.{Use, Taken, Draining}
 use Rattle.sva_open.specs.declared.settings.Settings.{Settings}
 use Rattle.sva_open.specs.declared.acts.Act.{Act}
 use Rattle.sva_open.specs.declared.acts.Act.TheVariants as act
@@ -75,10 +75,12 @@ same_page page = grind (arith, nat_tests)
 abbrev page_of_work : Work → ℕ
 page_of_work (Use translation) = translation.page
 page_of_work (Taken itag scope) = 0
+page_of_work (Draining barrier) = 0
 
 work_at : (work : Work) → is_work_at (page_of_work work) work ≡ true
 work_at (Use translation) = same_page translation.page
 work_at (Taken itag scope) = refl
+work_at (Draining barrier) = refl
 
 -- ---- what is in flight
 
@@ -103,6 +105,8 @@ right_by settings frames part one (message.Invalidated itag) h = h
 right_by settings frames part one (message.Marker pasid) h = h
 right_by settings frames part one (message.Status pasid) h = h
 right_by settings frames part one message.ResetDone h = h
+right_by settings frames part one (message.Barrier barrier) h = h
+right_by settings frames part one (message.Passed barrier) h = h
 
 -- what leads nowhere may be held
 held_if : (frames : List Tenure) (doomed b : Bool) (target : Option Target) → doomed || may_be_held frames target ≡ true
@@ -137,6 +141,8 @@ right_in settings frames part page one (message.Invalidated itag) h = h
 right_in settings frames part page one (message.Marker pasid) h = h
 right_in settings frames part page one (message.Status pasid) h = h
 right_in settings frames part page one message.ResetDone h = h
+right_in settings frames part page one (message.Barrier barrier) h = h
+right_in settings frames part page one (message.Passed barrier) h = h
 
 -- ---- a part
 
@@ -148,7 +154,7 @@ record IsTested (settings : Settings) (frames : List Tenure) (freed domains : Li
   arrived : list_all (is_good_arrived part) part.arrived ≡ true
   received : list_all (is_good_received part) part.received ≡ true
   filed : are_good_filed settings domains part ≡ true
-  joined : joins_own_group part.filed (slice_get part.arrived 0) ≡ true
+  joined : joins_own_group part.endpoint part.filed (slice_get part.arrived 0) ≡ true
   kept : list_all (is_good_kept part) part.kept ≡ true
   entries : list_all (is_good_entry freed part) part.kept_entries ≡ true
   flight : list_all (is_right_sent settings frames part) part.flight ≡ true
@@ -162,7 +168,7 @@ tested settings frames freed domains part h =
     let e = and_parts (list_all (is_good_work frames part) part.works) _ d.1 in
     let b = and_parts (is_safe_unit freed part) _ a.1 in
     let u = and_parts (list_all (is_good_arrived part) part.arrived) _ b.0 in
-    let v = and_parts (joins_own_group part.filed (slice_get part.arrived 0)) _ u.1 in
+    let v = and_parts (joins_own_group part.endpoint part.filed (slice_get part.arrived 0)) _ u.1 in
     let w = and_parts (list_all (is_good_kept part) part.kept) _ v.1 in
     let c = and_parts (is_safe_for_workers settings domains part) _ b.1 in
     let g = and_parts (list_all (is_good_received part) part.received) _ c.0 in
@@ -278,6 +284,8 @@ tagged settings frames part one (message.Invalidated itag) h = tt
 tagged settings frames part one (message.Marker pasid) h = tt
 tagged settings frames part one (message.Status pasid) h = tt
 tagged settings frames part one message.ResetDone h = tt
+tagged settings frames part one (message.Barrier barrier) h = tt
+tagged settings frames part one (message.Passed barrier) h = tt
 
 tagged_at : (settings : Settings) (frames : List Tenure) (part : Part) (place : ℕ) (o : Option Sent)
     → list_all (is_right_sent settings frames part) part.flight ≡ true → slice_get part.flight place ≡ o → IsTaggedAt part o

@@ -25,7 +25,7 @@ completes : (page itag : ℕ) (one : Message) → unit.completes itag one ≡ un
 completes page itag (message.Completion tag own target) = refl
 completes page itag _ = refl
 
-neither : (a b c d : Bool) → a ≡ c → (b ≡ false → d ≡ false) → not (a || b) ≡ true → not (c || d) ≡ true
+pub neither : (a b c d : Bool) → a ≡ c → (b ≡ false → d ≡ false) → not (a || b) ≡ true → not (c || d) ≡ true
 neither false false c d h k quiet =
     let none : d ≡ false = k refl in
     let same : c ≡ false = sym h in
@@ -56,9 +56,9 @@ none_if false one other = refl
 none_at_head : (page : ℕ) (settings : Settings) (part : Part) (o : Option Descriptor)
     → is_none (unit.pump_head settings part o) ≡ is_none (unit.pump_head settings (its_part page part) o)
 none_at_head page settings part None = refl
-none_at_head page settings part (Some (descriptor.Device scope)) = none_issued page part scope _
-none_at_head page settings part (Some (descriptor.Translations scope)) = refl
-none_at_head page settings part (Some (descriptor.Entry pasid)) = refl
+none_at_head page settings part (Some (descriptor.Device endpoint scope)) = none_issued page part scope _
+none_at_head page settings part (Some (descriptor.Translations endpoint scope)) = refl
+none_at_head page settings part (Some (descriptor.Entry endpoint pasid)) = refl
 none_at_head page settings part (Some (descriptor.Wait name drain fence)) = none_if (unit.may_pass settings part drain fence) _ _
 
 none_open : (b : Bool) (one other : Option Part) → is_none one ≡ is_none other
@@ -74,7 +74,7 @@ none_taken page settings part = none_open (part.is_open && not part.is_stalled) 
 permitted : (page : ℕ) (settings : Settings) (part : Part) (itag : ℕ) (silent : Bool) → unit.may_expire settings part itag silent ≡ true
     → unit.may_expire settings (its_part page part) itag silent ≡ true
 permitted page settings part itag silent =
-    let busy = list_any (unit.has_itag itag) part.issued in
+    let busy = list_any (unit.is_sent_to part.endpoint itag) part.issued in
     and_so (unit.is_timed settings.timeouts && (part.is_open && not part.is_stalled)) _ _
     (λ h. and_so (is_none (unit.pump settings (its_part page part))) _ _
     (and_so busy _ _ (unanswered page part itag silent))

@@ -4,7 +4,7 @@ use Rattle.std.proofs.Common.{refl, ap, sym, subst, arith}
 use Rattle.std.proofs.lemmas.Bool.Decides.{nat_tests}
 use Rattle.std.specs.Prelude.{⊤, ◌==◌, max, slice_get, slice_set, filter}
 use Rattle.std.proofs.lemmas.List.{map-set}
-use Rattle.std.proofs.lemmas.Option.{slice_get-map}
+use Rattle.std.proofs.lemmas.Option.{same_Some, slice_get-map}
 use Rattle.sva_open.specs.declared.frames.Tenure.{Tenure}
 use Rattle.sva_open.specs.declared.frames.Mapping.{Mapping}
 use Rattle.sva_open.specs.declared.messages.Message.{Message}
@@ -15,12 +15,16 @@ use Rattle.sva_open.specs.declared.acts.Act.TheVariants as act
 use Rattle.sva_open.specs.declared.acts.LocalAct.{LocalAct}
 use Rattle.sva_open.specs.declared.acts.LocalAct.TheVariants as local
 use Rattle.sva_open.specs.World.{Open, Part, if_so, lowest_free}
-use Rattle.sva_open.specs.Acts.{free_frame, freeze, is_other_page, next_open, next_part, parts_after, set_page, with_parts, without_page}
+use Rattle.sva_open.specs.Acts.{at_endpoint, done_at, free_frame, freeze, is_other_page, next_open, next_part, parts_after, set_page, with_parts, without_page}
 use Rattle.sva_open.specs.Devices.{above_arrived, above_filed, above_message, above_received, above_sent, fault, fresh_number, highest}
 use Rattle.sva_open_laws.specs.Pages.{its_act, its_local, its_local_at, its_message, its_part, its_sent, its_world, leads_at, next_by}
 use Rattle.sva_open_laws.proofs.Filters.{filter_both, filter_inner, filter_left, filter_without}
+use Rattle.sva_open.specs.Below.{about, matter_of}
+use Rattle.sva_open.specs.Below.Matter.{OwnEndpoint}
+use Rattle.sva_open_laws.proofs.PageBelow.{IsLedTo, IsQuiet, own_about, quietly, same_about, shared_led}
 use Rattle.sva_open_laws.proofs.PageActs as its
 use Rattle.sva_open_laws.proofs.PageActs.{IsLed, next_at}
+use Rattle.sva_open_laws.proofs.PageBarriers as barriers
 use Rattle.sva_open_laws.proofs.PagePlaces as place
 use Rattle.sva_open_laws.proofs.PageTimes as times
 use Rattle.sva_open_laws.proofs.PageLinks as link
@@ -60,6 +64,8 @@ numbered page index number (message.Invalidated itag) = refl
 numbered page index number (message.Marker pasid) = refl
 numbered page index number (message.Status pasid) = refl
 numbered page index number message.ResetDone = refl
+numbered page index number (message.Barrier barrier) = refl
+numbered page index number (message.Passed barrier) = refl
 
 same_number : (page : ℕ) (part : Part) → fresh_number part ≡ fresh_number (its_part page part)
 same_number page part =
@@ -78,6 +84,7 @@ act_at page settings mappings part (local.Replace pasid space) h = its.replace p
 act_at page settings mappings part (local.ClearEntry pasid) h = its.clear_entry page part pasid (slice_get part.rows pasid)
 act_at page settings mappings part (local.Start pasid) h = its.start page part pasid (slice_get part.rows pasid)
 act_at page settings mappings part (local.Stop pasid) h = its.stop page part pasid (slice_get part.rows pasid)
+act_at page settings mappings part (local.Barrier barrier) h = its.sends page part 0 part.time (message.Barrier barrier)
 act_at page settings mappings part local.Reset h = its.reset page part
 act_at page settings mappings part (local.Submit descriptors) h = its.submit page part descriptors.items
 act_at page settings mappings part local.Close h = its.close page part
@@ -86,6 +93,7 @@ act_at page settings mappings part local.Skip h = its.skip page part (slice_get 
 act_at page settings mappings part local.Resume h = refl
 act_at page settings mappings part (local.AwaitWait name) h = its.await_wait page part name
 act_at page settings mappings part (local.AwaitStopped pasid) h = its.await_stopped page part pasid (slice_get part.rows pasid)
+act_at page settings mappings part (local.AwaitPassed pasid thread) h = barriers.await_passed page part pasid thread
 act_at page settings mappings part local.AwaitQueue h = its.await_queue page part
 act_at page settings mappings part (local.AwaitQueueOf pasid) h = its.await_queue_of page part pasid
 act_at page settings mappings part (local.AwaitGroups pasid) h = its.await_groups page part pasid
@@ -108,6 +116,7 @@ act_at page settings mappings part (local.Fault pasid other write last) h =
     (its.fault page part pasid other write last (fresh_number part) (slice_get part.rows pasid))
 act_at page settings mappings part (local.More index other write last) h = its.more page part index other write last (slice_get part.groups index)
 act_at page settings mappings part (local.Finish at) h = place.finish page settings mappings part at (slice_get part.works at) refl
+act_at page settings mappings part (local.Pass at) h = barriers.pass page settings mappings part at (slice_get part.works at) refl
 act_at page settings mappings part (local.Quit pasid) h = its.quit page settings.stopped part pasid (slice_get part.rows pasid)
 act_at page settings mappings part local.Leave h = its.leave page part
 act_at page settings mappings part local.Pump h = place.pump page settings part
@@ -118,12 +127,6 @@ act_at page settings mappings part (local.Forget at) h = place.forget page setti
 act_at page settings mappings part (local.Deliver at) h = link.deliver page settings mappings part at h
 
 -- ---- in the world
-
--- where the one is permitted, so is the other, and it leads to what the page has of what the one leaves
-abbrev pub IsLedTo : (page : ℕ) → (one other : Option Open) → Type 0
-IsLedTo page None other = ⊤
-IsLedTo page (Some one) None = ⊥
-IsLedTo page (Some one) (Some other) = its_world page one ≡ other
 
 with_mappings : (page : ℕ) (now : Open) (one other : List Mapping) → filter (leads_at page) one ≡ other
     → its_world page (record now { mappings = one }) ≡ record (its_world page now) { mappings = other }
@@ -147,10 +150,14 @@ found : (page : ℕ) (parts : List Part) (at : ℕ) (part : Part) → slice_get 
     → slice_get (map (its_part page) parts) at ≡ Some (its_part page part)
 found page parts at part h = slice_get-map (its_part page) parts at ∙ ap (option_map (its_part page)) h
 
+-- what an act leaves of its own endpoint, where there is one
+abbrev next_own : Open → (endpoint : ℕ) → Option LocalAct → Option Open
+next_own now endpoint None = Some now
+next_own now endpoint (Some own) = at_endpoint now endpoint own
+
 at_own : (page : ℕ) (now : Open) (endpoint : ℕ) (part : Part) (one : Option Part) (own : Option LocalAct) → slice_get now.parts endpoint ≡ Some part
     → IsLed page one (next_at page now.settings now.mappings part own)
-    → IsLedTo page (option_map (with_parts now) (option_map (slice_set now.parts endpoint) one))
-    (next_by (its_world page now) (option_map (act.At endpoint) own))
+    → IsLedTo page (option_map (with_parts now) (option_map (slice_set now.parts endpoint) one)) (next_own (its_world page now) endpoint own)
 at_own page now endpoint part one None h led =
     subst (λ (parts : List Part). IsLedTo page (option_map (with_parts now) (option_map (slice_set now.parts endpoint) one))
     (Some (with_parts (its_world page now) parts)))
@@ -165,10 +172,159 @@ at_own page now endpoint part one (Some own) h led =
 
 at_by : (page : ℕ) (now : Open) (endpoint : ℕ) (own : LocalAct) (o : Option Part) → slice_get now.parts endpoint ≡ o → IsTaggedIn o own
     → IsLedTo page (option_map (with_parts now) (parts_after now.settings now.mappings now.parts endpoint own o))
-    (next_by (its_world page now) (option_map (act.At endpoint) (its_local_at page o own)))
+    (next_own (its_world page now) endpoint (its_local_at page o own))
 at_by page now endpoint own None h is = tt
 at_by page now endpoint own (Some part) h is =
     at_own page now endpoint part _ (its_local page part own) h (act_at page now.settings now.mappings part own is)
+
+-- ---- with what the others see of it
+
+always_there : (page : ℕ) (own : LocalAct) → ((part : Part) → its_local page part own ≡ Some own) → (o : Option Part)
+    → its_local_at page o own ≡ Some own
+always_there page own h None = refl
+always_there page own h (Some part) = h part
+
+untagged_serve : (o : Option Part) → IsTaggedIn o local.Serve
+untagged_serve None = tt
+untagged_serve (Some part) = tt
+
+untagged_pump : (o : Option Part) → IsTaggedIn o local.Pump
+untagged_pump None = tt
+untagged_pump (Some part) = tt
+
+-- an act that is there for each page, at the endpoint that it is about
+done_led : (page : ℕ) (now : Open) (at : ℕ) (own : LocalAct) → ((o : Option Part) → its_local_at page o own ≡ Some own)
+    → IsTaggedIn (slice_get now.parts at) own → IsLedTo page (done_at now at own) (done_at (its_world page now) at own)
+done_led page now at own there h =
+    shared_led page now.units at own now.parts _ _
+    (subst (λ (it : Option LocalAct). IsLedTo page (at_endpoint now at own) (next_own (its_world page now) at it))
+    (there (slice_get now.parts at)) (at_by page now at own (slice_get now.parts at) refl h))
+
+next_led : (page : ℕ) (now : Open) (endpoint : ℕ) (own : LocalAct) → ((o : Option Part) → its_local_at page o own ≡ Some own)
+    → IsTaggedIn (slice_get now.parts (about now.units endpoint own (slice_get now.parts endpoint))) own
+    → IsLedTo page (next_open now (act.At endpoint own))
+    (next_by (its_world page now) (option_map (act.At endpoint) (its_local_at page (slice_get now.parts endpoint) own)))
+next_led page now endpoint own there h =
+    subst (λ (it : Option LocalAct). IsLedTo page (next_open now (act.At endpoint own)) (next_by (its_world page now) (option_map (act.At endpoint) it)))
+    (sym (there (slice_get now.parts endpoint)))
+    (subst (λ (at : ℕ). IsLedTo page (next_open now (act.At endpoint own)) (done_at (its_world page now) at own))
+    (same_about page now endpoint own)
+    (done_led page now (about now.units endpoint own (slice_get now.parts endpoint)) own there h))
+
+own_led : (page : ℕ) (now : Open) (endpoint : ℕ) (own : LocalAct) → matter_of own ≡ OwnEndpoint
+    → ((o : Option Part) → its_local_at page o own ≡ Some own) → IsTaggedIn (slice_get now.parts endpoint) own
+    → IsLedTo page (next_open now (act.At endpoint own))
+    (next_by (its_world page now) (option_map (act.At endpoint) (its_local_at page (slice_get now.parts endpoint) own)))
+own_led page now endpoint own is there h =
+    next_led page now endpoint own there
+    (subst (λ (at : ℕ). IsTaggedIn (slice_get now.parts at) own)
+    (sym (own_about now.units endpoint own (slice_get now.parts endpoint) is)) h)
+
+unit_led : (page : ℕ) (now : Open) (endpoint : ℕ) (own : LocalAct) → ((o : Option Part) → its_local_at page o own ≡ Some own)
+    → ((o : Option Part) → IsTaggedIn o own)
+    → IsLedTo page (next_open now (act.At endpoint own))
+    (next_by (its_world page now) (option_map (act.At endpoint) (its_local_at page (slice_get now.parts endpoint) own)))
+unit_led page now endpoint own there h = next_led page now endpoint own there (h _)
+
+-- an act of one page alone, of which no other endpoint sees anything
+abbrev AreQuiet : Option LocalAct → Type 0
+AreQuiet o = (own : LocalAct) → o ≡ Some own → IsQuiet own
+
+quiet_if : (b : Bool) (own : LocalAct) → IsQuiet own → AreQuiet (if_so b own)
+quiet_if true own h other is = subst (λ (it : LocalAct). IsQuiet it) (same_Some _ _ is) h
+quiet_if false own h other is = absurd (cc is)
+
+use_quiet : (page : ℕ) (o : Option Part) (pasid other : ℕ) → AreQuiet (its_local_at page o (local.Use pasid other))
+use_quiet page None pasid other = quiet_if true (local.Use pasid other) (record { matter = refl; apart = refl; waits = refl })
+use_quiet page (Some part) pasid other = quiet_if (other == page) (local.Use pasid other) (record { matter = refl; apart = refl; waits = refl })
+
+evict_quiet : (page : ℕ) (o : Option Part) (pasid other : ℕ) → AreQuiet (its_local_at page o (local.Evict pasid other))
+evict_quiet page None pasid other = quiet_if true (local.Evict pasid other) (record { matter = refl; apart = refl; waits = refl })
+evict_quiet page (Some part) pasid other = quiet_if (other == page) (local.Evict pasid other) (record { matter = refl; apart = refl; waits = refl })
+
+end_quiet : (page : ℕ) (o : Option Part) (place : ℕ) → AreQuiet (its_local_at page o (local.End place))
+end_quiet page None place = quiet_if true (local.End place) (record { matter = refl; apart = refl; waits = refl })
+end_quiet page (Some part) place = quiet_if _ (local.End _) (record { matter = refl; apart = refl; waits = refl })
+
+finish_quiet : (page : ℕ) (o : Option Part) (place : ℕ) → AreQuiet (its_local_at page o (local.Finish place))
+finish_quiet page None place = quiet_if true (local.Finish place) (record { matter = refl; apart = refl; waits = refl })
+finish_quiet page (Some part) place = quiet_if _ (local.Finish _) (record { matter = refl; apart = refl; waits = refl })
+
+pass_quiet : (page : ℕ) (o : Option Part) (place : ℕ) → AreQuiet (its_local_at page o (local.Pass place))
+pass_quiet page None place = quiet_if true (local.Pass place) (record { matter = refl; apart = refl; waits = refl })
+pass_quiet page (Some part) place = quiet_if _ (local.Pass _) (record { matter = refl; apart = refl; waits = refl })
+
+forget_quiet : (page : ℕ) (o : Option Part) (place : ℕ) → AreQuiet (its_local_at page o (local.Forget place))
+forget_quiet page None place = quiet_if true (local.Forget place) (record { matter = refl; apart = refl; waits = refl })
+forget_quiet page (Some part) place = quiet_if _ (local.Forget _) (record { matter = refl; apart = refl; waits = refl })
+
+next_quiet : (now : Open) (endpoint : ℕ) (o : Option LocalAct) → AreQuiet o → next_by now (option_map (act.At endpoint) o) ≡ next_own now endpoint o
+next_quiet now endpoint None h = refl
+next_quiet now endpoint (Some own) h = quietly now endpoint own (h own refl)
+
+quiet_led : (page : ℕ) (now : Open) (endpoint : ℕ) (own : LocalAct) → IsQuiet own → IsTaggedIn (slice_get now.parts endpoint) own
+    → AreQuiet (its_local_at page (slice_get now.parts endpoint) own)
+    → IsLedTo page (next_open now (act.At endpoint own))
+    (next_by (its_world page now) (option_map (act.At endpoint) (its_local_at page (slice_get now.parts endpoint) own)))
+quiet_led page now endpoint own is h quiet =
+    subst (λ (o : Option Open). IsLedTo page (next_open now (act.At endpoint own)) o)
+    (sym (next_quiet (its_world page now) endpoint (its_local_at page (slice_get now.parts endpoint) own) quiet))
+    (subst (λ (o : Option Open). IsLedTo page o (next_own (its_world page now) endpoint (its_local_at page (slice_get now.parts endpoint) own)))
+    (sym (quietly now endpoint own is))
+    (at_by page now endpoint own (slice_get now.parts endpoint) refl h))
+
+acts_led : (page : ℕ) (now : Open) (endpoint : ℕ) (own : LocalAct) → IsTaggedIn (slice_get now.parts endpoint) own
+    → IsLedTo page (next_open now (act.At endpoint own))
+    (next_by (its_world page now) (option_map (act.At endpoint) (its_local_at page (slice_get now.parts endpoint) own)))
+acts_led page now endpoint (local.SetEntry pasid space) h = own_led page now endpoint _ refl (always_there page _ (λ part. refl)) h
+acts_led page now endpoint (local.Replace pasid space) h = own_led page now endpoint _ refl (always_there page _ (λ part. refl)) h
+acts_led page now endpoint (local.ClearEntry pasid) h = own_led page now endpoint _ refl (always_there page _ (λ part. refl)) h
+acts_led page now endpoint (local.Start pasid) h = own_led page now endpoint _ refl (always_there page _ (λ part. refl)) h
+acts_led page now endpoint (local.Stop pasid) h = own_led page now endpoint _ refl (always_there page _ (λ part. refl)) h
+acts_led page now endpoint local.Reset h = own_led page now endpoint _ refl (always_there page _ (λ part. refl)) h
+acts_led page now endpoint (local.Barrier barrier) h = own_led page now endpoint _ refl (always_there page _ (λ part. refl)) h
+acts_led page now endpoint (local.Submit descriptors) h = own_led page now endpoint _ refl (always_there page _ (λ part. refl)) h
+acts_led page now endpoint local.Close h = own_led page now endpoint _ refl (always_there page _ (λ part. refl)) h
+acts_led page now endpoint local.Reopen h = own_led page now endpoint _ refl (always_there page _ (λ part. refl)) h
+acts_led page now endpoint local.Skip h = own_led page now endpoint _ refl (always_there page _ (λ part. refl)) h
+acts_led page now endpoint local.Resume h = own_led page now endpoint _ refl (always_there page _ (λ part. refl)) h
+acts_led page now endpoint (local.AwaitWait name) h = own_led page now endpoint _ refl (always_there page _ (λ part. refl)) h
+acts_led page now endpoint (local.AwaitStopped pasid) h = own_led page now endpoint _ refl (always_there page _ (λ part. refl)) h
+acts_led page now endpoint (local.AwaitPassed pasid thread) h = own_led page now endpoint _ refl (always_there page _ (λ part. refl)) h
+acts_led page now endpoint local.AwaitQueue h = own_led page now endpoint _ refl (always_there page _ (λ part. refl)) h
+acts_led page now endpoint (local.AwaitQueueOf pasid) h = own_led page now endpoint _ refl (always_there page _ (λ part. refl)) h
+acts_led page now endpoint (local.AwaitGroups pasid) h = own_led page now endpoint _ refl (always_there page _ (λ part. refl)) h
+acts_led page now endpoint local.AwaitResets h = own_led page now endpoint _ refl (always_there page _ (λ part. refl)) h
+acts_led page now endpoint (local.Turn control on) h = own_led page now endpoint _ refl (always_there page _ (λ part. refl)) h
+acts_led page now endpoint local.AwaitIdle h = own_led page now endpoint _ refl (always_there page _ (λ part. refl)) h
+acts_led page now endpoint local.AwaitGone h = own_led page now endpoint _ refl (always_there page _ (λ part. refl)) h
+acts_led page now endpoint local.Serve h = unit_led page now endpoint _ (always_there page _ (λ part. refl)) (λ o. untagged_serve o)
+acts_led page now endpoint (local.Respond pasid index fails) h = own_led page now endpoint _ refl (always_there page _ (λ part. refl)) h
+acts_led page now endpoint (local.RespondAll pasid fails) h = own_led page now endpoint _ refl (always_there page _ (λ part. refl)) h
+acts_led page now endpoint (local.Discard pasid) h = own_led page now endpoint _ refl (always_there page _ (λ part. refl)) h
+acts_led page now endpoint (local.FreePasid pasid) h = own_led page now endpoint _ refl (always_there page _ (λ part. refl)) h
+acts_led page now endpoint (local.Ask pasid other) h = own_led page now endpoint _ refl (always_there page _ (λ part. refl)) h
+acts_led page now endpoint (local.Use pasid other) h =
+    quiet_led page now endpoint _ (record { matter = refl; apart = refl; waits = refl }) h (use_quiet page (slice_get now.parts endpoint) pasid other)
+acts_led page now endpoint (local.End place) h =
+    quiet_led page now endpoint _ (record { matter = refl; apart = refl; waits = refl }) h (end_quiet page (slice_get now.parts endpoint) place)
+acts_led page now endpoint (local.Evict pasid other) h =
+    quiet_led page now endpoint _ (record { matter = refl; apart = refl; waits = refl }) h (evict_quiet page (slice_get now.parts endpoint) pasid other)
+acts_led page now endpoint (local.Fault pasid other write last) h = own_led page now endpoint _ refl (always_there page _ (λ part. refl)) h
+acts_led page now endpoint (local.More index other write last) h = own_led page now endpoint _ refl (always_there page _ (λ part. refl)) h
+acts_led page now endpoint (local.Finish place) h =
+    quiet_led page now endpoint _ (record { matter = refl; apart = refl; waits = refl }) h (finish_quiet page (slice_get now.parts endpoint) place)
+acts_led page now endpoint (local.Pass place) h =
+    quiet_led page now endpoint _ (record { matter = refl; apart = refl; waits = refl }) h (pass_quiet page (slice_get now.parts endpoint) place)
+acts_led page now endpoint (local.Quit pasid) h = own_led page now endpoint _ refl (always_there page _ (λ part. refl)) h
+acts_led page now endpoint local.Leave h = own_led page now endpoint _ refl (always_there page _ (λ part. refl)) h
+acts_led page now endpoint local.Pump h = unit_led page now endpoint _ (always_there page _ (λ part. refl)) (λ o. untagged_pump o)
+acts_led page now endpoint (local.Expire itag silent) h = own_led page now endpoint _ refl (always_there page _ (λ part. refl)) h
+acts_led page now endpoint local.Write h = own_led page now endpoint _ refl (always_there page _ (λ part. refl)) h
+acts_led page now endpoint (local.ForgetEntry place) h = own_led page now endpoint _ refl (always_there page _ (λ part. refl)) h
+acts_led page now endpoint (local.Forget place) h =
+    quiet_led page now endpoint _ (record { matter = refl; apart = refl; waits = refl }) h (forget_quiet page (slice_get now.parts endpoint) place)
+acts_led page now endpoint (local.Deliver place) h = own_led page now endpoint _ refl (always_there page _ (λ part. refl)) h
 
 -- ---- in memory
 
@@ -212,4 +368,4 @@ act_in page now (act.FreeFrame frame) h = given page now frame (slice_get now.fr
 act_in page now (act.Freeze frame) h = frozen page now frame (slice_get now.frames frame)
 act_in page now (act.FreeSpace space) h = refl
 act_in page now (act.FreeDomain space) h = refl
-act_in page now (act.At endpoint own) h = at_by page now endpoint own (slice_get now.parts endpoint) refl h
+act_in page now (act.At endpoint own) h = acts_led page now endpoint own h

@@ -76,31 +76,31 @@ current w e b q m i u =
 -- ---- owners
 
 -- a binding that bears its PASID is the owner that the PASID has
-pub owned : (w : World) (p : Endpoint) (b : ℕ) → p.pasid b ≤ 32 → IsBearer p b → IsPresent (part_of w p) (p.pasid b) (owner_of p b)
-owned w p b low is =
+pub owned : (w : World) (e : ℕ) (p : Endpoint) (b : ℕ) → p.pasid b ≤ 32 → IsBearer p b → IsPresent (part_of w e p) (p.pasid b) (owner_of p b)
+owned w e p b low is =
     record {
       row = row_at w.bindings p (p.pasid b);
       found = tabulate_get 33 (row_at w.bindings p) (p.pasid b) (omega (arith, low));
       same = sym (ap (owner_by w.bindings p (p.pasid b)) is.bears);
     }
 
-pub bearer_owned : (w : World) (e b : ℕ) → Invariant w → IsBearer (w.part e) b → IsPresent (part_of w (w.part e)) ((w.part e).pasid b) (owner_of (w.part e) b)
-bearer_owned w e b i is = owned w (w.part e) b ((labelled w e i).pasid_low b is.unreleased).1 is
+pub bearer_owned : (w : World) (e b : ℕ) → Invariant w → IsBearer (w.part e) b → IsPresent (part_of w e (w.part e)) ((w.part e).pasid b) (owner_of (w.part e) b)
+bearer_owned w e b i is = owned w e (w.part e) b ((labelled w e i).pasid_low b is.unreleased).1 is
 
 -- ---- translations
 
 good : (w : World) (e b q m : ℕ) → Invariant w → Usable w e b q m → IsBearer (w.part e) b
-    → IsGood (open_of w).frames (part_of w (w.part e)) (translation_of w.mappings (w.part e) b q m)
+    → IsGood (open_of w).frames (part_of w e (w.part e)) (translation_of w.mappings (w.part e) b q m)
 good w e b q m i u is = record { frame = current w e b q m i u; owner = bearer_owned w e b i is }
 
-pub held : (w : World) (e : ℕ) → Invariant w → (t : Translation) → Contains (part_of w (w.part e)).held t
-    → IsGood (open_of w).frames (part_of w (w.part e)) t
+pub held : (w : World) (e : ℕ) → Invariant w → (t : Translation) → Contains (part_of w e (w.part e)).held t
+    → IsGood (open_of w).frames (part_of w e (w.part e)) t
 held w e i t h =
     let p = w.part e in
     let x = gathered p.requests (λ r. if_there (held_of w.mappings p r)) t h in
     let y = mapped_some (translation_of w.mappings p (p.request_binding x.0) (p.request_page x.0)) (p.held x.0) t
     (there_in (held_of w.mappings p x.0) t x.2) in
-    subst (λ z. IsGood (open_of w).frames (part_of w p) z) y.2
+    subst (λ z. IsGood (open_of w).frames (part_of w e p) z) y.2
     (good w e (p.request_binding x.0) (p.request_page x.0) y.0 i (cached x.0 y.0 y.1) ((found w e i).cached x.0 y.0 y.1))
 
 pub running_is : (s : UseState) → is_running s ≡ true → s ≡ Running
@@ -118,8 +118,8 @@ no_use p Void k t h = none_in (Use t) h
 used_is : (a b : Translation) → Use a ≡ Use b → a ≡ b
 used_is a b e = cc
 
-pub in_use_good : (w : World) (e : ℕ) → Invariant w → (t : Translation) → Contains (part_of w (w.part e)).works (Use t)
-    → IsGood (open_of w).frames (part_of w (w.part e)) t
+pub in_use_good : (w : World) (e : ℕ) → Invariant w → (t : Translation) → Contains (part_of w e (w.part e)).works (Use t)
+    → IsGood (open_of w).frames (part_of w e (w.part e)) t
 in_use_good w e i t h =
     go (Contains-append_cases (gather p.uses (λ u. where_so (is_running (p.use_state u)) (use_of w.mappings p u)))
     (gather p.orders (λ k. taken_of p (p.order_state k) k)) (Use t) h)
@@ -128,13 +128,13 @@ in_use_good w e i t h =
     p = w.part e
 
     go : Contains (gather p.uses (λ u. where_so (is_running (p.use_state u)) (use_of w.mappings p u))) (Use t)
-        ⊎ Contains (gather p.orders (λ k. taken_of p (p.order_state k) k)) (Use t) → IsGood (open_of w).frames (part_of w p) t
+        ⊎ Contains (gather p.orders (λ k. taken_of p (p.order_state k) k)) (Use t) → IsGood (open_of w).frames (part_of w e p) t
     go (inl k) =
         let x = gathered p.uses (λ u. where_so (is_running (p.use_state u)) (use_of w.mappings p u)) (Use t) k in
         let y = so_in (is_running (p.use_state x.0)) (use_of w.mappings p x.0) (Use t) x.2 in
         let runs = running_is (p.use_state x.0) y.0 in
         let m = p.use_mapping x.0 in
-        subst (λ z. IsGood (open_of w).frames (part_of w p) z)
+        subst (λ z. IsGood (open_of w).frames (part_of w e p) z)
         (used_is (translation_of w.mappings p (p.use_binding x.0) (w.mappings.page m) m) t y.1)
         (good w e (p.use_binding x.0) (w.mappings.page m) m i (in_use x.0 runs) ((found w e i).in_use x.0 runs))
     go (inr k) =
@@ -146,13 +146,13 @@ in_use_good w e i t h =
 out_is : (s : RequestState) → is_out s ≡ true → is_doomed s ≡ false → s ≡ Out
 out_is s h k = grind arith
 
-pub asked : (w : World) (e : ℕ) → Invariant w → (r : Request) → Contains (part_of w (w.part e)).requests (Some r) → r.is_doomed ≡ false
-    → IsPresent (part_of w (w.part e)) r.pasid r.owner
+pub asked : (w : World) (e : ℕ) → Invariant w → (r : Request) → Contains (part_of w e (w.part e)).requests (Some r) → r.is_doomed ≡ false
+    → IsPresent (part_of w e (w.part e)) r.pasid r.owner
 asked w e i r h alive =
     let p = w.part e in
     let x = tabulated 32 (λ t. option_map (request_of p) (p.at_tag t)) (Some r) h in
     let y = mapped_some (request_of p) (p.at_tag x.0) r x.2 in
-    subst (λ z. IsPresent (part_of w p) z.pasid z.owner) y.2
+    subst (λ z. IsPresent (part_of w e p) z.pasid z.owner) y.2
     (bearer_owned w e (p.request_binding y.0) i ((found w e i).out y.0 (((labelled w e i).tag x.0 y.0).0 y.1).0).0)
 
 -- ---- the PASIDs
@@ -207,7 +207,7 @@ row_owned w e t i =
         let y = first_is w.bindings p t (λ x. not (is_off (p.pasid_state x))) b at in
         owner_is w e t b i ((found w e i).started b (started_is (p.pasid_state b) y.1)).unreleased y.2
 
-pub rows : (w : World) (e : ℕ) → Invariant w → (r : Row) → Contains (part_of w (w.part e)).rows r → IsOwned (open_of w).freed r
+pub rows : (w : World) (e : ℕ) → Invariant w → (r : Row) → Contains (part_of w e (w.part e)).rows r → IsOwned (open_of w).freed r
 rows w e i r h =
     let x = tabulated 33 (row_at w.bindings (w.part e)) r h in
     subst (λ z. IsOwned (open_of w).freed z) x.2 (row_owned w e x.0 i)
@@ -232,8 +232,8 @@ at_its_tag p tag r h =
     mapped_some (request_of p) (p.at_tag tag) r (inside (sym (tabulate_get 32 all tag low) ∙ h))
 
 completion : (w : World) (e c r : ℕ) (o : Option ℕ) → Invariant w → (w.part e).message c ≡ Some (CompletionOf r o) → (one : Flying)
-    → one.number ≡ (w.part e).resets → (q : Request) → slice_get (part_of w (w.part e)).requests ((w.part e).request_tag r) ≡ Some (Some q)
-    → IsItsOwn (open_of w).frames (part_of w (w.part e)) one ((w.part e).request_page r) (option_map (target_of w.mappings) o) q
+    → one.number ≡ (w.part e).resets → (q : Request) → slice_get (part_of w e (w.part e)).requests ((w.part e).request_tag r) ≡ Some (Some q)
+    → IsItsOwn (open_of w).frames (part_of w e (w.part e)) one ((w.part e).request_page r) (option_map (target_of w.mappings) o) q
 completion w e c r o i h one same q at =
     record {
       time = same ∙ time_is p.phase p.resets there;
@@ -267,7 +267,7 @@ finished_is : (s : GroupState) → is_answerable s ≡ true → not (is_collecti
 finished_is s h = grind arith
 
 response : (w : World) (e c g : ℕ) (code : Code) → Invariant w → (w.part e).message c ≡ Some (ResponseOf g code) → (one : Flying) → one.number ≡ g
-    → EndsItsGroup (part_of w (w.part e)) one ((w.part e).index g)
+    → EndsItsGroup (part_of w e (w.part e)) one ((w.part e).index g)
 response w e c g code i h one same =
     let p = w.part e in
     let gr = (i.parts e).groups in
@@ -282,12 +282,12 @@ response w e c g code i h one same =
     }
 
 abbrev FliesRight : World → (e : ℕ) → Flying → Type 0
-FliesRight w e one = IsRight (open_of w).settings (open_of w).frames (part_of w (w.part e)) one one.message
+FliesRight w e one = IsRight (open_of w).settings (open_of w).frames (part_of w e (w.part e)) one one.message
 
-named_right : (w : World) (p : Endpoint) (names : Bool) (k : ℕ) (one : Flying) → Contains (ended_of p names k) one
-    → IsRight (open_of w).settings (open_of w).frames (part_of w p) one one.message
-named_right w p true k one h = subst (λ z. IsRight (open_of w).settings (open_of w).frames (part_of w p) z z.message) (one_in _ one h) tt
-named_right w p false k one h = absurd (none_in one h)
+named_right : (w : World) (e : ℕ) (p : Endpoint) (names : Bool) (k : ℕ) (one : Flying) → Contains (ended_of p names k) one
+    → IsRight (open_of w).settings (open_of w).frames (part_of w e p) one one.message
+named_right w e p true k one h = subst (λ z. IsRight (open_of w).settings (open_of w).frames (part_of w e p) z z.message) (one_in _ one h) tt
+named_right w e p false k one h = absurd (none_in one h)
 
 right : (w : World) (e c : ℕ) (s : Subject) → Invariant w → (w.part e).message c ≡ Some s → (one : Flying) → Contains (sent_of w.mappings (w.part e) s) one
     → FliesRight w e one
@@ -305,7 +305,7 @@ right w e c (ResponseOf g code) i h one k =
 right w e c (RequestOf r) i h one k = subst (FliesRight w e) (one_in _ one k) tt
 right w e c (InvalidatedOf names) i h one k =
     let x = gathered (w.part e).orders (λ o. ended_of (w.part e) (names o) o) one k in
-    named_right w (w.part e) (names x.0) x.0 one x.2
+    named_right w e (w.part e) (names x.0) x.0 one x.2
 right w e c (PageRequestOf r) i h one k =
     subst (FliesRight w e) (one_in _ one k)
     (λ ph. bearer_owned w e ((w.part e).asker ((w.part e).group_of r)) i ((matched w e i).in_flight c r (open_by (w.part e).phase ph) h))
@@ -319,7 +319,7 @@ flies_right : (w : World) (e c : ℕ) (o : Option Subject) → Invariant w → (
 flies_right w e c None i h one k = absurd (none_in one k)
 flies_right w e c (Some s) i h one k = right w e c s i h one k
 
-pub flight : (w : World) (e : ℕ) → Invariant w → (one : Flying) → Contains (part_of w (w.part e)).flight one
+pub flight : (w : World) (e : ℕ) → Invariant w → (one : Flying) → Contains (part_of w e (w.part e)).flight one
     → FliesRight w e one
 flight w e i one h =
     let x = gathered w.messages (λ c. flying_of w.mappings (w.part e) ((w.part e).message c)) one h in
@@ -341,27 +341,27 @@ arrived_open p r z h = go (is_open p.phase) refl
     go true e = open_by p.phase e
     go false e = absurd (z.unarrived r (not_open p.phase e) h)
 
-come : (p : Endpoint) (one : Come)
-    → Contains (gather p.arrivals (λ k. where_so (is_arrived (p.page_request (p.arrival k))) (arrived_of p (p.arrival k)))) one
-    → (r : ℕ) × (p.page_request r ≡ Arrived) × (arrived_of p r ≡ one)
-come p one h =
-    let x = gathered p.arrivals (λ k. where_so (is_arrived (p.page_request (p.arrival k))) (arrived_of p (p.arrival k))) one h in
-    let y = so_in (is_arrived (p.page_request (p.arrival x.0))) (arrived_of p (p.arrival x.0)) one x.2 in
+come : (e : ℕ) (p : Endpoint) (one : Come)
+    → Contains (gather p.arrivals (λ k. where_so (is_arrived (p.page_request (p.arrival k))) (arrived_of e p (p.arrival k)))) one
+    → (r : ℕ) × (p.page_request r ≡ Arrived) × (arrived_of e p r ≡ one)
+come e p one h =
+    let x = gathered p.arrivals (λ k. where_so (is_arrived (p.page_request (p.arrival k))) (arrived_of e p (p.arrival k))) one h in
+    let y = so_in (is_arrived (p.page_request (p.arrival x.0))) (arrived_of e p (p.arrival x.0)) one x.2 in
     (p.arrival x.0, arrived_is (p.page_request (p.arrival x.0)) y.0, y.1)
 
-pub arrived : (w : World) (e : ℕ) → Invariant w → IsInReset (w.part e) → (one : Come) → Contains (part_of w (w.part e)).arrived one
-    → IsPresent (part_of w (w.part e)) one.request.pasid one.owner
+pub arrived : (w : World) (e : ℕ) → Invariant w → IsInReset (w.part e) → (one : Come) → Contains (part_of w e (w.part e)).arrived one
+    → IsPresent (part_of w e (w.part e)) one.request.pasid one.owner
 arrived w e i z one h =
     let p = w.part e in
-    let x = come p one h in
-    subst (λ y. IsPresent (part_of w p) y.request.pasid y.owner) x.2
+    let x = come e p one h in
+    subst (λ y. IsPresent (part_of w e p) y.request.pasid y.owner) x.2
     (bearer_owned w e (p.asker (p.group_of x.0)) i ((matched w e i).arrived x.0 (arrived_open p x.0 z x.1) x.1))
 
 pub joined : (w : World) (e : ℕ) → Invariant w → IsInReset (w.part e) → (one : Come) (f : Filed)
-    → slice_get (part_of w (w.part e)).arrived 0 ≡ Some one → Contains (part_of w (w.part e)).filed f → f.index ≡ one.request.index → f.number ≡ one.number
+    → slice_get (part_of w e (w.part e)).arrived 0 ≡ Some one → Contains (part_of w e (w.part e)).filed f → f.index ≡ one.request.index → f.number ≡ one.number
 joined w e i z one f h k same =
     let p = w.part e in
-    let x = come p one (oldest_in (part_of w p).arrived one h) in
+    let x = come e p one (oldest_in (part_of w e p).arrived one h) in
     let y = gathered p.groups (λ g. where_so (is_open_group (p.host_group g)) (filed_of p g)) f k in
     let v = so_in (is_open_group (p.host_group y.0)) (filed_of p y.0) f y.2 in
     let ph = arrived_open p x.0 z x.1 in
@@ -373,16 +373,16 @@ joined w e i z one f h k same =
 -- ---- the whole
 
 pub safe_part : (w : World) (e : ℕ) → Invariant w → IsInReset (w.part e)
-    → IsSafePart (open_of w).settings (open_of w).frames (open_of w).freed (open_of w).domains (part_of w (w.part e))
+    → IsSafePart (open_of w).settings (open_of w).frames (open_of w).freed (open_of w).domains (part_of w e (w.part e))
 safe_part w e i z =
     record {
       held = held w e i;
       in_use = in_use_good w e i;
       asked = asked w e i;
       flight = flight w e i;
-      arrived = arrived w e i z;
-      joined = λ one f h k part_filed pasid index. joined w e i z one f h k index;
-      received = λ one h. absurd (none_in (Asked one) h);
+      arrived = λ one h own. arrived w e i z one h;
+      joined = λ one f h own k part_filed pasid index. joined w e i z one f h k index;
+      received = λ one h own. absurd (none_in (Asked one) h);
       filed = λ works. absurd (cc works);
       served = λ works. absurd (cc works);
       rows = rows w e i;
@@ -395,6 +395,6 @@ pub safe : (w : World) → Invariant w → ((e : ℕ) → IsInReset (w.part e)) 
 safe w i z =
     record {
       parts = λ part h.
-          let x = tabulated w.config.endpoints (λ e. part_of w (w.part e)) part h in
+          let x = tabulated w.config.endpoints (λ e. part_of w e (w.part e)) part h in
           subst (λ y. IsSafePart (open_of w).settings (open_of w).frames (open_of w).freed (open_of w).domains y) x.2 (safe_part w x.0 i (z x.0));
     }

@@ -86,7 +86,7 @@ started_in_row w e b i h =
 
 out_shown : (w : World) (e r : ℕ) → Invariant w → is_out ((w.part e).request r) ≡ true
     → IsOfOne w e ((w.part e).request_binding r)
-    × (slice_get (part_of w (w.part e)).requests ((w.part e).request_tag r) ≡ Some (Some (request_of (w.part e) r)))
+    × (slice_get (part_of w e (w.part e)).requests ((w.part e).request_tag r) ≡ Some (Some (request_of (w.part e) r)))
 out_shown w e r i h =
     let p = w.part e in
     let at = ((labelled w e i).tag (p.request_tag r) r).1 (h, refl) in (
@@ -116,7 +116,7 @@ named_one w e c (MarkerOf b) i h = unreleased_one w e b i (ap is_unreleased ((i.
 named_one w e c ResetDone i h = tt
 
 flies : (w : World) (e c : ℕ) (s : Subject) → Invariant w → (w.part e).message c ≡ Some s → (one : Flying)
-    → Contains (sent_of w.mappings (w.part e) s) one → Contains (part_of w (w.part e)).flight one
+    → Contains (sent_of w.mappings (w.part e) s) one → Contains (part_of w e (w.part e)).flight one
 flies w e c s i h one k =
     let p = w.part e in
     in_gather w.messages (λ x. flying_of w.mappings p (p.message x)) c one (sent_low w.messages p c s ((i.parts e).resets.unsent c) h)
@@ -124,34 +124,34 @@ flies w e c s i h one k =
 
 -- ---- page requests
 
-abbrev arrivals_at : Endpoint → ℕ → List Come
-arrivals_at p k = where_so (is_arrived (p.page_request (p.arrival k))) (arrived_of p (p.arrival k))
+abbrev arrivals_at : (e : ℕ) → Endpoint → ℕ → List Come
+arrivals_at e p k = where_so (is_arrived (p.page_request (p.arrival k))) (arrived_of e p (p.arrival k))
 
 has_arrived : (w : World) (e r : ℕ) → Invariant w → (w.part e).page_request r ≡ Arrived
-    → IsOfOne w e ((w.part e).asker ((w.part e).group_of r)) × Contains (part_of w (w.part e)).arrived (arrived_of (w.part e) r)
+    → IsOfOne w e ((w.part e).asker ((w.part e).group_of r)) × Contains (part_of w e (w.part e)).arrived (arrived_of e (w.part e) r)
 has_arrived w e r i h =
     let p = w.part e in
     let x = (i.parts e).queued.arrived r h in (
       asker_one w e r i (arrived_made w.bindings p (i.parts e).bounds r h),
-      in_gather p.arrivals (arrivals_at p) (p.arrived_as r) (arrived_of p r) x.0
-          (subst (λ z. Contains (where_so (is_arrived (p.page_request z)) (arrived_of p z)) (arrived_of p r)) (sym x.1)
-          (subst (λ z. Contains (where_so (is_arrived z) (arrived_of p r)) (arrived_of p r)) (sym h) (in_one (arrived_of p r)))),
+      in_gather p.arrivals (arrivals_at e p) (p.arrived_as r) (arrived_of e p r) x.0
+          (subst (λ z. Contains (where_so (is_arrived (p.page_request z)) (arrived_of e p z)) (arrived_of e p r)) (sym x.1)
+          (subst (λ z. Contains (where_so (is_arrived z) (arrived_of e p r)) (arrived_of e p r)) (sym h) (in_one (arrived_of e p r)))),
     )
 
 oldest_first : (w : World) (e : ℕ) → Invariant w → (w.part e).page_request (oldest_arrived (w.part e)) ≡ Arrived
-    → slice_get (part_of w (w.part e)).arrived 0 ≡ Some (arrived_of (w.part e) (oldest_arrived (w.part e)))
+    → slice_get (part_of w e (w.part e)).arrived 0 ≡ Some (arrived_of e (w.part e) (oldest_arrived (w.part e)))
 oldest_first w e i h =
     let p = w.part e in
     let r = oldest_arrived p in
     let x = (i.parts e).queued.arrived r h in
     let waits : is_waiting p (p.arrived_as r) ≡ true = ap (λ z. is_arrived (p.page_request z)) x.1 ∙ ap is_arrived h in
     let y = lowest_below p.arrivals (is_waiting p) (p.arrived_as r) x.0 waits in
-    first_gathered p.arrivals (arrivals_at p) (lowest p.arrivals (is_waiting p)) (arrived_of p r) y.0
-    (λ j l. ap (λ z. where_so z (arrived_of p (p.arrival j))) (y.2 j l))
-    (ap (λ z. where_so z (arrived_of p r)) y.1)
+    first_gathered p.arrivals (arrivals_at e p) (lowest p.arrivals (is_waiting p)) (arrived_of e p r) y.0
+    (λ j l. ap (λ z. where_so z (arrived_of e p (p.arrival j))) (y.2 j l))
+    (ap (λ z. where_so z (arrived_of e p r)) y.1)
 
 part_filed : (w : World) (e g : ℕ) → Invariant w → (w.part e).host_group g ≡ PartFiled
-    → Contains (part_of w (w.part e)).filed (filed_of (w.part e) g)
+    → Contains (part_of w e (w.part e)).filed (filed_of (w.part e) g)
 part_filed w e g i h =
     let p = w.part e in
     in_gather p.groups (λ z. where_so (is_open_group (p.host_group z)) (filed_of p z)) g (filed_of p g)
@@ -161,7 +161,7 @@ part_filed w e g i h =
 pub shows : (w : World) → Invariant w → FindsMappings w.mappings → ShowsAll w
 shows w i fi =
     record {
-      part = λ e l. tabulate_get w.config.endpoints (λ x. part_of w (w.part x)) e l;
+      part = λ e l. tabulate_get w.config.endpoints (λ x. part_of w x (w.part x)) e l;
       usable = λ e b q m u. (
         (near w e b q m i u, bound_by ((w.part e).stage b) (owner w e b q m i u)),
         made w e b q m i u,

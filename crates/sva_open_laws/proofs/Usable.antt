@@ -109,12 +109,12 @@ alive : (p : Endpoint) (r : ℕ) → p.request r ≡ Out
       page = p.request_page r;
       owner = owner_of p (p.request_binding r);
       is_doomed = false;
+      noted = None;
     }
-alive p r h =
-    ap (λ z. record { pasid = p.pasid (p.request_binding r); page = p.request_page r; owner = owner_of p (p.request_binding r); is_doomed = is_doomed z }) h
+alive p r h = ap (λ z. record (request_of p r) { is_doomed = is_doomed z }) h
 
 pub shown_at : (w : World) (e b q m : ℕ) → Invariant w → Usable w e b q m
-    → IsShown (part_of w (w.part e)) (translation_of w.mappings (w.part e) b q m)
+    → IsShown (part_of w e (w.part e)) (translation_of w.mappings (w.part e) b q m)
 shown_at w e b q m i (cached r k h) =
     let p = w.part e in
     let low = held_low 0 p r k ((i.parts e).bounds.held r) h in
@@ -161,7 +161,7 @@ later_owner p b n bo l =
     (and_from (is_bound (p.stage b)) (p.pasid b == p.pasid b) bo (eq-eqb (p.pasid b) (p.pasid b) refl))
 
 pub unreleased_of : (w : World) (e b : ℕ) → Invariant w → is_bound ((w.part e).stage b) ≡ true
-    → IsPresent (part_of w (w.part e)) ((w.part e).pasid b) (owner_of (w.part e) b) → is_unreleased ((w.part e).stage b) ≡ true
+    → IsPresent (part_of w e (w.part e)) ((w.part e).pasid b) (owner_of (w.part e) b) → is_unreleased ((w.part e).stage b) ≡ true
 unreleased_of w e b i bo there = go (p.at_pasid (p.pasid b)) refl
   where
     p : Endpoint

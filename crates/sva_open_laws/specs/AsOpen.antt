@@ -183,6 +183,7 @@ request_of part request =
       page = part.request_page request;
       owner = owner_of part (part.request_binding request);
       is_doomed = is_doomed (part.request request);
+      noted = None;
     }
 
 abbrev pub use_of : Mappings → Endpoint → (used : ℕ) → Work
@@ -211,6 +212,7 @@ group_of part group =
       owner = owner_of part (part.asker group);
       number = group;
       is_finished = not (is_collecting (part.group group));
+      noted = None;
     }
 
 -- ---- messages
@@ -274,14 +276,14 @@ flying_of mappings part (Some what) = sent_of mappings part what
 
 -- ---- the unit
 
-abbrev pub descriptor_of : Endpoint → Order → Descriptor
-descriptor_of part (RangeOf binding range) = descriptor.Device (scope_of part (RangeOf binding range))
-descriptor_of part (PasidOf binding) = descriptor.Device (scope_of part (PasidOf binding))
-descriptor_of part (Wait cookie drain) = descriptor.Wait cookie drain true
+abbrev pub descriptor_of : (endpoint : ℕ) → Endpoint → Order → Descriptor
+descriptor_of endpoint part (RangeOf binding range) = descriptor.Device endpoint (scope_of part (RangeOf binding range))
+descriptor_of endpoint part (PasidOf binding) = descriptor.Device endpoint (scope_of part (PasidOf binding))
+descriptor_of endpoint part (Wait cookie drain) = descriptor.Wait cookie drain true
 
-abbrev pub arrived_of : Endpoint → (request : ℕ) → Arrived
-arrived_of part request =
-    record { request = asked_of part request; owner = owner_of part (part.asker (part.group_of request)); number = part.group_of request }
+abbrev pub arrived_of : (endpoint : ℕ) → Endpoint → (request : ℕ) → Arrived
+arrived_of endpoint part request =
+    record { endpoint = endpoint; request = asked_of part request; owner = owner_of part (part.asker (part.group_of request)); number = part.group_of request }
 
 abbrev pub is_part_filed : HostGroupState → Bool
 is_part_filed PartFiled = true
@@ -300,10 +302,11 @@ filed_of part group =
 
 -- ---- the whole
 
--- nothing is turned off at an endpoint, and none is removed; nor does an invalidation run out of time
-abbrev pub part_of : World → Endpoint → Part
-part_of world part =
+-- nothing is turned off at an endpoint, and none is removed; nor does an invalidation run out of time; each has a unit of its own
+abbrev pub part_of : World → (endpoint : ℕ) → Endpoint → Part
+part_of world endpoint part =
     record {
+      endpoint = endpoint;
       rows = tabulate (suc Limits.pasids) (row_at world.bindings part);
       requests = tabulate Limits.request_tags (λ t. option_map (request_of part) (part.at_tag t));
       held = gather part.requests (λ r. if_there (held_of world.mappings part r));
@@ -319,14 +322,14 @@ part_of world part =
       time = time_of part;
       flight = gather world.messages (λ c. flying_of world.mappings part (part.message c));
       is_open = is_open part.phase;
-      queue = gather part.orders (λ k. where_so (is_queued (part.order_state k)) (descriptor_of part (part.order k)));
-      issued = gather part.orders (λ k. where_so (is_busy (part.order_state k)) (issued.Sent (part.itag k)));
+      queue = gather part.orders (λ k. where_so (is_queued (part.order_state k)) (descriptor_of endpoint part (part.order k)));
+      issued = gather part.orders (λ k. where_so (is_busy (part.order_state k)) (issued.Sent endpoint (part.itag k)));
       aborted = [];
       is_stalled = false;
       kept_entries = [];
       kept = [];
       received = [];
-      arrived = gather part.arrivals (λ k. where_so (is_arrived (part.page_request (part.arrival k))) (arrived_of part (part.arrival k)));
+      arrived = gather part.arrivals (λ k. where_so (is_arrived (part.page_request (part.arrival k))) (arrived_of endpoint part (part.arrival k)));
       filed = gather part.groups (λ g. where_so (is_open_group (part.host_group g)) (filed_of part g));
     }
 
@@ -349,7 +352,8 @@ open_of world =
       frames = tabulate world.config.frames (tenure_of world);
       freed = select world.spaces (λ s. not (world.is_live s));
       domains = [];
-      parts = tabulate world.config.endpoints (λ e. part_of world (world.part e));
+      parts = tabulate world.config.endpoints (λ e. part_of world e (world.part e));
+      units = [];
     }
 
 -- What is called safe of whatever host is what this project's own always is.

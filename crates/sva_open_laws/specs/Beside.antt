@@ -99,7 +99,7 @@ abbrev pub closed_after : List Step → Open
 closed_after steps = open_of (world_after PerSpace one_endpoint steps)
 
 abbrev pub before_all : Open
-before_all = opened (closed_after []).settings (record { lies = false; awaits = false } ∷ []) 33 4
+before_all = opened (closed_after []).settings (record { lies = false; awaits = false } ∷ []) [] 33 4
 
 abbrev pub StandBeside : List Step → List Move → Type 0
 StandBeside steps moves = option_map shown (moved_by moves before_all) ≡ Some (shown (closed_after steps))
@@ -120,7 +120,7 @@ sent_steps = asked_steps ++ step.Unmap 0 16 1 ∷ step.Pump 0 ∷ []
 abbrev pub sent_moves : List Move
 sent_moves =
     asked_moves ++ Move.Does (act.ClearPage 0 16)
-    ∷ Move.Submits (descriptor.Device (scope.Pages 1 16 1) ∷ descriptor.Wait 0 false true ∷ [])
+    ∷ Move.Submits (descriptor.Device 0 (scope.Pages 1 16 1) ∷ descriptor.Wait 0 false true ∷ [])
     ∷ Move.Does (act.At 0 local.Pump) ∷ []
 
 -- the pump that ends the wait frees the frame

@@ -5,6 +5,7 @@ pub mod Covered
 pub mod Ends
 pub mod Fresh
 pub mod LinkOrders
+pub mod OneUnit
 pub mod PageRows
 pub mod Pages
 pub mod Shown

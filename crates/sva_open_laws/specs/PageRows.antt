@@ -18,7 +18,7 @@ leading_at page = record { pasid = 0; page = page; owner = 0; target = record { 
 -- an endpoint that is to stop PASID 0, under which it uses page 17 and, begun later, page 16
 abbrev stopping : Part
 stopping =
-    record (part_opened 1 (record { lies = false; awaits = false })) {
+    record (part_opened 1 0 (record { lies = false; awaits = false })) {
       rows = record blank { state = Stopping } ∷ [];
       works = Use (leading_at 17) ∷ Use (leading_at 16) ∷ [];
     }
@@ -38,7 +38,7 @@ LessIsAwaited = (settings : Settings)
     × (is_some (next_part settings [] (its_part 18 stopping) local.AwaitIdle) ≡ true)
 
 abbrev asked : (page : ℕ) → Request
-asked page = record { pasid = 0; page = page; owner = 0; is_doomed = false }
+asked page = record { pasid = 0; page = page; owner = 0; is_doomed = false; noted = None }
 
 -- Other pages can't be taken for one, though they all lead nowhere: an invalidation of page 18 dooms the request for that, and not the
 -- one for page 17.

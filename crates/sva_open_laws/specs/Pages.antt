@@ -10,7 +10,7 @@ use Rattle.sva_open.specs.declared.messages.Message.{Message}
 use Rattle.sva_open.specs.declared.messages.Message.TheVariants as message
 use Rattle.sva_open.specs.declared.messages.Sent.{Sent}
 use Rattle.sva_open.specs.declared.works.Work.{Work}
-use Rattle.sva_open.specs.declared.works.Work.TheVariants.{Use, Taken}
+use Rattle.sva_open.specs.declared.works.Work.TheVariants.{Use, Taken, Draining}
 use Rattle.sva_open.specs.declared.acts.Act.{Act}
 use Rattle.sva_open.specs.declared.acts.Act.TheVariants as act
 use Rattle.sva_open.specs.declared.acts.LocalAct.{LocalAct}
@@ -28,10 +28,11 @@ leads_at page mapping = mapping.page == page
 abbrev pub is_at : (page : ℕ) → Translation → Bool
 is_at page translation = translation.page == page
 
--- an invalidation that is taken is there for each, whatever it covers
+-- an invalidation that is taken is there for each, whatever it covers; and so is a barrier
 abbrev pub is_work_at : (page : ℕ) → Work → Bool
 is_work_at page (Use translation) = is_at page translation
 is_work_at page (Taken itag scope) = true
+is_work_at page (Draining barrier) = true
 
 -- so is a completion; where it is of another page, it says that this leads nowhere
 abbrev pub target_if : Bool → Option Target → Option Target
@@ -102,6 +103,7 @@ its_local page part (local.Use pasid other) = if_so (other == page) (local.Use p
 its_local page part (local.Evict pasid other) = if_so (other == page) (local.Evict pasid other)
 its_local page part (local.End place) = moved_in (is_work_at page) part.works place local.End
 its_local page part (local.Finish place) = moved_in (is_work_at page) part.works place local.Finish
+its_local page part (local.Pass place) = moved_in (is_work_at page) part.works place local.Pass
 its_local page part (local.Forget place) = moved_in (is_at page) part.kept place local.Forget
 its_local page part its = Some its
 

@@ -43,7 +43,7 @@ pub data IsShown (part : Part) (translation : Translation) : Type 0 where
       → Contains part.flight one
       → one.message ≡ message.Completion tag translation.page (Some translation.target)
       → slice_get part.requests tag ≡ Some (Some request)
-      → request ≡ record { pasid = translation.pasid; page = translation.page; owner = translation.owner; is_doomed = false }
+      → request ≡ record { pasid = translation.pasid; page = translation.page; owner = translation.owner; is_doomed = false; noted = None }
       → IsShown part translation
 
 -- the binding that a message names by its PASID
@@ -68,14 +68,14 @@ pub record ShowsAll (world : World) : Type 0 where
   pub part :
       (endpoint : ℕ)
       → endpoint < world.config.endpoints
-      → slice_get (open_of world).parts endpoint ≡ Some (part_of world (world.part endpoint))
+      → slice_get (open_of world).parts endpoint ≡ Some (part_of world endpoint (world.part endpoint))
   -- each usable translation is shown at its endpoint, of a binding and by a mapping that there was
   pub usable :
       (endpoint binding page mapping : ℕ)
       → Usable world endpoint binding page mapping
       → IsOfOne world endpoint binding
       × (mapping < world.mappings.made)
-      × IsShown (part_of world (world.part endpoint)) (translation_of world.mappings (world.part endpoint) binding page mapping)
+      × IsShown (part_of world endpoint (world.part endpoint)) (translation_of world.mappings (world.part endpoint) binding page mapping)
   -- what a mapping leads to is current exactly where it is the last mapping of its frame, and the frame isn't free
   pub current :
       (mapping : ℕ)
@@ -86,7 +86,7 @@ pub record ShowsAll (world : World) : Type 0 where
   pub owner :
       (endpoint binding : ℕ)
       → is_bound ((world.part endpoint).stage binding) ≡ true
-      → IsPresent (part_of world (world.part endpoint)) ((world.part endpoint).pasid binding) (owner_of (world.part endpoint) binding)
+      → IsPresent (part_of world endpoint (world.part endpoint)) ((world.part endpoint).pasid binding) (owner_of (world.part endpoint) binding)
       ↔ IsBearer (world.part endpoint) binding
   -- in the row of its PASID each binding that is Live, and a space that there was; each whose marker is noted; and each under
   -- which the endpoint goes on
@@ -108,7 +108,7 @@ pub record ShowsAll (world : World) : Type 0 where
       (endpoint request : ℕ)
       → is_out ((world.part endpoint).request request) ≡ true
       → IsOfOne world endpoint ((world.part endpoint).request_binding request)
-      × (slice_get (part_of world (world.part endpoint)).requests ((world.part endpoint).request_tag request)
+      × (slice_get (part_of world endpoint (world.part endpoint)).requests ((world.part endpoint).request_tag request)
       ≡ Some (Some (request_of (world.part endpoint) request)))
   -- each message in flight is shown
   pub flight :
@@ -116,21 +116,23 @@ pub record ShowsAll (world : World) : Type 0 where
       → (world.part endpoint).message message ≡ Some subject
       → (endpoint < world.config.endpoints)
       × IfSome (named_in (world.part endpoint) subject) (IsOfOne world endpoint)
-      × ((one : Sent) → Contains (sent_of world.mappings (world.part endpoint) subject) one → Contains (part_of world (world.part endpoint)).flight one)
+      × ((one : Sent) → Contains (sent_of world.mappings (world.part endpoint) subject) one
+      → Contains (part_of world endpoint (world.part endpoint)).flight one)
   -- each page request that has arrived is, and the oldest is the first; and each group that the host has filed in part
   pub arrived :
       (endpoint request : ℕ)
       → (world.part endpoint).page_request request ≡ Arrived
       → IsOfOne world endpoint (asker_of (world.part endpoint) request)
-      × Contains (part_of world (world.part endpoint)).arrived (arrived_of (world.part endpoint) request)
+      × Contains (part_of world endpoint (world.part endpoint)).arrived (arrived_of endpoint (world.part endpoint) request)
   pub oldest :
       (endpoint : ℕ)
       → (world.part endpoint).page_request (oldest_arrived (world.part endpoint)) ≡ Arrived
-      → slice_get (part_of world (world.part endpoint)).arrived 0 ≡ Some (arrived_of (world.part endpoint) (oldest_arrived (world.part endpoint)))
+      → slice_get (part_of world endpoint (world.part endpoint)).arrived 0
+      ≡ Some (arrived_of endpoint (world.part endpoint) (oldest_arrived (world.part endpoint)))
   pub filed :
       (endpoint group : ℕ)
       → (world.part endpoint).host_group group ≡ PartFiled
-      → Contains (part_of world (world.part endpoint)).filed (filed_of (world.part endpoint) group)
+      → Contains (part_of world endpoint (world.part endpoint)).filed (filed_of (world.part endpoint) group)
 
 abbrev pub ClosedIsShown : Type 0
 ClosedIsShown = (rule : PasidRule) (config : Config) (steps : List Step) → Fits config → ShowsAll (world_after rule config steps)

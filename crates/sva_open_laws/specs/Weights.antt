@@ -12,7 +12,7 @@ use Rattle.sva_open.specs.declared.messages.Message.TheVariants as message
 use Rattle.sva_open.specs.declared.messages.Sent.{Sent}
 use Rattle.sva_open.specs.declared.works.Group.{Group}
 use Rattle.sva_open.specs.declared.works.Work.{Work}
-use Rattle.sva_open.specs.declared.works.Work.TheVariants.{Use, Taken}
+use Rattle.sva_open.specs.declared.works.Work.TheVariants.{Use, Taken, Draining}
 use Rattle.sva_open.specs.declared.descriptors.Descriptor.{Descriptor}
 use Rattle.sva_open.specs.declared.descriptors.Descriptor.TheVariants as descriptor
 use Rattle.sva_open.specs.declared.descriptors.Issued.{Issued}
@@ -38,10 +38,11 @@ translation_weight translation = 1
 abbrev pub entry_weight : KeptEntry → ℕ
 entry_weight kept = 1
 
--- a use ends; an invalidation that is taken comes to its completion
+-- a use ends; an invalidation that is taken comes to its completion, and a barrier to its answer
 abbrev pub work_weight : Work → ℕ
 work_weight (Use translation) = 1
 work_weight (Taken itag scope) = 2
+work_weight (Draining barrier) = 2
 
 -- a PASID that has to stop comes to its answer
 abbrev pub state_weight : State → ℕ
@@ -54,7 +55,7 @@ abbrev pub row_weight : Row → ℕ
 row_weight row = state_weight row.state
 
 -- a message that is delivered goes; a request comes to its completion, with what a unit keeps of it, and that to a translation; an
--- invalidation is taken; a stop has to be answered; a reset comes to its reset-done; a page request is received
+-- invalidation is taken, as a barrier is; a stop has to be answered; a reset comes to its reset-done; a page request is received
 abbrev pub message_weight : Message → ℕ
 message_weight (message.Start pasid) = 1
 message_weight (message.Stop pasid) = 3
@@ -68,6 +69,8 @@ message_weight (message.PageRequest request) = 5
 message_weight (message.Marker pasid) = 1
 message_weight (message.Status pasid) = 1
 message_weight message.ResetDone = 1
+message_weight (message.Barrier barrier) = 3
+message_weight (message.Passed barrier) = 1
 
 abbrev pub sent_weight : Sent → ℕ
 sent_weight one = message_weight one.message
@@ -133,6 +136,7 @@ abbrev pub local_price : LocalAct → ℕ
 local_price (local.Start pasid) = 2
 local_price (local.Stop pasid) = 4
 local_price local.Reset = 3
+local_price (local.Barrier barrier) = 4
 local_price (local.Submit descriptors) = sum_by descriptor_weight descriptors.items + 1
 local_price (local.Respond pasid index fails) = 2
 local_price (local.Ask pasid page) = 6
@@ -143,6 +147,7 @@ local_price local.Serve = 0
 local_price (local.End place) = 0
 local_price (local.Evict pasid page) = 0
 local_price (local.Finish place) = 0
+local_price (local.Pass place) = 0
 local_price (local.Quit pasid) = 0
 local_price local.Leave = 0
 local_price local.Pump = 0

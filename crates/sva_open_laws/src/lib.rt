@@ -6,6 +6,7 @@ mod alongside;
 mod ends;
 mod fresh;
 mod pages;
+mod units;
 
 ghost use Rattle.sva_open_laws.specs.AsOpen.{ClosedIsSafe};
 ghost use Rattle.sva_open_laws.specs.Beside.{RunsBeside};
@@ -15,6 +16,7 @@ pub use alongside::{orders_are_one, scopes_are_one, steps_are_acts};
 pub use ends::{each_act_is_paid, each_driver_ends, texts_go_forward};
 pub use fresh::numbers_are_fresh;
 pub use pages::{pages_stand_alone, rows_of_pages};
+pub use units::endpoints_see_one_unit;
 
 /// After every list of steps the world, seen as an open one, is safe. And it is seen whole: all of which its safety
 /// speaks is shown, and a translation is current exactly where it leads to its frame by the last mapping of it and the

@@ -9,6 +9,7 @@ mod PlainLinks
 mod PlainLists
 pub mod PlainWorlds
 pub mod Sound
+mod SwapBelow
 pub mod SwapParts
 pub mod SwapWorlds
 pub mod Tested

@@ -8,7 +8,7 @@ use Rattle.sva_open.specs.World.{Open, Part, group_at, is_off, or_else}
 use Rattle.sva_open.specs.Host.{is_joined}
 use Rattle.sva_open.specs.Checks.{is_answer_owned, is_current_at, is_entry_owned, is_its_end, is_freed, is_good, is_good_arrived}
 use Rattle.sva_open.specs.Checks.{is_good_entry, is_good_kept, is_good_request, is_good_work, is_its_own, is_owned, is_present, is_right}
-use Rattle.sva_open.specs.Checks.{is_good_filed, is_good_received, is_space_there, joins_own, joins_own_group}
+use Rattle.sva_open.specs.Checks.{is_good_filed, is_good_received, is_of_endpoint, is_space_there, joins_own, joins_own_group}
 use Rattle.sva_open.specs.declared.descriptors.Arrived.{Arrived}
 use Rattle.sva_open.specs.declared.descriptors.Filed.{Filed}
 use Rattle.sva_open.specs.declared.descriptors.Received.{Received}
@@ -26,7 +26,7 @@ use Rattle.sva_open.specs.declared.settings.Settings.{Settings}
 use Rattle.sva_open.specs.declared.works.Group.{Group}
 use Rattle.sva_open.specs.declared.works.Request.{Request}
 use Rattle.sva_open.specs.declared.works.Work.{Work}
-use Rattle.sva_open.specs.declared.works.Work.TheVariants.{Use, Taken}
+use Rattle.sva_open.specs.declared.works.Work.TheVariants.{Use, Taken, Draining}
 use Rattle.sva_open_safe.specs.Wrongs as wrongs
 use Rattle.sva_open_safe.specs.declared.wrongs.Sort.{Sort}
 use Rattle.sva_open_safe.specs.declared.wrongs.Sort.TheVariants as sort
@@ -159,6 +159,7 @@ pub good_work : (now : Open) (e : ℕ) (part : Part) (x : Work)
     ≡ quiet (wrongs.work_wrong sort.Freed now e x) && (quiet (wrongs.work_wrong sort.Frozen now e x) && quiet (wrongs.work_left part e x))
 good_work now e part (Use x) = led x.target (slice_get now.frames x.target.frame) (is_present part x.pasid x.owner) _ _ _
 good_work now e part (Taken itag scope) = refl
+good_work now e part (Draining barrier) = refl
 
 unless : (present : Bool) (u : Wrong) → present ≡ quiet (wrongs.if_so (not present) u)
 unless true u = refl
@@ -295,6 +296,8 @@ right now e part one (message.PageRequest request) = upward part.is_open (is_pre
 right now e part one (message.Marker pasid) = upward part.is_open (is_present part pasid one.owner) _
 right now e part one (message.Status pasid) = only (is_present part pasid one.owner) _
 right now e part one message.ResetDone = refl
+right now e part one (message.Barrier barrier) = refl
+right now e part one (message.Passed barrier) = refl
 
 -- ---- PASIDs
 
@@ -358,10 +361,20 @@ walked freed e part = at (position (wrongs.is_walked freed) part.rows) refl
 -- ---- what the unit has
 
 pub good_arrived : (e : ℕ) (part : Part) (one : Arrived) → is_good_arrived part one ≡ quiet (wrongs.arrived_left part e one)
-good_arrived e part one = unless (is_present part one.request.pasid one.owner) _
+good_arrived e part one = at (is_of_endpoint part.endpoint one)
+  where
+    at : (own : Bool) → not own || is_present part one.request.pasid one.owner
+        ≡ quiet (if own then wrongs.left_of part e thing.Queued one.request.pasid one.owner else None)
+    at true = unless (is_present part one.request.pasid one.owner) _
+    at false = refl
 
 pub good_received : (e : ℕ) (part : Part) (one : Received) → is_good_received part one ≡ quiet (wrongs.received_left part e one)
-good_received e part (Asked one) = unless (is_present part one.request.pasid one.owner) _
+good_received e part (Asked one) = at (is_of_endpoint part.endpoint one)
+  where
+    at : (own : Bool) → not own || is_present part one.request.pasid one.owner
+        ≡ quiet (if own then wrongs.left_of part e thing.Received one.request.pasid one.owner else None)
+    at true = unless (is_present part one.request.pasid one.owner) _
+    at false = refl
 good_received e part (Drain name) = refl
 
 pub good_filed : (settings : Settings) (domains : List ℕ) (e : ℕ) (part : Part) (one : Filed)
@@ -399,10 +412,9 @@ good_entry freed e part one = at (is_present part one.pasid one.entry.owner) (is
     at true false u w = refl
     at false gone u w = refl
 
-pub joined : (e : ℕ) (filed : List Filed) (first : Option Arrived) → joins_own_group filed first ≡ quiet (wrongs.joins e filed first)
-joined e filed None = refl
-joined e filed (Some one) =
-    each_same (joins_own one) (λ it. quiet (wrongs.joined_by e one it)) own filed ∙ sym (quiet_in (wrongs.joined_by e one) filed)
+pub joined : (e : ℕ) (part : Part) (first : Option Arrived) → joins_own_group part.endpoint part.filed first ≡ quiet (wrongs.joins part e first)
+joined e part None = refl
+joined e part (Some one) = if_own (is_of_endpoint part.endpoint one)
   where
     at : (joins own : Bool) (u : Wrong) → not joins || own ≡ quiet (wrongs.if_so (joins && not own) u)
     at true true u = refl
@@ -411,3 +423,8 @@ joined e filed (Some one) =
 
     own : (it : Filed) → joins_own one it ≡ quiet (wrongs.joined_by e one it)
     own it = at (is_joined one.request it) (it.number == one.number) _
+
+    if_own : (b : Bool) → not b || list_all (joins_own one) part.filed ≡ quiet (if b then wrongs.first_in (wrongs.joined_by e one) part.filed else None)
+    if_own true =
+        each_same (joins_own one) (λ it. quiet (wrongs.joined_by e one it)) own part.filed ∙ sym (quiet_in (wrongs.joined_by e one) part.filed)
+    if_own false = refl

@@ -18,7 +18,7 @@ use Rattle.sva_open.specs.declared.messages.Sent.{Sent}
 use Rattle.sva_open.specs.declared.works.Request.{Request}
 use Rattle.sva_open.specs.declared.works.Group.{Group}
 use Rattle.sva_open.specs.declared.works.Work.{Work}
-use Rattle.sva_open.specs.declared.works.Work.TheVariants.{Use, Taken}
+use Rattle.sva_open.specs.declared.works.Work.TheVariants.{Use, Taken, Draining}
 use Rattle.sva_open.specs.declared.descriptors.Arrived.{Arrived}
 use Rattle.sva_open.specs.declared.descriptors.Filed.{Filed}
 use Rattle.sva_open.specs.declared.descriptors.Received.{Received}
@@ -30,7 +30,7 @@ use Rattle.sva_open.specs.Safe.{EndsItsGroup, EndsNone, IsCurrent, IsGood, IsIts
 use Rattle.sva_open.specs.Checks.{IsTest, ends_its_group, ends_none, is_answer_owned, is_current, is_current_at, is_entry_owned, is_its_end, is_freed, is_good}
 use Rattle.sva_open.specs.Checks.{is_good_arrived, is_good_entry, is_good_kept, is_good_request, is_good_work, is_its_own, is_owned, is_owner}
 use Rattle.sva_open.specs.Checks.{is_present, is_right, is_right_sent, is_safe, is_safe_device, is_safe_part, is_safe_unit, joins_own, joins_own_group}
-use Rattle.sva_open.specs.Checks.{are_good_filed, is_good_filed, is_good_received, is_safe_for_workers, is_space_there, may_be_held}
+use Rattle.sva_open.specs.Checks.{are_good_filed, is_good_filed, is_good_received, is_of_endpoint, is_safe_for_workers, is_space_there, may_be_held}
 
 -- ---- tests
 
@@ -126,6 +126,7 @@ good_work : (frames : List Tenure) (part : Part) (s : (translation : Translation
     (work : Work) → Contains part.works work → is_good_work frames part work ≡ true
 good_work frames part s (Use translation) has = is_good_by frames part translation (s translation has)
 good_work frames part s (Taken itag scope) has = refl
+good_work frames part s (Draining barrier) has = refl
 
 good_request : (part : Part)
     (s : (request : Request) → Contains part.requests (Some request) → request.is_doomed ≡ false → IsPresent part request.pasid request.owner)
@@ -222,6 +223,8 @@ right settings frames part one (message.PageRequest request) h = λ k. present p
 right settings frames part one (message.Marker pasid) h = λ k. present part pasid one.owner (other (not part.is_open) _ h (ap not k))
 right settings frames part one (message.Status pasid) h = present part pasid one.owner h
 right settings frames part one message.ResetDone h = tt
+right settings frames part one (message.Barrier barrier) h = tt
+right settings frames part one (message.Passed barrier) h = tt
 
 is_right_by : (settings : Settings) (frames : List Tenure) (part : Part) (one : Sent) (it : Message)
     → IsRight settings frames part one it → is_right settings frames part one it ≡ true
@@ -239,33 +242,47 @@ is_right_by settings frames part one (message.Marker pasid) r =
     or_by (not part.is_open) _ (λ k. is_present_by part pasid one.owner (r (not-false part.is_open k)))
 is_right_by settings frames part one (message.Status pasid) r = is_present_by part pasid one.owner r
 is_right_by settings frames part one message.ResetDone r = refl
+is_right_by settings frames part one (message.Barrier barrier) r = refl
+is_right_by settings frames part one (message.Passed barrier) r = refl
 
 -- ---- the unit
 
+-- what is asked of the endpoint's own page requests alone
+if_own : (part : Part) (one : Arrived) {b : Bool} → (one.endpoint ≡ part.endpoint → b ≡ true) → not (is_of_endpoint part.endpoint one) || b ≡ true
+if_own part one h = or_by (not (is_of_endpoint part.endpoint one)) _ (λ k. h (eqb-true one.endpoint part.endpoint (not-false _ k)))
+
+own_present : (part : Part) (one : Arrived) → is_good_arrived part one ≡ true → one.endpoint ≡ part.endpoint → IsPresent part one.request.pasid one.owner
+own_present part one h own = present part one.request.pasid one.owner (other _ _ h (ap not (eq-eqb one.endpoint part.endpoint own)))
+
+own_present_by : (part : Part) (one : Arrived) → (one.endpoint ≡ part.endpoint → IsPresent part one.request.pasid one.owner)
+    → is_good_arrived part one ≡ true
+own_present_by part one s = if_own part one (λ own. is_present_by part one.request.pasid one.owner (s own))
+
 abbrev JoinsOwn : Part → Type 0
 JoinsOwn part =
-    (one : Arrived) (filed : Filed) → slice_get part.arrived 0 ≡ Some one → Contains part.filed filed → filed.is_whole ≡ false
-    → filed.pasid ≡ one.request.pasid → filed.index ≡ one.request.index → filed.number ≡ one.number
+    (one : Arrived) (filed : Filed) → slice_get part.arrived 0 ≡ Some one → one.endpoint ≡ part.endpoint → Contains part.filed filed
+    → filed.is_whole ≡ false → filed.pasid ≡ one.request.pasid → filed.index ≡ one.request.index → filed.number ≡ one.number
 
-joined : (part : Part) → joins_own_group part.filed (slice_get part.arrived 0) ≡ true → JoinsOwn part
-joined part h one filed is has unfinished pasid index =
-    let test : list_all (joins_own one) part.filed ≡ true = sym (ap (joins_own_group part.filed) is) ∙ h in
+joined : (part : Part) → joins_own_group part.endpoint part.filed (slice_get part.arrived 0) ≡ true → JoinsOwn part
+joined part h one filed is own has unfinished pasid index =
+    let test : list_all (joins_own one) part.filed ≡ true =
+    other _ _ (sym (ap (joins_own_group part.endpoint part.filed) is) ∙ h) (ap not (eq-eqb one.endpoint part.endpoint own)) in
     let joins : is_joined one.request filed ≡ true =
     and_from _ _ (ap not unfinished) (and_from _ _ (eq-eqb _ _ pasid) (eq-eqb _ _ index)) in
     eqb-true _ _ (other _ _ (each_of (joins_own one) part.filed test filed has) (ap not joins))
 
-joins_own_by : (part : Part) → JoinsOwn part → (one : Arrived) → slice_get part.arrived 0 ≡ Some one → (filed : Filed)
-    → Contains part.filed filed → joins_own one filed ≡ true
-joins_own_by part s one is filed has =
+joins_own_by : (part : Part) → JoinsOwn part → (one : Arrived) → slice_get part.arrived 0 ≡ Some one → one.endpoint ≡ part.endpoint
+    → (filed : Filed) → Contains part.filed filed → joins_own one filed ≡ true
+joins_own_by part s one is own filed has =
     or_by (not (is_joined one.request filed)) _ (λ k.
     let joins = and_parts (not filed.is_whole) (is_group one.request.pasid one.request.index filed) (not-false _ k) in
     let same = and_parts _ _ joins.1 in
-    eq-eqb _ _ (s one filed is has (not-true filed.is_whole joins.0) (eqb-true _ _ same.0) (eqb-true _ _ same.1)))
+    eq-eqb _ _ (s one filed is own has (not-true filed.is_whole joins.0) (eqb-true _ _ same.0) (eqb-true _ _ same.1)))
 
 joins_by : (part : Part) → JoinsOwn part → (first : Option Arrived) → slice_get part.arrived 0 ≡ first
-    → joins_own_group part.filed first ≡ true
+    → joins_own_group part.endpoint part.filed first ≡ true
 joins_by part s None is = refl
-joins_by part s (Some one) is = all_of (joins_own one) part.filed (λ filed has. joins_own_by part s one is filed has)
+joins_by part s (Some one) is = if_own part one (λ own. all_of (joins_own one) part.filed (λ filed has. joins_own_by part s one is own filed has))
 
 -- ---- the PASIDs
 
@@ -321,9 +338,10 @@ filed_good settings domains part h works filed has whole =
     other (not filed.is_whole) _
     (each_of (is_good_filed domains part) part.filed (other (not settings.has_workers) _ h (ap not works)) filed has) (ap not whole)
 
-received_by : (part : Part) (s : (one : Arrived) → Contains part.received (Asked one) → IsPresent part one.request.pasid one.owner)
+received_by : (part : Part)
+    (s : (one : Arrived) → Contains part.received (Asked one) → one.endpoint ≡ part.endpoint → IsPresent part one.request.pasid one.owner)
     (one : Received) → Contains part.received one → is_good_received part one ≡ true
-received_by part s (Asked one) has = is_present_by part one.request.pasid one.owner (s one has)
+received_by part s (Asked one) has = own_present_by part one (s one has)
 received_by part s (Drain name) has = refl
 
 filed_by : (settings : Settings) (frames : List Tenure) (freed domains : List ℕ) (part : Part) → IsSafePart settings frames freed domains part
@@ -347,7 +365,7 @@ safe_part settings frames freed domains part h =
     let device = and_parts (list_all (is_good frames part) part.held) _ top.0 in
     let works = and_parts (list_all (is_good_work frames part) part.works) (list_all (is_good_request part) part.requests) device.1 in
     let unit = and_parts (list_all (is_good_arrived part) part.arrived) _ next.0 in
-    let queue = and_parts (joins_own_group part.filed (slice_get part.arrived 0)) _ unit.1 in
+    let queue = and_parts (joins_own_group part.endpoint part.filed (slice_get part.arrived 0)) _ unit.1 in
     let kept = and_parts (list_all (is_good_kept part) part.kept) (list_all (is_good_entry freed part) part.kept_entries) queue.1 in
     record {
       held = λ translation has. good frames part translation (each_of (is_good frames part) part.held device.0 translation has);
@@ -355,9 +373,9 @@ safe_part settings frames freed domains part h =
       asked = λ request has k. present part request.pasid request.owner
           (other request.is_doomed _ (each_of (is_good_request part) part.requests works.1 (Some request) has) k);
       flight = λ one has. right settings frames part one one.message (each_of (is_right_sent settings frames part) part.flight last.0 one has);
-      arrived = λ one has. present part one.request.pasid one.owner (each_of (is_good_arrived part) part.arrived unit.0 one has);
+      arrived = λ one has. own_present part one (each_of (is_good_arrived part) part.arrived unit.0 one has);
       joined = joined part queue.0;
-      received = λ one has. present part one.request.pasid one.owner (each_of (is_good_received part) part.received way.0 (Asked one) has);
+      received = λ one has. own_present part one (each_of (is_good_received part) part.received way.0 (Asked one) has);
       filed = λ works filed has whole. present part filed.pasid filed.owner
           (and_parts _ _ (filed_good settings domains part way.1 works filed has whole)).0;
       served = λ works filed has whole. served domains filed.space
@@ -380,8 +398,8 @@ is_safe_part_by settings frames freed domains part s =
     (all_of (is_good_request part) part.requests (λ request has. good_request part s.asked request has))))
     (and_from (is_safe_unit freed part) _
     (and_from (list_all (is_good_arrived part) part.arrived) _
-    (all_of (is_good_arrived part) part.arrived (λ one has. is_present_by part one.request.pasid one.owner (s.arrived one has)))
-    (and_from (joins_own_group part.filed (slice_get part.arrived 0)) _ (joins_by part s.joined (slice_get part.arrived 0) refl)
+    (all_of (is_good_arrived part) part.arrived (λ one has. own_present_by part one (s.arrived one has)))
+    (and_from (joins_own_group part.endpoint part.filed (slice_get part.arrived 0)) _ (joins_by part s.joined (slice_get part.arrived 0) refl)
     (and_from (list_all (is_good_kept part) part.kept) _
     (all_of (is_good_kept part) part.kept (λ one has. is_present_by part one.pasid one.owner (s.kept one has)))
     (all_of (is_good_entry freed part) part.kept_entries (λ one has.

@@ -275,7 +275,7 @@ record Quiet (now : Open) (e : ℕ) (part : Part) : Type 0 where
   goes : no wrongs.is_going part.rows ≡ true
   walks : Walks now.settings now.freed now.domains e part
   responses : all_quiet (wrongs.one_met now.settings part e) part.flight ≡ true
-  joins : quiet (wrongs.joins e part.filed (slice_get part.arrived 0)) ≡ true
+  joins : quiet (wrongs.joins part e (slice_get part.arrived 0)) ≡ true
   answers : all_quiet (wrongs.answer_met part e) part.flight ≡ true
 
 quiet_at : (now : Open) (e : ℕ) (part : Part) → ((of : Sort) → wrongs.wrong_at now of e part ≡ None) → Quiet now e part
@@ -297,7 +297,7 @@ none_at now e part q sort.Left = left_none now.settings e part q.left
 none_at now e part q sort.Goes = goes_none e part q.goes
 none_at now e part q sort.Walks = walks_none now.settings now.freed now.domains e part q.walks
 none_at now e part q sort.Responses = in_none (wrongs.one_met now.settings part e) part.flight q.responses
-none_at now e part q sort.Joins = none_of (wrongs.joins e part.filed (slice_get part.arrived 0)) q.joins
+none_at now e part q sort.Joins = none_of (wrongs.joins part e (slice_get part.arrived 0)) q.joins
 none_at now e part q sort.Requests = in_none (wrongs.answer_met part e) part.flight q.answers
 
 safe_device : (now : Open) (e : ℕ) (part : Part) → Quiet now e part → is_safe_device now.frames part ≡ true
@@ -308,7 +308,7 @@ safe_device now e part q =
 safe_unit : (now : Open) (e : ℕ) (part : Part) → Quiet now e part → is_safe_unit now.freed part ≡ true
 safe_unit now e part q =
     and _ _ (arrived e part ∙ q.left.1.0)
-    (and _ _ (joined e part.filed (slice_get part.arrived 0) ∙ q.joins)
+    (and _ _ (joined e part (slice_get part.arrived 0) ∙ q.joins)
     (and _ _ (kept e part ∙ q.left.2.3) (entries now.freed e part ∙ and _ _ q.left.2.2 q.walks.1)))
 
 safe_for_workers : (now : Open) (e : ℕ) (part : Part) → Quiet now e part → is_safe_for_workers now.settings now.domains part ≡ true
@@ -331,7 +331,7 @@ quiet_part now e part h =
     let device = both (list_all (is_good now.frames part) part.held) _ top.0 in
     let busy = both (list_all (is_good_work now.frames part) part.works) (list_all (is_good_request part) part.requests) device.1 in
     let unit = both (list_all (is_good_arrived part) part.arrived) _ next.0 in
-    let queue = both (joins_own_group part.filed (slice_get part.arrived 0)) _ unit.1 in
+    let queue = both (joins_own_group part.endpoint part.filed (slice_get part.arrived 0)) _ unit.1 in
     let keeps = both (list_all (is_good_kept part) part.kept) (list_all (is_good_entry now.freed part) part.kept_entries) queue.1 in
     let a = both _ _ (sym (held now e part) ∙ device.0) in
     let a2 = both _ _ a.1 in
@@ -357,7 +357,7 @@ quiet_part now e part h =
       goes = d3.0;
       walks = (d3.1, f.1, g.1);
       responses = c4.0;
-      joins = sym (joined e part.filed (slice_get part.arrived 0)) ∙ queue.0;
+      joins = sym (joined e part (slice_get part.arrived 0)) ∙ queue.0;
       answers = c4.1;
     }
 

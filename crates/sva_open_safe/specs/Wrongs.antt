@@ -3,7 +3,7 @@ use Rattle.std.specs.Prelude.{ℕ, ◌+◌, ◌==◌, ◌&&◌, ◌||◌, not, i
 use Rattle.std.specs.Prelude.{Option, Some, None, is_some, option_map, option_and_then}
 use Rattle.sva_open.specs.World.{Open, Part, is_off, or_else}
 use Rattle.sva_open.specs.Host.{is_joined}
-use Rattle.sva_open.specs.Checks.{is_freed, is_present}
+use Rattle.sva_open.specs.Checks.{is_freed, is_of_endpoint, is_present}
 use Rattle.sva_open.specs.declared.descriptors.Arrived.{Arrived}
 use Rattle.sva_open.specs.declared.descriptors.Filed.{Filed}
 use Rattle.sva_open.specs.declared.descriptors.Received.{Received}
@@ -21,7 +21,7 @@ use Rattle.sva_open.specs.declared.settings.Settings.{Settings}
 use Rattle.sva_open.specs.declared.works.Group.{Group}
 use Rattle.sva_open.specs.declared.works.Request.{Request}
 use Rattle.sva_open.specs.declared.works.Work.{Work}
-use Rattle.sva_open.specs.declared.works.Work.TheVariants.{Use, Taken}
+use Rattle.sva_open.specs.declared.works.Work.TheVariants.{Use, Taken, Draining}
 use Rattle.sva_open_safe.specs.declared.wrongs.Sort.{Sort}
 use Rattle.sva_open_safe.specs.declared.wrongs.Sort.TheVariants as sort
 use Rattle.sva_open_safe.specs.declared.wrongs.Thing.{Thing}
@@ -66,6 +66,7 @@ held_wrong of now endpoint held = target_wrong of now endpoint thing.Held held.t
 abbrev pub work_wrong : Sort → Open → (endpoint : ℕ) → Work → Option Wrong
 work_wrong of now endpoint (Use used) = target_wrong of now endpoint thing.Running used.target used.page used.pasid
 work_wrong of now endpoint (Taken itag scope) = None
+work_wrong of now endpoint (Draining barrier) = None
 
 -- a completion answers a request where no reset came between, and it is of the page that was asked for
 abbrev pub answers : (is_of_time : Bool) → (page : ℕ) → Request → Bool
@@ -105,6 +106,7 @@ held_left part endpoint held = left_of part endpoint thing.Held held.pasid held.
 abbrev pub work_left : Part → (endpoint : ℕ) → Work → Option Wrong
 work_left part endpoint (Use used) = left_of part endpoint thing.Running used.pasid used.owner
 work_left part endpoint (Taken itag scope) = None
+work_left part endpoint (Draining barrier) = None
 
 abbrev pub request_left : Part → (endpoint : ℕ) → Option Request → Option Wrong
 request_left part endpoint None = None
@@ -137,10 +139,12 @@ abbrev pub flight_left : Part → (endpoint : ℕ) → Thing → Option Wrong
 flight_left part endpoint what = first_in (one_left part endpoint what) part.flight
 
 abbrev pub arrived_left : Part → (endpoint : ℕ) → Arrived → Option Wrong
-arrived_left part endpoint one = left_of part endpoint thing.Queued one.request.pasid one.owner
+arrived_left part endpoint one =
+    if is_of_endpoint part.endpoint one then left_of part endpoint thing.Queued one.request.pasid one.owner else None
 
 abbrev pub received_left : Part → (endpoint : ℕ) → Received → Option Wrong
-received_left part endpoint (Asked one) = left_of part endpoint thing.Received one.request.pasid one.owner
+received_left part endpoint (Asked one) =
+    if is_of_endpoint part.endpoint one then left_of part endpoint thing.Received one.request.pasid one.owner else None
 received_left part endpoint (Drain name) = None
 
 -- a whole group that a worker has to serve
@@ -263,9 +267,9 @@ abbrev pub joined_by : (endpoint : ℕ) → Arrived → Filed → Option Wrong
 joined_by endpoint one filed =
     if_so (is_joined one.request filed && not (filed.number == one.number)) (wrong.Joins endpoint one.request.pasid one.request.index)
 
-abbrev pub joins : (endpoint : ℕ) → List Filed → Option Arrived → Option Wrong
-joins endpoint filed None = None
-joins endpoint filed (Some one) = first_in (joined_by endpoint one) filed
+abbrev pub joins : Part → (endpoint : ℕ) → Option Arrived → Option Wrong
+joins part endpoint None = None
+joins part endpoint (Some one) = if is_of_endpoint part.endpoint one then first_in (joined_by endpoint one) part.filed else None
 
 abbrev pub request_met : (endpoint tag : ℕ) → (is_of_time : Bool) → (page : ℕ) → Option (Option Request) → Option Wrong
 request_met endpoint tag timely page None = None
@@ -288,7 +292,7 @@ wrong_at now sort.Left endpoint part = left now.settings endpoint part
 wrong_at now sort.Goes endpoint part = goes endpoint part
 wrong_at now sort.Walks endpoint part = walks now.settings now.freed now.domains endpoint part
 wrong_at now sort.Responses endpoint part = first_in (one_met now.settings part endpoint) part.flight
-wrong_at now sort.Joins endpoint part = joins endpoint part.filed (slice_get part.arrived 0)
+wrong_at now sort.Joins endpoint part = joins part endpoint (slice_get part.arrived 0)
 wrong_at now sort.Requests endpoint part = first_in (answer_met part endpoint) part.flight
 
 unfoldable pub first_from : Open → Sort → (endpoint : ℕ) → List Part → Option Wrong

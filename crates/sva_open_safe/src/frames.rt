@@ -126,7 +126,7 @@ fn work_wrong(sort: Sort, now: &Open, endpoint: usize, work: Work) -> Option<Wro
             used.page,
             used.pasid,
         ),
-        Work::Taken { .. } => None,
+        Work::Taken { .. } | Work::Draining(_) => None,
     }
 }
 

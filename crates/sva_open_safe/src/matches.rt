@@ -294,11 +294,14 @@ fn walks(now: &Open, endpoint: usize, part: &Part) -> Option<Wrong>
 }
 
 fn joins(endpoint: usize, part: &Part) -> Option<Wrong>
-    ensures { result ≡ wrongs.joins endpoint part.now.filed (slice_get part.now.arrived 0) }
+    ensures { result ≡ wrongs.joins part.now endpoint (slice_get part.now.arrived 0) }
 {
     match part.arrived.get(0).copied() {
         None => None,
-        Some(one) => first_joined(endpoint, one, part.filed.as_slice()),
+        Some(one) if one.endpoint == part.endpoint => {
+            first_joined(endpoint, one, part.filed.as_slice())
+        }
+        Some(_) => None,
     }
 }
 

@@ -39,7 +39,7 @@ fn work_left(part: &Part, endpoint: usize, work: Work) -> Option<Wrong>
 {
     match work {
         Work::Use(used) => left_of(part, endpoint, Thing::Running, used.pasid, used.owner),
-        Work::Taken { .. } => None,
+        Work::Taken { .. } | Work::Draining(_) => None,
     }
 }
 
@@ -122,6 +122,9 @@ fn one_left(part: &Part, endpoint: usize, thing: Thing, sent: Sent) -> Option<Wr
 fn arrived_left(part: &Part, endpoint: usize, one: Arrived) -> Option<Wrong>
     ensures { result ≡ wrongs.arrived_left part.now endpoint one }
 {
+    if one.endpoint != part.endpoint {
+        return None;
+    }
     left_of(part, endpoint, Thing::Queued, one.request.pasid, one.owner)
 }
 
@@ -129,13 +132,14 @@ fn received_left(part: &Part, endpoint: usize, received: Received) -> Option<Wro
     ensures { result ≡ wrongs.received_left part.now endpoint received }
 {
     match received {
-        Received::Request(one) => left_of(
+        Received::Request(one) if one.endpoint == part.endpoint => left_of(
             part,
             endpoint,
             Thing::Received,
             one.request.pasid,
             one.owner,
         ),
+        Received::Request(_) => None,
         Received::Drain { .. } => None,
     }
 }

@@ -44,7 +44,7 @@ fn is_good_work(frames: &[Tenure], part: &Part, work: &Work) -> bool
 {
     match work {
         Work::Use(translation) => is_good(frames, part, translation),
-        Work::Taken { .. } => true,
+        Work::Taken { .. } | Work::Draining(_) => true,
     }
 }
 
@@ -134,7 +134,9 @@ fn is_right(settings: &Settings, frames: &[Tenure], part: &Part, one: &Sent) -> 
         | Message::Invalidate { .. }
         | Message::Request { .. }
         | Message::Invalidated { .. }
-        | Message::ResetDone => true,
+        | Message::ResetDone
+        | Message::Barrier(_)
+        | Message::Passed(_) => true,
     }
 }
 
@@ -152,11 +154,11 @@ fn all_join_own(filed: &[Filed], one: &Arrived) -> bool
 }
 
 fn joins_own_group(part: &Part) -> bool
-    ensures { result ≡ check.joins_own_group part.now.filed (slice_get part.now.arrived 0) }
+    ensures { result ≡ check.joins_own_group part.now.endpoint part.now.filed (slice_get part.now.arrived 0) }
 {
     match part.arrived.get(0) {
         None => true,
-        Some(one) => all_join_own(part.filed.as_slice(), one),
+        Some(one) => one.endpoint != part.endpoint || all_join_own(part.filed.as_slice(), one),
     }
 }
 
@@ -166,11 +168,18 @@ fn is_freed(freed: &[u64], space: u64) -> bool
     freed.iter().any(|one| *one == space)
 }
 
+/// Whether a page request is of the endpoint's present owner, or another endpoint's.
+fn is_good_arrived(part: &Part, one: &Arrived) -> bool
+    ensures { result ≡ check.is_good_arrived part.now one.now }
+{
+    one.endpoint != part.endpoint || is_present(part, one.request.pasid, one.owner)
+}
+
 fn is_good_received(part: &Part, received: &Received) -> bool
     ensures { result ≡ check.is_good_received part.now received.now }
 {
     match received {
-        Received::Request(one) => is_present(part, one.request.pasid, one.owner),
+        Received::Request(one) => is_good_arrived(part, one),
         Received::Drain { .. } => true,
     }
 }
@@ -252,9 +261,7 @@ fn is_flight_right(settings: &Settings, frames: &[Tenure], part: &Part) -> bool
 fn are_arrived_good(part: &Part) -> bool
     ensures { result ≡ list_all (check.is_good_arrived part.now) part.now.arrived }
 {
-    part.arrived
-        .iter()
-        .all(|one| is_present(part, one.request.pasid, one.owner))
+    part.arrived.iter().all(|one| is_good_arrived(part, one))
 }
 
 fn are_received_good(part: &Part) -> bool

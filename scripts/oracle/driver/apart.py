@@ -9,9 +9,10 @@ from world import Port
 
 
 def comes_apart(driver, world):
-    """Two endpoints or more, one thread alone with lines left, and no look at an endpoint."""
+    """Two endpoints or more, no shared unit, one thread alone with lines left, and no look at an endpoint."""
     looks = any(line.words[0] == 'if' and set(line.words[1:3]) & set(CONDITIONS) for line in driver.lines)
-    return driver.ports > 1 and not looks and len(list(search.of_threads(driver, world))) < 2
+    threads = list(search.of_threads(driver, world))
+    return driver.ports > 1 and not driver.shares_units() and not looks and len(threads) < 2
 
 
 def endpoint_of(line):
@@ -44,7 +45,7 @@ def slice_of(driver, world, endpoint):
     for line in [line for line in driver.lines if endpoint_of(line) not in (None, endpoint)]:
         cut(line)
     driver.devices = {e: device if e == endpoint else Device() for e, device in driver.devices.items()}
-    world.ports = [port if e == endpoint else Port() for e, port in enumerate(world.ports)]
+    world.ports = [port if e == endpoint else Port(number=e) for e, port in enumerate(world.ports)]
     return driver, world
 
 

@@ -5,8 +5,10 @@ import pathlib
 import search
 import written
 from branches import is_of_block
+from make_barriers import act_of_barriers, make_barriers
 from make_controls import act_of_controls, make_controls
 from make_timeouts import make_timeouts
+from make_units import make_units
 from make_written import folded
 from make_branches import Blocks, branched, make_looks, mend, taken_in_block, with_branches
 from reading import CODES, KINDS, Driver, need
@@ -16,7 +18,7 @@ EXAMPLES = sorted(pathlib.Path(__file__).parents[3].glob('examples/judge/**/*.sv
 
 PAGES, PASIDS, SPACES = (16, 16, 17, 18, '0x10', '0x11'), (1, 1, 1, 1, 2, 0), (0, 0, 0, 1)
 # by scripts/words --write: act.await
-AWAITED = set("""wait stopped queue groups reset idle gone""".split())
+AWAITED = set("""wait stopped passed queue groups reset idle gone""".split())
 
 
 class Maker:
@@ -105,7 +107,7 @@ class Maker:
             f'free {self.rng.randrange(2)}',
             f'freeze {self.rng.randrange(2)}', f'free pasid {p} {e}', f'free space {self.one(0, 1)}', f'serve {e}',
             f'respond {e} {p} {self.one(0, 0, 1)} {self.one(*CODES)}', f'close {e}', f'open {e}',
-            self.one('lock l', 'unlock l'), act_of_controls(self), f'resume {e}')
+            self.one('lock l', 'unlock l'), act_of_controls(self), act_of_barriers(self), f'resume {e}')
 
     def other(self):
         """One act of an endpoint, a unit or the link."""
@@ -114,7 +116,7 @@ class Maker:
         n = self.one('', '', ' 0', ' 1')
         return self.one(
             f'ask {e} {p} {page}', f'ask {e} {p} {page}', f'use {e} {p} {page}', f'evict {e} {p} {page}', f'end {e}{n}',
-            f'finish {e}{n}', f'quit {e} {p}', f'pump {e}', f'pump {e}', f'write {e}',
+            f'finish {e}{n}', f'pass {e}{n}', f'quit {e} {p}', f'pump {e}', f'pump {e}', f'write {e}',
             f'forget {e} {p}' + self.one('', f' {page}'), f'expire {e} {self.one(0, 0, 1)}',
             f'fault {e} {p} {page} {self.one("r", "w", "rw")} {self.one("new", "new", 0)} {self.one("more", "last")}',
             *[f'deliver {kind} {e}{n}'] * 6)
@@ -233,10 +235,10 @@ def make_mutant(rng):
     lines = [' '.join(words) for _, words in written.out(rng.choice(EXAMPLES).read_text(encoding='utf-8'))]
     m = Maker(rng)
     m.ends = int(lines[0].split()[1])
-    settings = ('platform', *Settings.pairs, *Settings.flags)
+    settings = ('platform', 'unit', *Settings.pairs, *Settings.flags)
     head, rest = lines[:1], [x for x in lines[1:] if x.split()[0] not in settings]
     old = [x for x in lines[1:] if x not in rest]
-    settings = old if m.chance(0.6) else m.settings()
+    settings = old if m.chance(0.6) else m.settings() + [x for x in old if x.split()[0] == 'unit']
     for _ in range(m.one(0, 1, 1, 2, 3, 4)):
         rest = mutated(m, rest)
     rest = [x for x in rest if not x.startswith('await wait')] if m.chance(0.02) else rest
@@ -374,8 +376,8 @@ def make_apart(rng):
 
 def make_any(rng):
     made = rng.choice((make_mutant, make_mutant, make_driver, make_driver, make_groups, make_looks, make_looks,
-                       make_controls, make_apart, make_timeouts))
-    text = made(Maker(rng) if made in (make_looks, make_controls, make_timeouts) else rng)
+                       make_controls, make_apart, make_timeouts, make_units, make_barriers))
+    text = made(Maker(rng) if made in (make_looks, make_controls, make_timeouts, make_units, make_barriers) else rng)
     return folded(Maker(rng), text) if rng.random() < 0.12 else text
 
 
@@ -387,6 +389,16 @@ def small(theme):
 def timed(theme):
     """What makes small drivers in which an invalidation may run out of time."""
     return lambda rng: make_timeouts(Maker(rng), theme)
+
+
+def drained(theme):
+    """What makes small drivers in which an endpoint drains a PASID."""
+    return lambda rng: make_barriers(Maker(rng), theme)
+
+
+def together(theme):
+    """What makes small drivers in which endpoints stand below one unit."""
+    return lambda rng: make_units(Maker(rng), theme)
 
 
 def make_written(rng):

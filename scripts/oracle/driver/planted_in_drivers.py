@@ -150,7 +150,7 @@ def writes_at_once(old):
     """What comes stands in the queue."""
     def arrives(moment, port, m, settings):
         if not port.closed:
-            port.prq += m[1:5],
+            port.prq += m[1:5] + (port.number,),
     return {**old, 'page-request': arrives}
 
 

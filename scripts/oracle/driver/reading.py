@@ -1,4 +1,5 @@
 """Reads a driver, and says what each act needs and does (docs/FORMAT.md, section 15)."""
+import barriers
 import branches
 import controls
 import timeouts
@@ -8,7 +9,7 @@ from world import Port, Settings, World
 
 # by scripts/words --write: kind/d
 KINDS = """start stop reset completion invalidate response request invalidated page-request marker status
-    reset-done""".split()
+    barrier passed reset-done""".split()
 # by scripts/words --write: place.CODE
 CODES = """success invalid failure""".split()
 NEEDS = {
@@ -16,6 +17,8 @@ NEEDS = {
     'open': 'open needs a closed unit', 'skip': 'skip needs a descriptor in the queue',
     'await wait': 'await needs the wait done',
     'await stopped': 'await needs an answer to the stop', 'await reset': 'await needs each reset done',
+    'await passed': 'await needs each barrier passed',
+    'pass': 'pass needs a barrier that has come, and nothing older of its PASID to end',
     'await queue': 'await needs an empty page request queue',
     'await queue P': 'await needs no page request of the PASID in the queue',
     'await groups': 'await needs each whole group answered',
@@ -39,6 +42,7 @@ NEEDS = {
     'await idle': 'await needs no translation request out and no use that runs'}
 
 
+OF_ENDPOINTS = ('stopped', 'passed', 'queue', 'groups', 'reset', 'idle', 'gone')
 WAIT_ABOVE = 'an endpoint at which a line above in this thread submits a wait'
 ON_EACH_WAY = 'an endpoint whose last wait above in this thread is submitted on each way to here'
 
@@ -89,12 +93,15 @@ class Driver:
         if first == 'config':
             self.ports, self.frames = int(words[1]), int(words[2])
             self.devices = {e: Device() for e in range(self.ports)}
+            self.units = list(range(self.ports))    # the lowest endpoint below the unit of each
         elif first == 'platform':
             set_platform(self.settings, words[1])
         elif first in Settings.pairs:
             setattr(self.settings, first, words[1])
         elif first in Settings.flags:
             self.settings.said |= {first}
+        elif first == 'unit':
+            self.share([int(x) for x in words[1:]])
         elif first == 'race':
             self.raced = True
         elif first == 'workers':
@@ -110,6 +117,16 @@ class Driver:
             line = Line(number, name, numbers(words), self.thread_of(words), len(self.lines))
             self.lines.append(line)
             self.items[line.thread].append(line)
+
+    def share(self, endpoints):
+        for e in endpoints:
+            self.units[e] = min(endpoints)
+
+    def shares_units(self):
+        return self.units != list(range(self.ports))
+
+    def are_below_one(self, e, other):
+        return self.units[e] == self.units[other]
 
     def read_device(self, device, words):
         while words:
@@ -134,12 +151,12 @@ class Driver:
         return name
 
     def find_awaited(self, line):
-        """Of `await wait E` the last line above in this thread that submitted a wait there; of a name its line."""
-        if line.words[0] != 'await' or line.words[1] in ('stopped', 'queue', 'groups', 'reset', 'idle', 'gone'):
+        """Of `await wait E` the last line above in this thread that submitted a wait to E's unit; of a name its line."""
+        if line.words[0] != 'await' or line.words[1] in OF_ENDPOINTS:
             return
         if line.words[1] == 'wait':
             above = [x for x in self.by_thread[self.threads.index(line.thread)][:line.index]
-                     if x.words[0] == 'submit' and x.words[1] == line.words[2] and waits_of(x)]
+                     if x.words[0] == 'submit' and self.are_below_one(x.words[1], line.words[2]) and waits_of(x)]
             if above and branches.stands_in(line, above[-1]):
                 line.awaited = (above[-1], waits_of(above[-1]))
             else:
@@ -161,7 +178,8 @@ class Driver:
 
     def start(self):
         new = World()
-        new.ports = [Port(self.devices[e].budget) for e in range(self.ports)]
+        new.ports, new.units = [Port(self.devices[e].budget, e) for e in range(self.ports)], tuple(self.units)
+        w.share(new.ports, new.units)
         new.settings, new.pte = self.settings, {}
         new.pos = tuple(self.place(t, line) for t, line in enumerate(self.first))
         new.flags, new.gone = frozenset(), frozenset()
@@ -185,23 +203,30 @@ def role(words):
         return 'link'
     if words[0] in ('pump', 'write', 'forget', 'expire'):
         return f'unit {words[1]}'
-    if words[0] in ('ask', 'use', 'evict', 'end', 'finish', 'quit', 'fault', 'gone'):
+    if words[0] in ('ask', 'use', 'evict', 'end', 'finish', 'pass', 'quit', 'fault', 'gone'):
         return f'endpoint {words[1]}'
     return 'host'
 
 
 def descriptors(line):
-    """The descriptors of a `submit` line: (kind, PASID, scope), ('entry', P) or ('wait', drain, fence, its name)."""
+    """The descriptors of a `submit` line: (kind, PASID, scope, endpoint), ('entry', P, endpoint) or ('wait', drain,
+    fence, its name). The endpoint of what the unit keeps is None, where none is named."""
     found, words = [], ' '.join(str(x) for x in line.words[2:]).split(' + ')
     for n, text in enumerate(words):
-        d = numbers(text.split())
+        d, named = of_other(numbers(text.split()))
         if d[0] == 'wait':
             found.append(('wait', 'drain' in d, 'fence' in d, (line.serial, n)))
         elif d[0] == 'entry':
-            found.append(('entry', d[1]))
+            found.append(('entry', d[1], named))
         else:
-            found.append((d[0], d[1], tuple(d[2:4]) if len(d) > 2 else None))
+            named = line.words[1] if named is None and d[0] != 'iotlb' else named
+            found.append((d[0], d[1], tuple(d[2:4]) if len(d) > 2 else None, named))
     return found
+
+
+def of_other(words):
+    """The words of a descriptor before `of F`, and F, or None."""
+    return (words[:-2], words[-1]) if len(words) > 2 and words[-2] == 'of' else (words, None)
 
 
 def waits_of(line):
@@ -241,6 +266,7 @@ MAY = {
     'end': lambda d, port, device, x, line: optional(x, 2) < len(port.uses),
     'finish': lambda d, port, device, x, line: w.may_finish(port, optional(x, 2), device.lies),
     'quit': lambda d, port, device, x, line: w.may_quit(port, x[2], device.awaits),
+    'pass': lambda d, port, device, x, line: barriers.may_pass(port, optional(x, 2), device.awaits),
     'fault': lambda d, port, device, x, line: w.may_fault(port, x[2], x[5]),
     'gone': lambda d, port, device, x, line: not port.gone}
 
@@ -276,8 +302,12 @@ def need_of_await(driver, world, words, line):
         ok, what = not any(r[0] == words[3] for r in port.prq), 'queue P'
     elif what == 'queue':
         ok = not port.prq
+    elif what == 'groups' and len(words) > 3:
+        ok = not any(g[3] and w.is_meant(g, words[3]) for g in port.filed)
     elif what == 'groups':
-        ok = not any(g[3] and w.is_meant(g, optional(words, 3, None)) for g in port.filed)
+        ok = not any(g[3] for other in w.below(world, port) for g in other.filed)
+    elif what == 'passed':
+        ok = barriers.all_passed(port, words[3], line.thread)
     elif what == 'idle':
         ok = controls.is_idle(port)
     elif what == 'gone':
@@ -335,11 +365,11 @@ def do_at(driver, world, port, words, line):
         port.queue += tuple(descriptors(line))
         world.undone = world.undone | set(waits_of(line))
     elif verb == 'close':
-        w.close(port)
+        w.close(world, port)
     elif verb == 'open':
         w.reopen(world, port)
     elif verb == 'serve':
-        w.serve(port)
+        w.serve(world, port)
     elif verb == 'write':
         w.write(world, port)
     elif verb == 'discard':
@@ -363,6 +393,10 @@ def do_at(driver, world, port, words, line):
         getattr(w, verb)(port, p or 0)
     elif verb == 'quit':
         w.quit(port, p, driver.settings)
+    elif verb == 'barrier':
+        port.link += (verb, p, barriers.name_of(line)),
+    elif verb == 'pass':
+        barriers.do_pass(port, p or 0, driver.settings)
     elif verb == 'fault':
         w.fault(world, port, p, words[5], words[6] == 'last')
     elif verb in ('ats', 'pri', 'mastering'):

@@ -17,11 +17,17 @@ def below_safe(driver, shown):
     found += [f'with link {s.link}, waits {s.waits}, drain {s.drain}, caches {s.caches}, stopped {s.stopped}'
               + ', enables cleared' * (s.enables == 'cleared')
               + f', timeouts {s.timeouts}' * (s.timeouts != 'off') + ', refuses drain' * ('refuses' in s.said)
-              + ', allow no-group' * ('allow' in s.said)]
+              + ', allow no-group' * ('allow' in s.said) + ''.join(f', unit {text}' for text in shared(driver))]
     others = not_asked(s)
     found += ['not asked: ' + ', '.join(others)] if others else []
     found += [line for e in sorted(driver.devices) for line in ask_not_made(driver, e)]
     return found + (nevers(driver, shown) if is_tried(shown) else [])
+
+
+def shared(driver):
+    """The endpoints below each unit that is shared, in words."""
+    below = [[str(e) for e in range(driver.ports) if driver.units[e] == unit] for unit in range(driver.ports)]
+    return [' '.join(endpoints) for endpoints in below if len(endpoints) > 1]
 
 
 def not_asked(s):

@@ -16,7 +16,7 @@ def may_expire(port, itag, settings, silent):
     """"Time is long: before, the unit takes all that it can.\""""
     if settings.timeouts == 'off' or port.closed or port.stalled or w.may_pump(port, settings):
         return False
-    return itag in port.busy and not is_answered(port, itag, silent)
+    return itag in port.busy and port.sent[itag] == port.number and not is_answered(port, itag, silent)
 
 
 def expire(world, port, itag, settings):

@@ -13,10 +13,12 @@ sys.path.insert(1, str(pathlib.Path(__file__).parents[1]))
 import apart
 import branches
 import planted_in_apart
+import planted_in_barriers
 import planted_in_branches
 import planted_in_controls
 import planted_in_drivers
 import planted_in_timeouts
+import planted_in_units
 import reading
 import search
 import trying
@@ -28,7 +30,7 @@ from world import Settings
 MOST = 300          # moments that the program looks at; of one text in twelve 2400
 MOST_LISTS = 3000   # lists of events that are gone one by one
 NAMES = {'wrong': 'an act not permitted', 'leak': 'unsafe before race', 'run not': 'run not permitted'}
-HEADS = {'config', 'workers', 'device', *Settings.pairs, *Settings.flags}   # what no act begins
+HEADS = {'config', 'workers', 'device', 'unit', *Settings.pairs, *Settings.flags}   # what no act begins
 STATUSES = {'safe': 0, 'apart': 0, 'unsafe': 4, 'leak': 4, 'stuck': 4, 'cut': 5, 'wrong': 1, 'right': 0}
 
 
@@ -245,7 +247,7 @@ def actor(words, act):
 def plain(act):
     """An act without what may be left out or isn't read: N of 0, page and way of a page request, and the code."""
     act = list(act)
-    if act[0] in ('end', 'finish') and act[2:] == [0] or act[0] == 'deliver' and act[3:] == [0]:
+    if act[0] in ('end', 'finish', 'pass') and act[2:] == [0] or act[0] == 'deliver' and act[3:] == [0]:
         act.pop()
     if act[0] == 'fault':
         act[3:5] = []
@@ -303,6 +305,8 @@ def trial(program, seed, is_short=True, maker=None):
 
 
 if __name__ == '__main__':
-    sys.exit(trying.main('drivers', trial, planted_in_apart.OF_APART + planted_in_controls.OF_CONTROLS
+    sys.exit(trying.main('drivers', trial, planted_in_apart.OF_APART + planted_in_barriers.OF_BARRIERS
+                         + planted_in_controls.OF_CONTROLS
                          + planted_in_branches.OF_BRANCHES + planted_in_timeouts.OF_TIMEOUTS
+                         + planted_in_units.OF_UNITS
                          + planted_in_drivers.OF_DRIVERS))

@@ -5,8 +5,10 @@ A World is everything that a moment has: memory, locks, the place of each thread
 its unit and its part of the link. `need` says what an act lacks (None where it is permitted), `do` does it.
 A translation is (frame, w, freed, frozen): the last two say what became of the frame since the page led to it.
 """
+import barriers
+from units import Unit, below, of_unit, own, share, struck
 
-UP = {'request', 'invalidated', 'page-request', 'marker', 'status', 'reset-done'}
+UP = {'request', 'invalidated', 'page-request', 'marker', 'status', 'reset-done', 'passed'}
 NON_POSTED = {'request', 'completion'}          # "Posted are all but a request and a completion"
 ITAGS, PLACES = 32, 64        # no other limit of MODEL, section 13, is one here
 
@@ -26,31 +28,33 @@ class Settings:
 
 
 class Port:
-    """One endpoint, the unit of its number, and the messages between the two, oldest first. Whatever a part holds is
-    replaced when it changes, and never changed in place: so a copy is cheap."""
+    """One endpoint, its unit, and the messages between the two, oldest first. Whatever a part holds is replaced when it
+    changes, and never changed in place: so a copy is cheap."""
 
-    def __init__(self, budget=(0, 0, 0)):
+    def __init__(self, budget=(0, 0, 0), number=0):
+        self.unit, self.number = Unit(), number
         self.entry, self.last = {}, {}          # PASID -> space: in memory; where each led last since it was freed
         self.answers, self.resets = frozenset(), 0   # PASIDs of which an answer to a stop has come; resets not done
         self.remains = ()                       # what the event has left of an earlier owner: (PASID, what)
-        self.closed, self.queue, self.busy = False, (), frozenset()
-        self.plain, self.covered = (), frozenset()   # (wait, ITags, drain); the ITags behind the last such wait
-        self.received = ()                      # (PASID, index, group, last), or (wait,) that drains what stands before
-        self.prq, self.filed = (), ()           # (PASID, index, group, last); (PASID, index, group, whole, space)
+        self.filed = ()                         # (PASID, index, group, whole, space)
         self.kept_entry, self.kept = {}, {}
         self.on, self.held, self.tags = {}, {}, {}   # tags: tag -> (PASID, page, doomed)
         self.uses, self.taken = (), ()          # (slot, PASID, page, translation); (ITag, PASID, scope, slots noted)
         self.groups, self.disabled, self.budget = {}, False, budget   # index -> (PASID, group, finished)
         self.link, self.begun = (), 0           # begun: how many groups were
+        self.drains = ()                        # (PASID, its name, and what it noted: tags, indices, slots)
         self.ats = self.pri = self.mastering = True
-        self.gone = self.stalled = False
-        self.aborted = frozenset()              # the waits that were aborted at a time-out
+        self.gone = False
 
     def copy(self):
         new = Port.__new__(Port)
         new.__dict__.update(self.__dict__)
-        new.remains = ()
+        new.remains, new.unit = (), self.unit.copy()
         return new
+
+
+for _name in Unit.parts:
+    setattr(Port, _name, of_unit(_name))
 
 
 class World:
@@ -58,6 +62,7 @@ class World:
         new = World.__new__(World)
         new.__dict__.update(self.__dict__)
         new.ports = [p.copy() for p in self.ports]
+        share(new.ports, self.units)
         return new
 
 
@@ -94,7 +99,7 @@ def stays_behind(newer, older, posted):
     if new == 'marker' or new == 'page-request' and newer[4]:
         if old == 'page-request':               # 1. overtakes no older page request. A marker isn't one
             return True
-    if new in ('start', 'stop', 'reset') and old != 'completion':
+    if new in ('start', 'stop', 'barrier', 'reset') and old != 'completion':
         return True                             # 2. no older message to that endpoint but a completion
     return posted and old not in NON_POSTED
 
@@ -151,6 +156,7 @@ def completion_arrives(world, port, m, settings):
         return
     doomed = port.tags[tag][2]
     port.tags = without(port.tags, tag)
+    port.drains = barriers.without(port.drains, barriers.TAGS, tag)
     if not doomed and tr:
         port.held = put(without(port.held, (p, page)), (p, page), tr)   # "in place of one of the same" page
 
@@ -220,7 +226,7 @@ def reset_arrives(world, port, m, settings):
 def forget_all(port):
     """Nothing is left of what an endpoint had; what it has sent may still come."""
     port.held, port.tags, port.groups, port.on = {}, {}, {}, {}
-    port.taken, port.uses = (), ()
+    port.taken, port.uses, port.drains = (), (), ()
     port.link = tuple(orphan(x) for x in port.link)
 
 
@@ -237,6 +243,7 @@ def reset_done_arrives(world, port, m, settings):
 
 def response_arrives(world, port, m, settings):
     port.groups = without(port.groups, m[2])
+    port.drains = barriers.without(port.drains, barriers.INDICES, m[2])
     if m[4]:
         port.disabled = True                    # Response Failure
 
@@ -245,9 +252,9 @@ def page_request_arrives(world, port, m, settings):
     if port.closed:
         return
     if settings.drain == 'arrived':
-        port.received += m[1:5],
+        port.received += m[1:5] + (port.number,),
     else:
-        port.prq += m[1:5],
+        port.prq += m[1:5] + (port.number,),
 
 
 def answer_arrives(world, port, m, settings):
@@ -258,7 +265,7 @@ def answer_arrives(world, port, m, settings):
 ARRIVES = {'request': request_arrives, 'completion': completion_arrives, 'invalidate': invalidate_arrives,
            'invalidated': invalidated_arrives, 'start': start_arrives, 'stop': stop_arrives, 'reset': reset_arrives,
            'reset-done': reset_done_arrives, 'response': response_arrives, 'page-request': page_request_arrives,
-           'marker': answer_arrives, 'status': answer_arrives}
+           'marker': answer_arrives, 'status': answer_arrives, 'barrier': barriers.arrives, 'passed': barriers.is_passed}
 
 
 # ---------------------------------------------------------------------------------------------- the unit
@@ -284,13 +291,16 @@ def may_pump(port, settings):
 def pump(world, port, settings):
     head, port.queue = port.queue[0], port.queue[1:]
     if head[0] in ('range', 'pasid'):
-        itag = lowest(port.busy)
+        itag, port = lowest(port.busy), world.ports[head[3]]
         port.busy, port.covered = port.busy | {itag}, port.covered | {itag}
+        port.sent = put(port.sent, itag, port.number)
         port.link += ('invalidate', itag, head[1], head[2]),
     elif head[0] == 'iotlb':
-        port.kept = {(p, page): tr for (p, page), tr in port.kept.items() if p != head[1] or not covers(head[2], page)}
+        for it in struck(world, port, head[3]):
+            it.kept = {(p, page): tr for (p, page), tr in it.kept.items() if p != head[1] or not covers(head[2], page)}
     elif head[0] == 'entry':
-        port.kept_entry = without(port.kept_entry, head[1])
+        for it in struck(world, port, head[2]):
+            it.kept_entry = without(it.kept_entry, head[1])
     elif port.covered:
         port.plain, port.covered = port.plain + ((head[3], port.covered, head[1]),), frozenset()
     else:
@@ -316,8 +326,8 @@ def disown(port, p, new_space=None):
         ('running use', any(u[1] == p for u in port.uses)),
         ('request that is out', any(q == p and not doomed for q, _, doomed in port.tags.values())),
         ('start in flight', 'start' in flying), ('stop in flight', 'stop' in flying),
-        ('page request that the unit has received', any(len(r) > 1 and r[0] == p for r in port.received)),
-        ('page request in the queue', any(r[0] == p for r in port.prq)),
+        ('page request that the unit has received', any(r[0] == p for r in own(port, port.received))),
+        ('page request in the queue', any(r[0] == p for r in own(port, port.prq))),
         ('status in flight', 'status' in flying),
         ('entry', p in port.entry and new_space is None),
         ('kept entry', p in port.kept_entry), ('kept translation', any(q == p for q, _ in port.kept)),
@@ -362,17 +372,20 @@ def reopen(world, port):
     port.busy, port.covered, port.stalled = frozenset(), frozenset(), False
 
 
-def close(port):
+def close(world, port):
     """Nothing is received, queued or filed any more; a wait that drained what had been received stays undone."""
-    port.closed, port.prq, port.filed = True, (), ()
+    port.closed, port.prq = True, ()
+    for other in below(world, port):
+        other.filed = ()
     port.received = tuple(one for one in port.received if len(one) == 1)
 
 
-def serve(port):
-    """Files the oldest page request in its group: one of its PASID and index that isn't whole yet, or a new one. The
-    group is "of the space that its PASID had when its last page request was filed"."""
-    p, i, gid, last = port.prq[0]
+def serve(world, port):
+    """Files the oldest page request in its group: one of its endpoint, PASID and index that isn't whole yet, or a new
+    one. The group is "of the space that its PASID had when its last page request was filed"."""
+    p, i, gid, last, sender = port.prq[0]
     port.prq = port.prq[1:]
+    port = world.ports[sender]
     for n, (q, j, other, whole, _) in enumerate(port.filed):
         if (q, j) == (p, i) and not whole:
             port.filed = port.filed[:n] + ((p, i, other, last, port.last.get(p)),) + port.filed[n + 1:]
@@ -429,6 +442,7 @@ def finish(port, n):
 
 def end(port, n):
     slot, port.uses = port.uses[n][0], drop(port.uses, n)
+    port.drains = barriers.without(port.drains, barriers.SLOTS, slot)
     port.taken = tuple((itag, p, scope, noted - {slot}) for itag, p, scope, noted in port.taken)
 
 

@@ -27,10 +27,11 @@ returns-clause-driver c =
     let flags : vec_len c.reading.inside.flags ≡ length c.reading.inside.flags.items = omega (arith, c.reading.inside.flags.ok.0) in
     by_view c.args.config.now _ c.args.reading _ c.reading.view_is
     (record {
-      start = start_by c.args.config.now c.with_workers-settings.result _ own (pasids_of (map line_seen lines)) c.pasids_of-pasids.result
-          c.in_ok-start.start c.in_ok-start.ensures c.as_slice-own.ensures.value
+      start = start_by c.args.config.now c.with_workers-settings.result _ own _ c.reading.inside.units.items (pasids_of (map line_seen lines))
+          c.pasids_of-pasids.result c.in_ok-start.start c.in_ok-start.ensures c.as_slice-own.ensures.value c.as_slice-shared.ensures.value
           (c.pasids_of-pasids.ensures ∙ (λ i. pasids_of (map line_seen (acts i))))
-          ∙ ap (λ (settings : Settings). opened settings (map conduct_of (map device_seen own)) (pasids_of (map line_seen lines)) c.args.config.now.frames)
+          ∙ ap (λ (settings : Settings). opened settings (map conduct_of (map device_seen own)) c.reading.inside.units.items
+          (pasids_of (map line_seen lines)) c.args.config.now.frames)
           (c.with_workers-settings.ensures ∙ ap (with_workers c.reading.inside.settings) c.workers_or-workers.ensures);
       lines = c.in_ok-lines.ensures.lines ∙ map_twice done_of line_seen lines;
       ways = c.in_ok-lines.ensures.ways ∙ c.as_slice.ensures.value ∙ c.in_ok-at.ensures.ways ∙ (λ i. ways_of (map line_seen (acts i)));

@@ -8,7 +8,7 @@ pub returns-in-Ok-push_descriptor : goal.returns-in-Ok-push_descriptor
 returns-in-Ok-push_descriptor c =
     let same : vec_len c.args.list.now ≡ length c.args.list.now.items = omega (arith, c.args.list.now.ok.0) in
     let words = said c.args.words.now in
-    added itself (descriptor_at c.args.name (length c.args.list.now.items) c.args.at words)
+    added itself (descriptor_at c.args.units.now c.args.endpoint c.args.name (length c.args.list.now.items) c.args.at words)
     c.args.list.now.items c.push_descriptor.new.list.items c.in-Ok.one
-    (ap (λ count. descriptor_at c.args.name count c.args.at words) (sym (c.len.ensures ∙ same)) ∙ c.in-Ok.ensures)
+    (ap (λ count. descriptor_at c.args.units.now c.args.endpoint c.args.name count c.args.at words) (sym (c.len.ensures ∙ same)) ∙ c.in-Ok.ensures)
     c.in-Ok-push_descriptor.ensures

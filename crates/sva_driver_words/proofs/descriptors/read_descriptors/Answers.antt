@@ -11,14 +11,14 @@ use Rattle.sva_driver_words.proofs.descriptors.read_descriptors.Goals as goal
 
 pub loop-count-init : goal.loop-count-init
 loop-count-init c = record {
-  read = each_begin (descriptor_at c.args.name) itself c.args.at
+  read = each_begin (descriptor_at c.args.units.now c.args.endpoint c.args.name) itself c.args.at
       (pieces (codes "+") (said c.args.words.now)) c.new-list.result.items c.new-list.ensures.items;
   within = omega arith;
 }
 
 pub returns-in-Err : goal.returns-in-Err
 returns-in-Err c =
-    let one = descriptor_at c.args.name in
+    let one = descriptor_at c.args.units.now c.args.endpoint c.args.name in
     let words = said c.args.words.now in
     let start = c.loop-count.start in
     subst (λ (read : Result (List Descriptor) DriverWrong). Fails read c.in-Err.stop) c.loop-count.invariant.read
@@ -30,7 +30,7 @@ returns-in-Err c =
 
 pub loop-count-preserved : goal.loop-count-preserved
 loop-count-preserved c =
-    let one = descriptor_at c.args.name in
+    let one = descriptor_at c.args.units.now c.args.endpoint c.args.name in
     let words = said c.args.words.now in
     let start = c.loop-count.start in
     let next : c.args.at + (start + (c.in-Some.count + 1)) ≡ c.args.at + start + length (said c.words_at-piece.result.now) + 1 =
@@ -48,7 +48,7 @@ loop-count-preserved c =
 
 pub returns-in-Ok-add_descriptor : goal.returns-in-Ok-add_descriptor
 returns-in-Ok-add_descriptor c =
-    let one = descriptor_at c.args.name in
+    let one = descriptor_at c.args.units.now c.args.endpoint c.args.name in
     let start = c.loop-count.start in
     sym c.loop-count.invariant.read
     ∙ each_end one itself (c.args.at + start) (said c.words_from-piece.result.now) (pieces (codes "+") (drop start (said c.args.words.now)))
@@ -57,7 +57,7 @@ returns-in-Ok-add_descriptor c =
 
 pub returns-in-Err-add_descriptor : goal.returns-in-Err-add_descriptor
 returns-in-Err-add_descriptor c =
-    let one = descriptor_at c.args.name in
+    let one = descriptor_at c.args.units.now c.args.endpoint c.args.name in
     let start = c.loop-count.start in
     subst (λ (read : Result (List Descriptor) DriverWrong). Fails read c.in-Err-add_descriptor.stop) c.loop-count.invariant.read
     (each_fails one itself (c.args.at + start) (said c.words_from-piece.result.now)

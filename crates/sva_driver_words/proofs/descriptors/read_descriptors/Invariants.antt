@@ -8,9 +8,9 @@ use Rattle.sva_driver_words.proofs.descriptors.read_descriptors.Given as goal
 -- the pieces that are left, behind the lists so far, give what all words give
 abbrev pub invariant-loop-count : goal.invariant-loop-count
 invariant-loop-count l = record {
-  read : each_from (descriptor_at l.name) (l.at + l.start) (map itself l.list.items)
+  read : each_from (descriptor_at l.units l.endpoint l.name) (l.at + l.start) (map itself l.list.items)
       (pieces (codes "+") (drop l.start (said l.words)))
-      ≡ descriptors_of l.name l.at (said l.words);
+      ≡ descriptors_of l.units l.endpoint l.name l.at (said l.words);
   within : l.start ≤ length l.words;
 }
 

@@ -17,6 +17,7 @@ returns c =
       freed = c.now.inside.freed.items;
       domains = c.now.inside.domains.items;
       parts = c.now.inside.parts.items;
+      units = c.now.inside.units.items;
     } in
     let step =
     subst

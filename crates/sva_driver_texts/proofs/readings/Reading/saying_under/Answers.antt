@@ -13,14 +13,16 @@ use Rattle.sva_driver_texts.proofs.readings.Reading.saying_under.Goals as goal
 pub returns : goal.returns
 returns c =
     let words = map {A = Bor (List ℕ)} {B = List ℕ} (λ word. word.now) c.args.words.now in
-    let lines : map line_seen c.as_slice.result.now ≡ c.args.self.now.lines =
-    ap (map line_seen) c.as_slice.ensures.value ∙ ap (λ (reading : Reading). reading.lines) c.self.view_is in
-    let locks : own c.as_slice-2.result.now ≡ c.args.self.now.locks =
-    ap own c.as_slice-2.ensures.value ∙ ap (λ (reading : Reading). reading.locks) c.self.view_is in
-    let flags : own c.as_slice-3.result.now ≡ c.args.self.now.flags =
-    ap own c.as_slice-3.ensures.value ∙ ap (λ (reading : Reading). reading.flags) c.self.view_is in
-    let path : saying_by c.args.config.now (map line_seen c.as_slice.result.now) (own c.as_slice-2.result.now) (own c.as_slice-3.result.now)
-    c.args.under.now c.args.thread.now words c.word_at.result.now
+    let units : c.as_slice.result.now ≡ c.args.self.now.units =
+    c.as_slice.ensures.value ∙ ap (λ (reading : Reading). reading.units) c.self.view_is in
+    let lines : map line_seen c.as_slice-2.result.now ≡ c.args.self.now.lines =
+    ap (map line_seen) c.as_slice-2.ensures.value ∙ ap (λ (reading : Reading). reading.lines) c.self.view_is in
+    let locks : own c.as_slice-3.result.now ≡ c.args.self.now.locks =
+    ap own c.as_slice-3.ensures.value ∙ ap (λ (reading : Reading). reading.locks) c.self.view_is in
+    let flags : own c.as_slice-4.result.now ≡ c.args.self.now.flags =
+    ap own c.as_slice-4.ensures.value ∙ ap (λ (reading : Reading). reading.flags) c.self.view_is in
+    let path : saying_by c.args.config.now c.as_slice.result.now (map line_seen c.as_slice-2.result.now) (own c.as_slice-3.result.now)
+    (own c.as_slice-4.result.now) c.args.under.now c.args.thread.now words c.word_at.result.now
     ≡ saying_under c.args.config.now c.args.self.now c.args.under.now c.args.thread.now words =
-    λ i. saying_by c.args.config.now (lines i) (locks i) (flags i) c.args.under.now c.args.thread.now words (c.word_at.ensures i) in
+    λ i. saying_by c.args.config.now (units i) (lines i) (locks i) (flags i) c.args.under.now c.args.thread.now words (c.word_at.ensures i) in
     subst (λ (read : Result SayingSaid DriverWrong). Gives saying_seen read c.read_saying.result) path c.read_saying.ensures

@@ -22,6 +22,7 @@ use Rattle.sva_driver_reports.specs.Judged.{IsTextJudged, IsTextRun, unsafe_at}
 use Rattle.sva_driver_reports.specs.Reports.{budgets_text, events_count, others_text, parts_from, waiting_text}
 use Rattle.sva_driver_reports.specs.Witness.{EventSaid, event_of, front_text}
 use Rattle.sva_driver_reports.specs.declared.reports.Ruling.TheVariants as ruling
+use Rattle.sva_driver_reports.specs.declared.wanted.Wanted.{Wanted}
 
 -- ---- A witness
 
@@ -103,14 +104,15 @@ pub record HasLeak (driver : Driver) (count : ℕ) (out : List ℕ) : Type 0 whe
 abbrev pub HasRead : (text : List ℕ) → (IsSo : Read → Type 0) → Type 0
 HasRead text IsSo = (from : DriverRead) × (read : Read) × (driver_of text ≡ Ok from) × IsRead from read × IsSo read
 
--- a text that is judged as unsafe is told as unsafe at a line before `race`, or has a witness behind these
+-- a text that is judged as unsafe, where not all findings are wanted, is told as unsafe at a line before `race`, or has a witness behind
+-- these
 abbrev pub WitnessesAreTold : Type 0
-WitnessesAreTold = (text : List ℕ) (most : ℕ) (out : List ℕ) → IsTextJudged text most (Some ruling.Unsafe) out
+WitnessesAreTold = (text : List ℕ) (wanted : Wanted) (out : List ℕ) → wanted.all ≡ false → IsTextJudged text wanted (Some ruling.Unsafe) out
     → HasRead text (λ (read : Read). HasLeak read.opening read.before out ⊎ ((behind : Text) × IsText read behind × HasWitness behind out))
 
 -- one that is judged as stuck has a list to an end at which a line waits
 abbrev pub EndsAreTold : Type 0
-EndsAreTold = (text : List ℕ) (most : ℕ) (out : List ℕ) → IsTextJudged text most (Some ruling.Stuck) out
+EndsAreTold = (text : List ℕ) (wanted : Wanted) (out : List ℕ) → IsTextJudged text wanted (Some ruling.Stuck) out
     → HasRead text (λ (read : Read). (behind : Text) × IsText read behind × HasEnd behind out)
 
 -- and one whose lines are taken one after another, at one of all its lines

@@ -331,7 +331,7 @@ module _ (driver : Driver) (number : ℕ) (found : Wrong) where
   at_line place (Ok before) first is rest = unless_left place before first (is_left_out before place (slice_get driver.lines.items place)) is
   at_line place (Err stop) first is rest = later place (rest (first ∙ is))
 
-  leak_told : (count : ℕ) → behind_first driver count ≡ Err (halt.Leaks number found) → HasLeak driver count (unsafe_at number found)
+  pub leak_told : (count : ℕ) → behind_first driver count ≡ Err (halt.Leaks number found) → HasLeak driver count (unsafe_at number found)
   unfolding behind_first
   leak_told zero is = absurd (cc is)
   leak_told (suc place) is = at_line place (behind_first driver place) refl is (leak_told place)

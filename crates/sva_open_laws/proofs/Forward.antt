@@ -7,7 +7,7 @@ use Rattle.sva_step.specs.declared.limits.Config.{Config}
 use Rattle.sva_grammar.specs.Grammar.{◌>>=◌}
 use Rattle.sva_open.specs.declared.drivers.Driver.{Driver}
 use Rattle.sva_open.specs.declared.drivers.Line.{Line}
-use Rattle.sva_open.specs.World.{Open, Part}
+use Rattle.sva_open.specs.World.{Open}
 use Rattle.sva_open_safe.specs.Wrongs.{first_wrong}
 use Rattle.sva_open_safe.specs.declared.wrongs.Wrong.{Wrong}
 use Rattle.sva_judge.specs.Choices.{next_in}
@@ -122,7 +122,7 @@ stands_by read its true out h = stands_at read its (behind_first read.opening re
 stands_by read its false out h = absurd (cc)
 
 module _ (read : DriverRead) (its : Text) (out : List ℕ) (h : ReadsDriver (Ok read) (Stands its) out) where
-  kept : Read
+  abbrev kept : Read
   kept = h.0
 
   text : IsText kept its

@@ -31,7 +31,7 @@ use Rattle.sva_open.specs.Acts.{next_open, next_part}
 use Rattle.sva_open.specs.Finding.{found, is_draining, is_of_kind, is_taken, is_use, more_of, nth}
 use Rattle.sva_open.specs.Host.{is_group}
 use Rattle.sva_judge.specs.Choices as choice
-use Rattle.sva_judge.specs.Choices.{act_of, behind_act, behind_choice, behind_line, behind_local, behind_named, behind_own, found_at, goes_on}
+use Rattle.sva_judge.specs.Choices.{act_of, behind_act, behind_choice, behind_line, behind_named, behind_own, found_at, goes_on}
 use Rattle.sva_judge.specs.Choices.{has_left, if_taken, is_at, is_found, is_locked, is_next, is_open_to, local_act, next_in, noted, own_act}
 use Rattle.sva_judge.specs.Choices.{said, spent, was_taken, with_flag, with_leave, with_lock, with_spent, with_world}
 use Rattle.sva_judge.specs.Spots.{Spot}

@@ -131,7 +131,7 @@ behind Such none (unit ∷ units) now at own part after found quiet loud =
 
     by : (b c : Bool) → is_of_unit own ≡ c
         → Such (if b then None
-            else (if c then option_map (with_told (unit ∷ units) at own head) (Some (set_at now at after)) else Some (set_at now at after)))
+        else (if c then option_map (with_told (unit ∷ units) at own head) (Some (set_at now at after)) else Some (set_at now at after)))
     by true c is = none
     by false true is =
         subst (λ (o : Option Part). Such (Some (with_parts now (told (unit ∷ units) at own head o (slice_set now.parts at after)))))

@@ -36,6 +36,7 @@ mod PageWorlds
 pub mod Safety
 pub mod Shown
 pub mod StartActs
+pub mod UnitsPaid
 pub mod Usable
 pub mod Weighed
 pub mod WorldsPaid

@@ -98,7 +98,7 @@ module _ (ms : Mappings) (p : Endpoint) (x : Subject) (m : Message) (kind : kind
   behind (Some ResetDone) = or_false _ ∙ behind_one ResetDone _ (in_one _)
 
 pub delivered_alike : (w : World) (e c : ℕ) (x : Subject) (one : Sent) → Invariant w → (w.part e).message c ≡ Some x → x ≢ ResetDone
-    → sent_of w.mappings (w.part e) x ≡ one ∷ [] → IsDeliveredAlike w (w.part e) c x one
+    → sent_of w.mappings (w.part e) x ≡ one ∷ [] → IsDeliveredAlike w e (w.part e) c x one
 delivered_alike w e c x one i h ne is =
     record {
       stands = ap (λ z. slice_get z (length before)) s.whole ∙ get_at before one s.behind;

@@ -76,10 +76,10 @@ scope_same p q (RangeOf b range) = refl
 scope_same p q (PasidOf b) = refl
 scope_same p q (Wait cookie drain) = refl
 
-descriptor_same : (p q : Endpoint) (x : Order) → descriptor_of (device p q) x ≡ descriptor_of p x
-descriptor_same p q (RangeOf b range) = refl
-descriptor_same p q (PasidOf b) = refl
-descriptor_same p q (Wait cookie drain) = refl
+descriptor_same : (e : ℕ) (p q : Endpoint) (x : Order) → descriptor_of e (device p q) x ≡ descriptor_of e p x
+descriptor_same e p q (RangeOf b range) = refl
+descriptor_same e p q (PasidOf b) = refl
+descriptor_same e p q (Wait cookie drain) = refl
 
 taken_same : (p q : Endpoint) (s : OrderState) (k : ℕ) → taken_of (device p q) s k ≡ taken_of p s k
 taken_same p q Queued k = refl
@@ -93,27 +93,27 @@ taken_same p q (Completing count left) k = refl
 taken_same p q Done k = refl
 taken_same p q Void k = refl
 
-pub seen : (w : World) (m : ℕ) (p q : Endpoint)
-    → part_of (record w { messages = m }) (device p q) ≡ record (part_of w p) {
+pub seen : (w : World) (e m : ℕ) (p q : Endpoint)
+    → part_of (record w { messages = m }) e (device p q) ≡ record (part_of w e p) {
       requests = tabulate Limits.request_tags (λ t. option_map (request_of (device p q)) (q.at_tag t));
       held = gather q.requests (λ r. if_there (held_of w.mappings (device p q) r));
       works = gather q.uses (λ u. where_so (is_running (q.use_state u)) (use_of w.mappings (device p q) u))
           ++ gather p.orders (λ k. taken_of p (p.order_state k) k);
       flight = gather m (λ c. flying_of w.mappings (device p q) (q.message c));
     }
-seen w m p q =
-    ap (λ rows. record (part_of (record w { messages = m }) (device p q)) { rows = rows })
+seen w e m p q =
+    ap (λ rows. record (part_of (record w { messages = m }) e (device p q)) { rows = rows })
     (tabulate_same 33 (row_at w.bindings (device p q)) (row_at w.bindings p) (λ t l. row_same w.bindings p q t))
-    ∙ ap (λ taken. record (part_of (record w { messages = m }) (device p q)) { rows = tabulate 33 (row_at w.bindings p); works = uses ++ taken })
+    ∙ ap (λ taken. record (part_of (record w { messages = m }) e (device p q)) { rows = tabulate 33 (row_at w.bindings p); works = uses ++ taken })
     (gather_same p.orders (λ k. taken_of (device p q) (p.order_state k) k) (λ k. taken_of p (p.order_state k) k) (λ k l. taken_same p q (p.order_state k) k))
-    ∙ ap (λ queue. record (part_of (record w { messages = m }) (device p q)) {
+    ∙ ap (λ queue. record (part_of (record w { messages = m }) e (device p q)) {
       rows = tabulate 33 (row_at w.bindings p);
       works = uses ++ gather p.orders (λ k. taken_of p (p.order_state k) k);
       queue = queue;
     })
-    (gather_same p.orders (λ k. where_so (is_queued (p.order_state k)) (descriptor_of (device p q) (p.order k)))
-    (λ k. where_so (is_queued (p.order_state k)) (descriptor_of p (p.order k)))
-    (λ k l. ap (where_so (is_queued (p.order_state k))) (descriptor_same p q (p.order k))))
+    (gather_same p.orders (λ k. where_so (is_queued (p.order_state k)) (descriptor_of e (device p q) (p.order k)))
+    (λ k. where_so (is_queued (p.order_state k)) (descriptor_of e p (p.order k)))
+    (λ k l. ap (where_so (is_queued (p.order_state k))) (descriptor_same e p q (p.order k))))
   where
     uses : List Work
     uses = gather q.uses (λ u. where_so (is_running (q.use_state u)) (use_of w.mappings (device p q) u))
@@ -191,38 +191,38 @@ frames_same w v same =
 module _ (w : World) (e : ℕ) (o : LocalAct) (i : Invariant w) (low : e < w.config.endpoints)
     (calm : (x : Owed) → answered (act_alone (w.part e) w.messages o) x ≡ answered (w.part e) x) where
   abbrev parts : List Part
-  parts = tabulate w.config.endpoints (λ x. part_of w (w.part x))
+  parts = tabulate w.config.endpoints (λ x. part_of w x (w.part x))
 
-  other_same : (k : ℕ) → part_of (act w (AtEndpoint e o)) (w.part k) ≡ part_of w (w.part k)
+  other_same : (k : ℕ) → part_of (act w (AtEndpoint e o)) k (w.part k) ≡ part_of w k (w.part k)
   other_same k =
-      ap (λ flight. record (part_of w (w.part k)) { flight = flight }) (none_sent w (w.part k) (sends o) (λ c l. (i.parts k).resets.unsent c l))
+      ap (λ flight. record (part_of w k (w.part k)) { flight = flight }) (none_sent w (w.part k) (sends o) (λ c l. (i.parts k).resets.unsent c l))
 
   frames : tabulate w.config.frames (tenure_of (act w (AtEndpoint e o))) ≡ tabulate w.config.frames (tenure_of w)
   frames =
       frames_same w (act w (AtEndpoint e o))
       (put_keeps (λ k p. (x : Owed) → answered p x ≡ answered (w.part k) x) w.part e (act_alone (w.part e) w.messages o) calm (λ k x. refl))
 
-  parts_now : (v : Part) → part_of (act w (AtEndpoint e o)) (act_alone (w.part e) w.messages o) ≡ v
-      → tabulate w.config.endpoints (λ x. part_of (act w (AtEndpoint e o)) ((act w (AtEndpoint e o)).part x)) ≡ slice_set parts e v
+  parts_now : (v : Part) → part_of (act w (AtEndpoint e o)) e (act_alone (w.part e) w.messages o) ≡ v
+      → tabulate w.config.endpoints (λ x. part_of (act w (AtEndpoint e o)) x ((act w (AtEndpoint e o)).part x)) ≡ slice_set parts e v
   parts_now v is =
-      tabulate_set w.config.endpoints (λ x. part_of w (w.part x)) (λ x. part_of (act w (AtEndpoint e o)) ((act w (AtEndpoint e o)).part x)) e v
-      (ap (part_of (act w (AtEndpoint e o))) (put-same w.part e (act_alone (w.part e) w.messages o)) ∙ is)
-      (λ k ne. ap (part_of (act w (AtEndpoint e o))) (put-other w.part e (act_alone (w.part e) w.messages o) k ne) ∙ other_same k)
+      tabulate_set w.config.endpoints (λ x. part_of w x (w.part x)) (λ x. part_of (act w (AtEndpoint e o)) x ((act w (AtEndpoint e o)).part x)) e v
+      (ap (part_of (act w (AtEndpoint e o)) e) (put-same w.part e (act_alone (w.part e) w.messages o)) ∙ is)
+      (λ k ne. ap (part_of (act w (AtEndpoint e o)) k) (put-other w.part e (act_alone (w.part e) w.messages o) k ne) ∙ other_same k)
 
   -- where the open act leaves of the part what the act leaves, so it is of the world
-  pub at_one_endpoint : (its : Doing) (v : Part) → part_of (act w (AtEndpoint e o)) (act_alone (w.part e) w.messages o) ≡ v
-      → next_part (open_of w).settings (open_of w).mappings (part_of w (w.part e)) its ≡ Some v
+  pub at_one_endpoint : (its : Doing) (v : Part) → part_of (act w (AtEndpoint e o)) e (act_alone (w.part e) w.messages o) ≡ v
+      → next_part (open_of w).settings (open_of w).mappings (part_of w e (w.part e)) its ≡ Some v
       → next_open (open_of w) (doing.At e its) ≡ Some (open_of (act w (AtEndpoint e o)))
   at_one_endpoint its v is leads =
       ap (λ p. option_map (with_parts (open_of w)) (parts_after (open_of w).settings (open_of w).mappings parts e its p))
-      (tabulate_get w.config.endpoints (λ x. part_of w (w.part x)) e low)
+      (tabulate_get w.config.endpoints (λ x. part_of w x (w.part x)) e low)
       ∙ ap (λ p. option_map (with_parts (open_of w)) (option_map (slice_set parts e) p)) leads
       ∙ ap Some (sym (ap₂ (λ fs ps. record (open_of w) { frames = fs; parts = ps }) frames (parts_now v is)))
 
   -- where it leaves the part as it was, the world is as it was
-  pub unseen : part_of (act w (AtEndpoint e o)) (act_alone (w.part e) w.messages o) ≡ part_of w (w.part e)
+  pub unseen : part_of (act w (AtEndpoint e o)) e (act_alone (w.part e) w.messages o) ≡ part_of w e (w.part e)
       → open_of w ≡ open_of (act w (AtEndpoint e o))
   unseen is =
       sym (ap₂ (λ fs ps. record (open_of w) { frames = fs; parts = ps }) frames
-      (tabulate_same w.config.endpoints (λ x. part_of (act w (AtEndpoint e o)) ((act w (AtEndpoint e o)).part x)) (λ x. part_of w (w.part x))
-      (λ k l. put_keeps (λ x p. part_of (act w (AtEndpoint e o)) p ≡ part_of w (w.part x)) w.part e (act_alone (w.part e) w.messages o) is other_same k)))
+      (tabulate_same w.config.endpoints (λ x. part_of (act w (AtEndpoint e o)) x ((act w (AtEndpoint e o)).part x)) (λ x. part_of w x (w.part x))
+      (λ k l. put_keeps (λ x p. part_of (act w (AtEndpoint e o)) x p ≡ part_of w x (w.part x)) w.part e (act_alone (w.part e) w.messages o) is other_same k)))

@@ -77,10 +77,10 @@ scope_same p q (RangeOf b range) = refl
 scope_same p q (PasidOf b) = refl
 scope_same p q (Wait cookie drain) = refl
 
-descriptor_same : (p q : Endpoint) (x : Order) → descriptor_of (light p q) x ≡ descriptor_of p x
-descriptor_same p q (RangeOf b range) = refl
-descriptor_same p q (PasidOf b) = refl
-descriptor_same p q (Wait cookie drain) = refl
+descriptor_same : (e : ℕ) (p q : Endpoint) (x : Order) → descriptor_of e (light p q) x ≡ descriptor_of e p x
+descriptor_same e p q (RangeOf b range) = refl
+descriptor_same e p q (PasidOf b) = refl
+descriptor_same e p q (Wait cookie drain) = refl
 
 taken_same : (p q : Endpoint) (s : OrderState) (k : ℕ) → taken_of (light p q) s k ≡ taken_of p s k
 taken_same p q Queued k = refl
@@ -113,23 +113,23 @@ flying_same ms p q (Some (PageRequestOf r)) = refl
 flying_same ms p q (Some (MarkerOf b)) = refl
 flying_same ms p q (Some ResetDone) = refl
 
-pub seen : (w : World) (m : ℕ) (p q : Endpoint)
-    → part_of (record w { messages = m }) (light p q) ≡ record (part_of w p) {
+pub seen : (w : World) (e m : ℕ) (p q : Endpoint)
+    → part_of (record w { messages = m }) e (light p q) ≡ record (part_of w e p) {
       rows = tabulate (suc Limits.pasids) (row_at w.bindings (light p q));
       groups = tabulate Limits.groups (λ t. option_map (group_of (light p q)) (q.at_index t));
       is_enabled = not q.is_disabled;
       flight = gather m (λ c. flying_of w.mappings (light p q) (q.message c));
     }
-seen w m p q =
-    ap₂ (λ taken queue. record (part_of (record w { messages = m }) (light p q)) {
+seen w e m p q =
+    ap₂ (λ taken queue. record (part_of (record w { messages = m }) e (light p q)) {
       works = gather p.uses (λ u. where_so (is_running (p.use_state u)) (use_of w.mappings p u)) ++ taken;
       queue = queue;
     })
     (gather_same p.orders (λ k. taken_of (light p q) (p.order_state k) k) (λ k. taken_of p (p.order_state k) k)
     (λ k l. taken_same p q (p.order_state k) k))
-    (gather_same p.orders (λ k. where_so (is_queued (p.order_state k)) (descriptor_of (light p q) (p.order k)))
-    (λ k. where_so (is_queued (p.order_state k)) (descriptor_of p (p.order k)))
-    (λ k l. ap (where_so (is_queued (p.order_state k))) (descriptor_same p q (p.order k))))
+    (gather_same p.orders (λ k. where_so (is_queued (p.order_state k)) (descriptor_of e (light p q) (p.order k)))
+    (λ k. where_so (is_queued (p.order_state k)) (descriptor_of e p (p.order k)))
+    (λ k l. ap (where_so (is_queued (p.order_state k))) (descriptor_same e p q (p.order k))))
 
 -- ---- A response
 
@@ -160,7 +160,7 @@ module _ (w : World) (e c g : ℕ) (code : Code) (i : Invariant w) (low : e < w.
   abbrev place : ℕ
   place = place_of_message w.mappings (w.part e) c
 
-  alike : IsDeliveredAlike w p c (ResponseOf g code) its
+  alike : IsDeliveredAlike w e c (ResponseOf g code) its
   alike = delivered_alike w e c (ResponseOf g code) its i speaks (λ k. absurd (cc)) refl
 
   sent_before : c < w.messages
@@ -182,7 +182,7 @@ module _ (w : World) (e c g : ℕ) (code : Code) (i : Invariant w) (low : e < w.
       split w.messages flying left c its sent_before (ap (flying_of w.mappings p) speaks) (ap (flying_of w.mappings answered) (put-same p.message c None))
       others
 
-  flight : gather (w.messages + 0) (λ d. flying_of w.mappings answered (answered.message d)) ≡ remove (part_of w p).flight place
+  flight : gather (w.messages + 0) (λ d. flying_of w.mappings answered (answered.message d)) ≡ remove (part_of w e p).flight place
   unfolding left flying
   flight =
       gather_more w.messages 0 left
@@ -190,7 +190,7 @@ module _ (w : World) (e c g : ℕ) (code : Code) (i : Invariant w) (low : e < w.
       ∙ parted.rest
       ∙ sym (ap (λ z. remove z place) parted.whole ∙ remove_at (gather c flying) its parted.behind)
 
-  groups : tabulate 32 (λ t. option_map (group_of answered) (answered.at_index t)) ≡ slice_set (part_of w p).groups (p.index g) None
+  groups : tabulate 32 (λ t. option_map (group_of answered) (answered.at_index t)) ≡ slice_set (part_of w e p).groups (p.index g) None
   groups =
       tabulate_set 32 (λ t. option_map (group_of p) (p.at_index t)) (λ t. option_map (group_of answered) (answered.at_index t)) (p.index g) None
       (ap (option_map (group_of answered)) (put-same p.at_index (p.index g) None))
@@ -204,28 +204,28 @@ module _ (w : World) (e c g : ℕ) (code : Code) (i : Invariant w) (low : e < w.
 
   abbrev part_now : Part
   part_now =
-      record (part_of w (w.part e)) {
-        groups = slice_set (part_of w (w.part e)).groups ((w.part e).index g) None;
+      record (part_of w e (w.part e)) {
+        groups = slice_set (part_of w e (w.part e)).groups ((w.part e).index g) None;
         is_enabled = not (w.part e).is_disabled && not (is_failure code);
-        flight = remove (part_of w (w.part e)).flight place;
+        flight = remove (part_of w e (w.part e)).flight place;
       }
 
-  sees : part_of (act w (AtEndpoint e (LocalAct.Answered c g code))) answered ≡ part_now
+  sees : part_of (act w (AtEndpoint e (LocalAct.Answered c g code))) e answered ≡ part_now
   sees =
-      seen w (w.messages + 0) p answered
-      ∙ ap (λ rows. record (part_of w p) {
+      seen w e (w.messages + 0) p answered
+      ∙ ap (λ rows. record (part_of w e p) {
         rows = rows;
         groups = tabulate 32 (λ t. option_map (group_of answered) (answered.at_index t));
         is_enabled = not answered.is_disabled;
         flight = gather (w.messages + 0) (λ d. flying_of w.mappings answered (answered.message d));
       }) (tabulate_same 33 (row_at w.bindings answered) (row_at w.bindings p) (λ t l. row_same w.bindings p answered t))
-      ∙ ap₂ (λ gs b. record (part_of w p) {
+      ∙ ap₂ (λ gs b. record (part_of w e p) {
         groups = gs;
         is_enabled = b;
         flight = gather (w.messages + 0) (λ d. flying_of w.mappings answered (answered.message d));
       }) groups (fails_alike p.is_disabled code)
-      ∙ ap (λ fs. record (part_of w p) {
-        groups = slice_set (part_of w p).groups (p.index g) None;
+      ∙ ap (λ fs. record (part_of w e p) {
+        groups = slice_set (part_of w e p).groups (p.index g) None;
         is_enabled = not p.is_disabled && not (is_failure code);
         flight = fs;
       }) flight
@@ -234,5 +234,5 @@ module _ (w : World) (e c g : ℕ) (code : Code) (i : Invariant w) (low : e < w.
       ≡ Some (open_of (act w (AtEndpoint e (LocalAct.Answered c g code))))
   answers =
       at_one_endpoint w e (LocalAct.Answered c g code) i low (calm p w.messages (LocalAct.Answered c g code) refl refl) (local.Deliver place) part_now sees
-      (ap (deliver (open_of w).settings (open_of w).mappings (part_of w p) place) alike.stands
-      ∙ ap (λ b. if_so b (taken_in (open_of w).settings (open_of w).mappings (without_sent (part_of w p) place) its)) (alike.permitted ∙ permitted))
+      (ap (deliver (open_of w).settings (open_of w).mappings (part_of w e p) place) alike.stands
+      ∙ ap (λ b. if_so b (taken_in (open_of w).settings (open_of w).mappings (without_sent (part_of w e p) place) its)) (alike.permitted ∙ permitted))

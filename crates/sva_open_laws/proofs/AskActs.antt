@@ -46,19 +46,19 @@ module _ (w : World) (e u : ℕ) (i : Invariant w) (low : e < w.config.endpoints
   its_gone : uses_at w.mappings ended u ≡ []
   its_gone = ap (λ x. where_so (is_running x) (use_of w.mappings (w.part e) u)) (put-same (w.part e).use_state u Ended)
 
-  its_part : part_of (act w (AtEndpoint e (LocalAct.End u))) ended
-      ≡ record (part_of w (w.part e)) { works = gather (w.part e).uses (uses_at w.mappings ended) ++ all_taken (w.part e) }
-  its_part = quiet w (w.part e) ended (λ k l. (i.parts e).resets.unsent k l)
+  its_part : part_of (act w (AtEndpoint e (LocalAct.End u))) e ended
+      ≡ record (part_of w e (w.part e)) { works = gather (w.part e).uses (uses_at w.mappings ended) ++ all_taken (w.part e) }
+  its_part = quiet w e (w.part e) ended (λ k l. (i.parts e).resets.unsent k l)
 
   pub ends : (w.part e).use_state u ≡ Running
       → next_open (open_of w) (doing.At e (local.End (place_of_use (w.part e) u))) ≡ Some (open_of (act w (AtEndpoint e (LocalAct.End u))))
   ends runs =
       at_one_endpoint w e (LocalAct.End u) i low (calm p w.messages (LocalAct.End u) refl refl) (local.End (place_of_use p u))
-      (record (part_of w p) { works = gather p.uses (uses_at w.mappings ended) ++ all_taken p }) its_part
-      (ap (λ k. device_acts.end_use (part_of w p) k (slice_get (part_of w p).works k))
+      (record (part_of w e p) { works = gather p.uses (uses_at w.mappings ended) ++ all_taken p }) its_part
+      (ap (λ k. device_acts.end_use (part_of w e p) k (slice_get (part_of w e p).works k))
       (sym (length_so u (λ k. is_running (p.use_state k)) (use_of w.mappings p)))
-      ∙ ap (device_acts.end_use (part_of w p) (length before)) (ap (λ z. slice_get z (length before)) whole ∙ get_at before its (s.behind ++ all_taken p))
-      ∙ ap (λ z. Some (record (part_of w p) { works = z }))
+      ∙ ap (device_acts.end_use (part_of w e p) (length before)) (ap (λ z. slice_get z (length before)) whole ∙ get_at before its (s.behind ++ all_taken p))
+      ∙ ap (λ z. Some (record (part_of w e p) { works = z }))
       (ap (λ z. remove z (length before)) whole ∙ remove_at before its (s.behind ++ all_taken p)
       ∙ sym (append_assoc before s.behind (all_taken p)) ∙ ap (λ z. z ++ all_taken p) (sym s.rest)))
     where
@@ -76,7 +76,7 @@ module _ (w : World) (e u : ℕ) (i : Invariant w) (low : e < w.config.endpoints
           split p.uses (uses_at w.mappings p) (uses_at w.mappings ended) u its (run_low p u ((i.parts e).bounds.use_state u) runs)
           (ap (λ x. where_so (is_running x) (use_of w.mappings p u)) runs) its_gone others
 
-      whole : (part_of w p).works ≡ before ++ its ∷ (s.behind ++ all_taken p)
+      whole : (part_of w e p).works ≡ before ++ its ∷ (s.behind ++ all_taken p)
       whole = ap (λ z. z ++ all_taken p) s.whole ∙ append_assoc before (its ∷ s.behind) (all_taken p)
 
   -- one that a reset has ended is there no more
@@ -84,7 +84,7 @@ module _ (w : World) (e u : ℕ) (i : Invariant w) (low : e < w.config.endpoints
   ends_none dead =
       unseen w e (LocalAct.End u) i low (calm (w.part e) w.messages (LocalAct.End u) refl refl)
       (its_part
-      ∙ ap (λ z. record (part_of w (w.part e)) { works = z ++ all_taken (w.part e) })
+      ∙ ap (λ z. record (part_of w e (w.part e)) { works = z ++ all_taken (w.part e) })
       (gather_same (w.part e).uses (uses_at w.mappings ended) (uses_at w.mappings (w.part e)) (λ k l. each k (ℕ_cases k u))))
     where
       each : (k : ℕ) → (k ≡ u) ⊎ (k ≢ u) → uses_at w.mappings ended k ≡ uses_at w.mappings (w.part e) k
@@ -153,7 +153,7 @@ module _ (w : World) (e t q : ℕ) (i : Invariant w) (low : e < w.config.endpoin
       by bound = grind (arith, h, bound)
 
   requests : tabulate 32 (λ x. option_map (request_of asked) (asked.at_tag x))
-      ≡ slice_set (part_of w p).requests tag (Some (asking t q (owner_of p b) false))
+      ≡ slice_set (part_of w e p).requests tag (Some (asking t q (owner_of p b) false))
   requests =
       tabulate_set 32 (λ x. option_map (request_of p) (p.at_tag x)) (λ x. option_map (request_of asked) (asked.at_tag x)) tag
       (Some (asking t q (owner_of p b) false))
@@ -164,7 +164,7 @@ module _ (w : World) (e t q : ℕ) (i : Invariant w) (low : e < w.config.endpoin
       at k None h = refl
       at k (Some r) h = ap Some (old_request r (out_low r ((i.parts e).labels.tag_bears k r h).1))
 
-  held : gather (suc p.requests) (held_at w.mappings asked) ≡ (part_of w p).held
+  held : gather (suc p.requests) (held_at w.mappings asked) ≡ (part_of w e p).held
   held =
       gather_next p.requests (held_at w.mappings asked)
       ∙ ap₂ (λ xs ys. xs ++ ys)
@@ -176,7 +176,7 @@ module _ (w : World) (e t q : ℕ) (i : Invariant w) (low : e < w.config.endpoin
       ∙ append-nil (gather p.requests (held_at w.mappings p))
 
   flight : gather (w.messages + 1) (λ c. flying_of w.mappings asked (asked.message c))
-      ≡ (part_of w p).flight ++ flown tag t q (owner_of p b) p.resets
+      ≡ (part_of w e p).flight ++ flown tag t q (owner_of p b) p.resets
   flight =
       gather_one_more w.messages (λ c. flying_of w.mappings asked (asked.message c))
       ∙ ap₂ (λ xs ys. xs ++ ys)
@@ -212,21 +212,21 @@ module _ (w : World) (e t q : ℕ) (i : Invariant w) (low : e < w.config.endpoin
 
   abbrev asked_part : Part
   asked_part =
-      record (part_of w (w.part e)) {
-        requests = slice_set (part_of w (w.part e)).requests tag (Some (asking t q (owner_of (w.part e) b) false));
-        flight = (part_of w (w.part e)).flight ++ flown tag t q (owner_of (w.part e) b) (w.part e).resets;
+      record (part_of w e (w.part e)) {
+        requests = slice_set (part_of w e (w.part e)).requests tag (Some (asking t q (owner_of (w.part e) b) false));
+        flight = (part_of w e (w.part e)).flight ++ flown tag t q (owner_of (w.part e) b) (w.part e).resets;
       }
 
-  sees : part_of (act w (AtEndpoint e (LocalAct.Ask b q tag))) asked ≡ asked_part
+  sees : part_of (act w (AtEndpoint e (LocalAct.Ask b q tag))) e asked ≡ asked_part
   sees =
-      seen w (w.messages + 1) p asked
-      ∙ ap (λ z. record (part_of w p) {
+      seen w e (w.messages + 1) p asked
+      ∙ ap (λ z. record (part_of w e p) {
         requests = z;
         held = gather (suc p.requests) (held_at w.mappings asked);
         flight = gather (w.messages + 1) (λ c. flying_of w.mappings asked (asked.message c));
       }) requests
-      ∙ ap₂ (λ hs fs. record (part_of w p) {
-        requests = slice_set (part_of w p).requests tag (Some (asking t q (owner_of p b) false));
+      ∙ ap₂ (λ hs fs. record (part_of w e p) {
+        requests = slice_set (part_of w e p).requests tag (Some (asking t q (owner_of p b) false));
         held = hs;
         flight = fs;
       }) held flight
@@ -234,15 +234,15 @@ module _ (w : World) (e t q : ℕ) (i : Invariant w) (low : e < w.config.endpoin
   -- the request of an owner, at a place, sent at a time
   abbrev sent_by : (owner : ℕ) → Option ℕ → (time : ℕ) → Part
   sent_by owner place time =
-      sent (record (part_of w (w.part e)) { requests = put_at (part_of w (w.part e)).requests (asking t q owner false) place }) owner time
-      (message.Request (place_or_end (part_of w (w.part e)).requests place) t q)
+      sent (record (part_of w e (w.part e)) { requests = put_at (part_of w e (w.part e)).requests (asking t q owner false) place }) owner time
+      (message.Request (place_or_end (part_of w e (w.part e)).requests place) t q)
 
   pub asks : next_open (open_of w) (doing.At e (local.Ask t q)) ≡ Some (open_of (act w (AtEndpoint e (LocalAct.Ask b q tag))))
   asks =
       at_one_endpoint w e (LocalAct.Ask b q tag) i low (calm p w.messages (LocalAct.Ask b q tag) refl refl) (local.Ask t q) asked_part sees
-      (ap (device_acts.ask (part_of w p) t q) (row_there w e t i bears on)
+      (ap (device_acts.ask (part_of w e p) t q) (row_there w e t i bears on)
       ∙ ap (λ x. if_so (is_used x && (true && true))
-      (sent_by (user_by p (user_of w.bindings p t)) (position is_none (part_of w p).requests) (time_of p))) (state_is w e t i bears on)
-      ∙ ap (λ o. Some (sent_by (user_by p o) (position is_none (part_of w p).requests) (time_of p))) (user_is w e t i bears on)
+      (sent_by (user_by p (user_of w.bindings p t)) (position is_none (part_of w e p).requests) (time_of p))) (state_is w e t i bears on)
+      ∙ ap (λ o. Some (sent_by (user_by p o) (position is_none (part_of w e p).requests) (time_of p))) (user_is w e t i bears on)
       ∙ ap (λ o. Some (sent_by (owner_of p b) o (time_of p))) (first_free 32 p.at_tag (request_of p) tag_low free)
       ∙ ap (λ k. Some (sent_by (owner_of p b) (Some tag) k)) time_is)

@@ -27,7 +27,8 @@ use Rattle.sva_open.specs.declared.messages.Message.TheVariants as message
 use Rattle.sva_open.specs.declared.messages.Sent.{Sent as Flying}
 use Rattle.sva_open.specs.declared.rows.Row.{Row}
 use Rattle.sva_open.specs.World.{Open as World_, Part, sent, with_row}
-use Rattle.sva_open.specs.Acts.{next_open, next_part, parts_after, with_parts}
+use Rattle.sva_open.specs.Acts.{at_endpoint, next_open, next_part, parts_after, with_parts}
+use Rattle.sva_open.specs.Below.{about, shared}
 use Rattle.sva_open.specs.Host as host
 use Rattle.sva_open_laws.specs.AsActs.{acted}
 use Rattle.sva_open_laws.specs.AsOpen.{entry_of, flying_of, gather, had_before, is_bound, is_marked, one, open_of, owner_by, owner_of}
@@ -93,11 +94,17 @@ count_same_end n q h = ap (λ (b : Bool). if b then suc (count_below n q) else c
 
 -- ---- Acts, by tables of parts
 
-at_table : (now : World_) (n : ℕ) (parts : ℕ → Part) (e : ℕ) (its : Doing) (v : Part) → e < n → now.parts ≡ tabulate n parts
+-- where no units are shared
+alone : (now : World_) (e : ℕ) (its : Doing) → now.units ≡ [] → next_open now (doing.At e its) ≡ at_endpoint now e its
+alone now e its none =
+    ap (λ us. shared us (about us e its (slice_get now.parts e)) its now.parts (at_endpoint now (about us e its (slice_get now.parts e)) its)) none
+
+at_table : (now : World_) (n : ℕ) (parts : ℕ → Part) (e : ℕ) (its : Doing) (v : Part) → e < n → now.units ≡ [] → now.parts ≡ tabulate n parts
     → next_part now.settings now.mappings (parts e) its ≡ Some v
     → next_open now (doing.At e its) ≡ Some (record now { parts = tabulate n (put parts e v) })
-at_table now n parts e its v low are leads =
-    ap (λ ps. option_map (with_parts now) (parts_after now.settings now.mappings ps e its (slice_get ps e))) are
+at_table now n parts e its v low none are leads =
+    alone now e its none
+    ∙ ap (λ ps. option_map (with_parts now) (parts_after now.settings now.mappings ps e its (slice_get ps e))) are
     ∙ ap (λ p. option_map (with_parts now) (parts_after now.settings now.mappings (tabulate n parts) e its p)) (tabulate_get n parts e low)
     ∙ ap (λ p. option_map (with_parts now) (option_map (slice_set (tabulate n parts) e) p)) leads
     ∙ ap (λ ps. Some (record now { parts = ps }))
@@ -336,7 +343,7 @@ module _ (w : World) (i : Invariant w) where
             (its_row ∙ sym (put-same (row_at g p) t entered_row))
         go x (inr ne) = row_other x ne ∙ sym (put-other (row_at g p) t entered_row x ne)
 
-    flight_same : gather (w.messages + 1) (λ c. flying_of w.mappings bound (bound.message c)) ≡ (part_of w p).flight ++ start
+    flight_same : gather (w.messages + 1) (λ c. flying_of w.mappings bound (bound.message c)) ≡ (part_of w e p).flight ++ start
     flight_same =
         gather_one_more w.messages (λ c. flying_of w.mappings bound (bound.message c))
         ∙ ap₂ (λ xs ys. xs ++ ys)
@@ -346,34 +353,34 @@ module _ (w : World) (i : Invariant w) where
         (ap (flying_of w.mappings bound) (put-same p.message w.messages (Some (StartOf g)))
         ∙ ap₂ (λ o x. one o p.resets (message.Start x)) (ap (λ z. had_before bound z g) new_pasid ∙ had_same w e s t i t g (omega arith)) new_pasid)
 
-    part_same : part_of after bound ≡ record (part_of w p) { rows = rows; flight = (part_of w p).flight ++ start }
+    part_same : part_of after e bound ≡ record (part_of w e p) { rows = rows; flight = (part_of w e p).flight ++ start }
     part_same =
-        ap₂ (λ rs fs. record (part_of after bound) { rows = rs; flight = fs }) rows_same flight_same
-        ∙ ap₂ (λ xs ys. record (part_of after bound) { rows = rows; flight = (part_of w p).flight ++ start; requests = xs; groups = ys })
+        ap₂ (λ rs fs. record (part_of after e bound) { rows = rs; flight = fs }) rows_same flight_same
+        ∙ ap₂ (λ xs ys. record (part_of after e bound) { rows = rows; flight = (part_of w e p).flight ++ start; requests = xs; groups = ys })
         (tabulate_same 32 _ _ (λ x l. request_old w e s t i x)) (tabulate_same 32 _ _ (λ x l. group_old w e s t i x))
-        ∙ ap₂ (λ xs ys. record (part_of after bound) {
+        ∙ ap₂ (λ xs ys. record (part_of after e bound) {
           rows = rows;
-          flight = (part_of w p).flight ++ start;
-          requests = (part_of w p).requests;
-          groups = (part_of w p).groups;
+          flight = (part_of w e p).flight ++ start;
+          requests = (part_of w e p).requests;
+          groups = (part_of w e p).groups;
           held = xs;
           queue = ys;
         })
         (gather_same p.requests _ _ (λ r l. held_old w e s t i r l)) (gather_same p.orders _ _ (λ k l. queued_old w e s t i k))
-        ∙ ap₂ (λ xs ys. record (part_of w p) {
+        ∙ ap₂ (λ xs ys. record (part_of w e p) {
           rows = rows;
-          flight = (part_of w p).flight ++ start;
+          flight = (part_of w e p).flight ++ start;
           works = xs ++ ys;
-          arrived = (part_of after bound).arrived;
-          filed = (part_of after bound).filed;
+          arrived = (part_of after e bound).arrived;
+          filed = (part_of after e bound).filed;
         })
         (gather_same p.uses _ _ (λ u l. use_old w e s t i u)) (gather_same p.orders _ _ (λ k l. taken_old w e s t i k))
-        ∙ ap₂ (λ xs ys. record (part_of w p) { rows = rows; flight = (part_of w p).flight ++ start; arrived = xs; filed = ys })
+        ∙ ap₂ (λ xs ys. record (part_of w e p) { rows = rows; flight = (part_of w e p).flight ++ start; arrived = xs; filed = ys })
         (gather_same p.arrivals _ _ (λ k l. arrived_old w e s t i k)) (gather_same p.groups _ _ (λ x l. filed_old w e s t i x))
 
-    other_same : (k : ℕ) → part_of after (w.part k) ≡ part_of w (w.part k)
+    other_same : (k : ℕ) → part_of after k (w.part k) ≡ part_of w k (w.part k)
     other_same k =
-        ap₂ (λ rs fs. record (part_of w (w.part k)) { rows = rs; flight = fs })
+        ap₂ (λ rs fs. record (part_of w k (w.part k)) { rows = rs; flight = fs })
         (tabulate_same 33 (row_at (suc g) (w.part k)) (row_at g (w.part k)) (λ x l. row_elsewhere k x))
         (none_sent w (w.part k) 1 (λ c l. (i.parts k).resets.unsent c l))
 
@@ -386,23 +393,23 @@ module _ (w : World) (i : Invariant w) where
     -- ---- The acts
 
     abbrev parts_before : ℕ → Part
-    parts_before k = part_of w (w.part k)
+    parts_before k = part_of w k (w.part k)
 
     abbrev with_entry : Part
-    with_entry = record (part_of w (w.part e)) { rows = rows }
+    with_entry = record (part_of w e (w.part e)) { rows = rows }
 
     abbrev with_start : Part
-    with_start = record (part_of w (w.part e)) { rows = rows; flight = (part_of w (w.part e)).flight ++ start }
+    with_start = record (part_of w e (w.part e)) { rows = rows; flight = (part_of w e (w.part e)).flight ++ start }
 
     abbrev between : World_
     between = record (open_of w) { parts = tabulate w.config.endpoints (put parts_before e with_entry) }
 
     enters : e < w.config.endpoints → t < 33 → next_open (open_of w) (doing.At e (local.SetEntry t s)) ≡ Some between
     enters low pasid_low =
-        at_table (open_of w) w.config.endpoints parts_before e (local.SetEntry t s) with_entry low refl
-        (ap (host.set_entry (part_of w p) t s) (tabulate_get 33 (row_at g p) t pasid_low)
-        ∙ ap (λ r. Some (with_row (part_of w p) t (host.entered r s))) before_row
-        ∙ ap (λ rs. Some (record (part_of w p) { rows = rs }))
+        at_table (open_of w) w.config.endpoints parts_before e (local.SetEntry t s) with_entry low refl refl
+        (ap (host.set_entry (part_of w e p) t s) (tabulate_get 33 (row_at g p) t pasid_low)
+        ∙ ap (λ r. Some (with_row (part_of w e p) t (host.entered r s))) before_row
+        ∙ ap (λ rs. Some (record (part_of w e p) { rows = rs }))
         (sym (tabulate_set 33 (row_at g p) (put (row_at g p) t entered_row) t entered_row (put-same (row_at g p) t entered_row)
         (λ k ne. put-other (row_at g p) t entered_row k ne))))
 
@@ -410,20 +417,20 @@ module _ (w : World) (i : Invariant w) where
         → next_open between (doing.At e (local.Start t))
         ≡ Some (open_of after)
     starts low pasid_low phase =
-        at_table between w.config.endpoints (put parts_before e with_entry) e (local.Start t) with_start low refl
+        at_table between w.config.endpoints (put parts_before e with_entry) e (local.Start t) with_start low refl refl
         (ap (λ q. host.start q t (slice_get q.rows t)) (put-same parts_before e with_entry)
         ∙ ap (host.start with_entry t) (tabulate_get 33 (put (row_at g p) t entered_row) t pasid_low ∙ ap Some (put-same (row_at g p) t entered_row))
         ∙ ap (λ x. Some (sent with_entry (had_before p t g) (time_by x p.resets) (message.Start t))) phase)
         ∙ ap Some (sym (ap₂ (λ fs ps. record (open_of w) { frames = fs; parts = ps }) frames_same_too
-        (tabulate_same w.config.endpoints (λ k. part_of after (after.part k)) (put (put parts_before e with_entry) e with_start)
+        (tabulate_same w.config.endpoints (λ k. part_of after k (after.part k)) (put (put parts_before e with_entry) e with_start)
         (λ k l. each k (ℕ_cases k e)))))
       where
-        each : (k : ℕ) → (k ≡ e) ⊎ (k ≢ e) → part_of after (after.part k) ≡ put (put parts_before e with_entry) e with_start k
+        each : (k : ℕ) → (k ≡ e) ⊎ (k ≢ e) → part_of after k (after.part k) ≡ put (put parts_before e with_entry) e with_start k
         each k (inl same) =
-            subst (λ z. part_of after (after.part z) ≡ put (put parts_before e with_entry) e with_start z) (sym same)
-            (ap (part_of after) (put-same w.part e bound) ∙ part_same ∙ sym (put-same (put parts_before e with_entry) e with_start))
+            subst (λ z. part_of after z (after.part z) ≡ put (put parts_before e with_entry) e with_start z) (sym same)
+            (ap (part_of after e) (put-same w.part e bound) ∙ part_same ∙ sym (put-same (put parts_before e with_entry) e with_start))
         each k (inr ne) =
-            ap (part_of after) (put-other w.part e bound k ne) ∙ other_same k
+            ap (part_of after k) (put-other w.part e bound k ne) ∙ other_same k
             ∙ sym (put-other (put parts_before e with_entry) e with_start k ne ∙ put-other parts_before e with_entry k ne)
 
     pub binds_open : e < w.config.endpoints → t < 33 → (w.part e).phase ≡ Open

@@ -143,17 +143,17 @@ module _ (w : World) (e s t : ℕ) (i : Invariant w) where
 
   pub queued_old : (k : ℕ)
       → where_so (is_queued ((w.part e).order_state k))
-      (descriptor_of (act_alone (w.part e) w.messages (LocalAct.Bind w.bindings s t)) ((w.part e).order k))
-      ≡ where_so (is_queued ((w.part e).order_state k)) (descriptor_of (w.part e) ((w.part e).order k))
+      (descriptor_of e (act_alone (w.part e) w.messages (LocalAct.Bind w.bindings s t)) ((w.part e).order k))
+      ≡ where_so (is_queued ((w.part e).order_state k)) (descriptor_of e (w.part e) ((w.part e).order k))
   queued_old k = go (p.order_state k) refl
     where
-      by_order : (x : Order) → p.order k ≡ x → is_undone (p.order_state k) ≡ true → descriptor_of bound x ≡ descriptor_of p x
-      by_order (RangeOf b range) is undone = ap descriptor.Device (scope_old k (RangeOf b range) is undone)
-      by_order (PasidOf b) is undone = ap descriptor.Device (scope_old k (PasidOf b) is undone)
+      by_order : (x : Order) → p.order k ≡ x → is_undone (p.order_state k) ≡ true → descriptor_of e bound x ≡ descriptor_of e p x
+      by_order (RangeOf b range) is undone = ap (descriptor.Device e) (scope_old k (RangeOf b range) is undone)
+      by_order (PasidOf b) is undone = ap (descriptor.Device e) (scope_old k (PasidOf b) is undone)
       by_order (Wait cookie drain) is undone = refl
 
       go : (x : OrderState) → p.order_state k ≡ x
-          → where_so (is_queued x) (descriptor_of bound (p.order k)) ≡ where_so (is_queued x) (descriptor_of p (p.order k))
+          → where_so (is_queued x) (descriptor_of e bound (p.order k)) ≡ where_so (is_queued x) (descriptor_of e p (p.order k))
       go Queued h = ap (where_so true) (by_order (p.order k) refl (ap is_undone h))
       go Sent h = refl
       go (Taken uses) h = refl
@@ -205,8 +205,8 @@ module _ (w : World) (e s t : ℕ) (i : Invariant w) where
 
   pub arrived_old : (k : ℕ)
       → where_so (is_arrived ((w.part e).page_request ((w.part e).arrival k)))
-      (arrived_of (act_alone (w.part e) w.messages (LocalAct.Bind w.bindings s t)) ((w.part e).arrival k))
-      ≡ where_so (is_arrived ((w.part e).page_request ((w.part e).arrival k))) (arrived_of (w.part e) ((w.part e).arrival k))
+      (arrived_of e (act_alone (w.part e) w.messages (LocalAct.Bind w.bindings s t)) ((w.part e).arrival k))
+      ≡ where_so (is_arrived ((w.part e).page_request ((w.part e).arrival k))) (arrived_of e (w.part e) ((w.part e).arrival k))
   arrived_old k = go (is_arrived (p.page_request r)) refl
     where
       r : ℕ
@@ -215,11 +215,11 @@ module _ (w : World) (e s t : ℕ) (i : Invariant w) where
       arrived_is : (x : PageRequestState) → is_arrived x ≡ true → x ≡ Arrived
       arrived_is x h = grind arith
 
-      go : (b : Bool) → is_arrived (p.page_request r) ≡ b → where_so b (arrived_of bound r) ≡ where_so b (arrived_of p r)
+      go : (b : Bool) → is_arrived (p.page_request r) ≡ b → where_so b (arrived_of e bound r) ≡ where_so b (arrived_of e p r)
       go false h = refl
       go true h =
           let low = asker_low r (arrived_made g p (i.parts e).bounds r (arrived_is (p.page_request r) h)) in
-          ap₂ (λ d o. where_so true (record (arrived_of p r) { request = record (asked_of p r) { pasid = d }; owner = o }))
+          ap₂ (λ d o. where_so true (record (arrived_of e p r) { request = record (asked_of p r) { pasid = d }; owner = o }))
           (pasid_old (p.asker (p.group_of r)) low) (owner_old (p.asker (p.group_of r)) low)
 
   pub filed_old : (x : ℕ)

@@ -62,14 +62,14 @@ held_at ms p r = if_there (held_of ms p r)
 abbrev pub all_taken : Endpoint → List Work
 all_taken p = gather p.orders (λ k. taken_of p (p.order_state k) k)
 
-pub quiet : (w : World) (p q : Endpoint) → ((c : ℕ) → w.messages ≤ c → p.message c ≡ None)
-    → part_of (record w { messages = w.messages + 0 }) (working p q) ≡ record (part_of w p) {
+pub quiet : (w : World) (e : ℕ) (p q : Endpoint) → ((c : ℕ) → w.messages ≤ c → p.message c ≡ None)
+    → part_of (record w { messages = w.messages + 0 }) e (working p q) ≡ record (part_of w e p) {
       held = gather p.requests (held_at w.mappings (working p q));
       works = gather q.uses (uses_at w.mappings (working p q)) ++ all_taken p;
     }
-quiet w p q unsent =
-    seen w (w.messages + 0) p (working p q)
-    ∙ ap (λ flight. record (part_of w p) {
+quiet w e p q unsent =
+    seen w e (w.messages + 0) p (working p q)
+    ∙ ap (λ flight. record (part_of w e p) {
       held = gather p.requests (held_at w.mappings (working p q));
       works = gather q.uses (uses_at w.mappings (working p q)) ++ all_taken p;
       flight = flight;
@@ -119,7 +119,7 @@ module _ (w : World) (e t : ℕ) (i : Invariant w) (bears : (w.part e).at_pasid 
   pub state_is : state_of (w.part e) (user_of w.bindings (w.part e) t) ≡ row_state.On
   state_is = ap (state_of (w.part e)) user_is ∙ ap state_by on
 
-  pub row_there : slice_get (part_of w (w.part e)).rows t ≡ Some (row_at w.bindings (w.part e) t)
+  pub row_there : slice_get (part_of w e (w.part e)).rows t ≡ Some (row_at w.bindings (w.part e) t)
   row_there =
       let low = ((i.parts e).labels.pasid_low t (Labels.bearer (w.part e) t) bears).1 in
       tabulate_get 33 (row_at w.bindings (w.part e)) t (omega (arith, low))
@@ -176,9 +176,9 @@ module _ (w : World) (e t q : ℕ) (i : Invariant w) (c : Cached (w.part e) t q)
       → next_open (open_of w) (doing.At e (local.Evict t q)) ≡ Some (open_of (act w (AtEndpoint e (LocalAct.Evict at_it))))
   evicts low =
       at_one_endpoint w e (LocalAct.Evict at_it) i low (calm p w.messages (LocalAct.Evict at_it) refl refl) (local.Evict t q)
-      (record (part_of w p) { held = gather p.requests (held_at w.mappings left) }) (quiet w p left (λ k l. (i.parts e).resets.unsent k l))
-      (ap (device_acts.evict (part_of w p)) there
-      ∙ ap (λ h. Some (record (part_of w p) { held = h }))
+      (record (part_of w e p) { held = gather p.requests (held_at w.mappings left) }) (quiet w e p left (λ k l. (i.parts e).resets.unsent k l))
+      (ap (device_acts.evict (part_of w e p)) there
+      ∙ ap (λ h. Some (record (part_of w e p) { held = h }))
       (ap (λ z. remove z (length (gather at_it (held_at w.mappings p)))) s.whole
       ∙ remove_at (gather at_it (held_at w.mappings p)) it s.behind ∙ sym s.rest))
     where
@@ -194,7 +194,7 @@ module _ (w : World) (e t q : ℕ) (i : Invariant w) (c : Cached (w.part e) t q)
           (ap (λ o. if_there (option_map (translation_of w.mappings p (p.request_binding at_it) (p.request_page at_it)) o)) (put-same p.held at_it None))
           (λ k ne. ap (λ o. if_there (option_map (translation_of w.mappings p (p.request_binding k) (p.request_page k)) o)) (put-other p.held at_it None k ne))
 
-      there : position (is_of t q) (part_of w p).held ≡ Some (length (gather at_it (held_at w.mappings p)))
+      there : position (is_of t q) (part_of w e p).held ≡ Some (length (gather at_it (held_at w.mappings p)))
       there =
           ap (position (is_of t q)) s.whole
           ∙ place_at (is_of t q) (gather at_it (held_at w.mappings p)) it s.behind none_before is_it
@@ -206,11 +206,11 @@ module _ (w : World) (e t q : ℕ) (i : Invariant w) (c : Cached (w.part e) t q)
       ≡ Some (open_of (act w (AtEndpoint e (LocalAct.Begin at_it (the ((w.part e).held at_it)) slot))))
   begins slot low on untaken =
       at_one_endpoint w e (LocalAct.Begin at_it m slot) i low (calm p w.messages (LocalAct.Begin at_it m slot) refl refl) (local.Use t q)
-      (record (part_of w p) { works = (part_of w p).works ++ Use it ∷ [] })
-      (quiet w p begun (λ k l. (i.parts e).resets.unsent k l) ∙ ap (λ z. record (part_of w p) { works = z }) works)
-      (ap (λ r. device_acts.begin_use (part_of w p) r (find (is_of t q) (part_of w p).held)) (row_there w e t i bears on)
-      ∙ ap (device_acts.begin_use (part_of w p) (Some (row_at w.bindings p t))) there
-      ∙ ap (λ x. if_so (is_used x && (true && true)) (record (part_of w p) { works = (part_of w p).works ++ Use it ∷ [] })) (state_is w e t i bears on))
+      (record (part_of w e p) { works = (part_of w e p).works ++ Use it ∷ [] })
+      (quiet w e p begun (λ k l. (i.parts e).resets.unsent k l) ∙ ap (λ z. record (part_of w e p) { works = z }) works)
+      (ap (λ r. device_acts.begin_use (part_of w e p) r (find (is_of t q) (part_of w e p).held)) (row_there w e t i bears on)
+      ∙ ap (device_acts.begin_use (part_of w e p) (Some (row_at w.bindings p t))) there
+      ∙ ap (λ x. if_so (is_used x && (true && true)) (record (part_of w e p) { works = (part_of w e p).works ++ Use it ∷ [] })) (state_is w e t i bears on))
     where
       p : Endpoint
       p = w.part e
@@ -230,7 +230,7 @@ module _ (w : World) (e t q : ℕ) (i : Invariant w) (c : Cached (w.part e) t q)
           other : (k : ℕ) → k ≢ at_it → (if k == at_it then [] else held_at w.mappings p k) ≡ held_at w.mappings p k
           other k ne = ap (λ (b : Bool). if b then [] else held_at w.mappings p k) (never (k == at_it) (λ h. ne (eqb-true k at_it h)))
 
-      there : find (is_of t q) (part_of w p).held ≡ Some it
+      there : find (is_of t q) (part_of w e p).held ≡ Some it
       there = ap (find (is_of t q)) s.whole ∙ find_at (is_of t q) (gather at_it (held_at w.mappings p)) it s.behind none_before is_it
 
       none_taken : all_taken p ≡ []

@@ -145,12 +145,12 @@ module _ (w : World) (s q f : ℕ) (x : Bool) where
         go (Some (MarkerOf b)) h = refl
         go (Some ResetDone) h = refl
 
-    part_same : part_of mapped p ≡ part_of w p
+    part_same : part_of mapped e p ≡ part_of w e p
     part_same =
-        ap₂ (λ hs us. record (part_of mapped p) { held = hs; works = us ++ all_taken p })
+        ap₂ (λ hs us. record (part_of mapped e p) { held = hs; works = us ++ all_taken p })
         (gather_same p.requests (held_at behind p) (held_at before p) (λ r l. held_same r))
         (gather_same p.uses (uses_at behind p) (uses_at before p) (λ u l. use_same u))
-        ∙ ap (λ fs. record (part_of w p) { flight = fs })
+        ∙ ap (λ fs. record (part_of w e p) { flight = fs })
         (gather_same w.messages (λ c. flying_of behind p (p.message c)) (λ c. flying_of before p (p.message c)) (λ c l. flight_same c))
 
   -- ---- The frames
@@ -290,5 +290,5 @@ module _ (w : World) (s q f : ℕ) (x : Bool) where
           tabulate_same w.config.frames (tenure_of mapped) (tenure_of w)
           (λ k l. ap (λ n. record (tenure_of w k) { given = n }) (frame_same i fi free k))
 
-      parts : tabulate w.config.endpoints (λ e. part_of mapped (w.part e)) ≡ tabulate w.config.endpoints (λ e. part_of w (w.part e))
-      parts = tabulate_same w.config.endpoints (λ e. part_of mapped (w.part e)) (λ e. part_of w (w.part e)) (λ e l. part_same e i)
+      parts : tabulate w.config.endpoints (λ e. part_of mapped e (w.part e)) ≡ tabulate w.config.endpoints (λ e. part_of w e (w.part e))
+      parts = tabulate_same w.config.endpoints (λ e. part_of mapped e (w.part e)) (λ e. part_of w e (w.part e)) (λ e l. part_same e i)

@@ -85,7 +85,7 @@ module _ (w : World) (e c b : ℕ) (i : Invariant w) (low : e < w.config.endpoin
   abbrev place : ℕ
   place = place_of_message w.mappings (w.part e) c
 
-  alike : IsDeliveredAlike w p c (StartOf b) its
+  alike : IsDeliveredAlike w e c (StartOf b) its
   alike = delivered_alike w e c (StartOf b) its i speaks (λ k. absurd (cc)) refl
 
   bearer : IsBearer p b
@@ -115,7 +115,7 @@ module _ (w : World) (e c b : ℕ) (i : Invariant w) (low : e < w.config.endpoin
       split w.messages flying left c its sent_before (ap (flying_of w.mappings p) speaks) (ap (flying_of w.mappings started) (put-same p.message c None))
       others
 
-  flight : gather (w.messages + 0) (λ d. flying_of w.mappings started (started.message d)) ≡ remove (part_of w p).flight place
+  flight : gather (w.messages + 0) (λ d. flying_of w.mappings started (started.message d)) ≡ remove (part_of w e p).flight place
   unfolding left flying
   flight =
       gather_more w.messages 0 left
@@ -185,21 +185,21 @@ module _ (w : World) (e c b : ℕ) (i : Invariant w) (low : e < w.config.endpoin
 
   abbrev part_now : Part
   part_now =
-      record (part_of w (w.part e)) {
-        rows = slice_set (part_of w (w.part e)).rows ((w.part e).pasid b) row_now;
-        flight = remove (part_of w (w.part e)).flight place;
+      record (part_of w e (w.part e)) {
+        rows = slice_set (part_of w e (w.part e)).rows ((w.part e).pasid b) row_now;
+        flight = remove (part_of w e (w.part e)).flight place;
       }
 
-  sees : part_of (act w (AtEndpoint e (LocalAct.Start_arrives c b))) started ≡ part_now
+  sees : part_of (act w (AtEndpoint e (LocalAct.Start_arrives c b))) e started ≡ part_now
   sees =
-      seen w (w.messages + 0) p started
-      ∙ ap₂ (λ rs fs. record (part_of w p) { rows = rs; flight = fs })
+      seen w e (w.messages + 0) p started
+      ∙ ap₂ (λ rs fs. record (part_of w e p) { rows = rs; flight = fs })
       (tabulate_set 33 (row_at w.bindings p) (row_at w.bindings started) t row_now its_row row_other) flight
 
   pub starts : next_open (open_of w) (doing.At e (local.Deliver (place_of_message w.mappings (w.part e) c)))
       ≡ Some (open_of (act w (AtEndpoint e (LocalAct.Start_arrives c b))))
   starts =
       at_one_endpoint w e (LocalAct.Start_arrives c b) i low (calm p w.messages (LocalAct.Start_arrives c b) refl refl) (local.Deliver place) part_now sees
-      (ap (deliver (open_of w).settings (open_of w).mappings (part_of w p) place) alike.stands
-      ∙ ap (λ x. if_so x (taken_in (open_of w).settings (open_of w).mappings (without_sent (part_of w p) place) its)) (alike.permitted ∙ permitted)
-      ∙ ap (λ r. Some (told (without_sent (part_of w p) place) t row_state.On (owner_of p b) r)) (tabulate_get 33 (row_at w.bindings p) t pasid_low))
+      (ap (deliver (open_of w).settings (open_of w).mappings (part_of w e p) place) alike.stands
+      ∙ ap (λ x. if_so x (taken_in (open_of w).settings (open_of w).mappings (without_sent (part_of w e p) place) its)) (alike.permitted ∙ permitted)
+      ∙ ap (λ r. Some (told (without_sent (part_of w e p) place) t row_state.On (owner_of p b) r)) (tabulate_get 33 (row_at w.bindings p) t pasid_low))

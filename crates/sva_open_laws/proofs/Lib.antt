@@ -11,6 +11,7 @@ pub mod Ended
 pub mod Enough
 pub mod Filters
 pub mod Forward
+pub mod FreedItags
 pub mod FreshNumbers
 pub mod GatherLists
 pub mod Gathered
@@ -33,9 +34,15 @@ pub mod PageRuns
 pub mod PageSafety
 pub mod PageTimes
 mod PageWorlds
+pub mod PumpActs
+pub mod QueueOrder
+pub mod QueueSteps
 pub mod Safety
 pub mod Shown
 pub mod StartActs
+pub mod StrikeActs
+pub mod UnitLists
+pub mod UnitParts
 pub mod Usable
 pub mod Weighed
 pub mod WorldsPaid

@@ -30,7 +30,7 @@ module _ (w : World) (e b page : ℕ) (i : Invariant w) (u : is_unreleased ((w.p
   p = w.part e
 
   -- two unreleased bindings have one PASID only where they are one
-  same_owner : (d : ℕ) → is_unreleased (p.stage d) ≡ true → (p.pasid d == p.pasid b) ≡ (d == b)
+  pub same_owner : (d : ℕ) → is_unreleased (p.stage d) ≡ true → (p.pasid d == p.pasid b) ≡ (d == b)
   same_owner d v = go (d == b) refl
     where
       go : (x : Bool) → (d == b) ≡ x → (p.pasid d == p.pasid b) ≡ x

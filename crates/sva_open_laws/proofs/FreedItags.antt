@@ -118,11 +118,11 @@ none_completed : (x : Part) → completed [] x ≡ x
 unfolding completed
 none_completed x = refl
 
-select_next : (n : ℕ) (f : ℕ → Bool) → select (suc n) f ≡ select n f ++ (if f n then n ∷ [] else [])
+pub select_next : (n : ℕ) (f : ℕ → Bool) → select (suc n) f ≡ select n f ++ (if f n then n ∷ [] else [])
 unfolding select
 select_next n f = refl
 
-select_none : (f : ℕ → Bool) → select 0 f ≡ []
+pub select_none : (f : ℕ → Bool) → select 0 f ≡ []
 unfolding select
 select_none f = refl
 

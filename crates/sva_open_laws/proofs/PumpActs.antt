@@ -188,7 +188,7 @@ module _ (w : World) (e t : ℕ) (i : Invariant w) (ordered : InOrder (w.part e)
       (ap (flying_of w.mappings sent) (put-same p.message w.messages (Some (InvalidateOf k)))
       ∙ ap₂ (λ y x. one 0 p.resets (message.Invalidate y x)) (put-same p.itag k t) (scope_same p sent (p.order k)))
 
-  abbrev part_now : Part
+  abbrev pub part_now : Part
   part_now =
       record (part_of w e (w.part e)) {
         queue = remove (part_of w e (w.part e)).queue 0;
@@ -241,7 +241,7 @@ sends_none w e made hd phase no_wait free =
 
 -- ---- A wait is done
 
-its_itags : (p : Endpoint) (o : Option Subject) → OfOrders (λ j. p.itag j ≡ p.itag j) o
+pub its_itags : (p : Endpoint) (o : Option Subject) → OfOrders (λ j. p.itag j ≡ p.itag j) o
 its_itags p None = tt
 its_itags p (Some (StartOf b)) = tt
 its_itags p (Some (StopOf b)) = tt

@@ -125,7 +125,7 @@ shown_after w s e o acts =
     ap (λ l. shown (after_acts w l) e) acts ∙ ap (part_of (act w (AtEndpoint e o)) e) (put-same w.part e (act_alone (w.part e) w.messages o))
 
 -- the lowest ITag that is free, by whether one is
-free_itag_is : (w : World) (e : ℕ) → Invariant w → (Labels.lowest_label 32 (w.part e).at_itag == 32) ≡ false
+pub free_itag_is : (w : World) (e : ℕ) → Invariant w → (Labels.lowest_label 32 (w.part e).at_itag == 32) ≡ false
     → free_itag (shown w e).issued 32 0 ≡ Some (Labels.lowest_label 32 (w.part e).at_itag)
 free_itag_is w e i some =
     lowest_free_itag (shown w e).issued 32 (w.part e).at_itag (busy_alike w e i)
@@ -147,7 +147,7 @@ module _ (w : World) (e : ℕ) (i : Invariant w) (ordered : InOrder (w.part e)) 
   abbrev k : ℕ
   k = Labels.head (w.part e)
 
-  made : Labels.is_queue_empty (w.part e) ≡ false → k < (w.part e).orders
+  pub made : Labels.is_queue_empty (w.part e) ≡ false → k < (w.part e).orders
   made h =
       let p = w.part e in
       let x = any_below-true p.orders (λ j. is_queued (p.order_state j)) (some (any_below p.orders (λ j. is_queued (p.order_state j))) h) in

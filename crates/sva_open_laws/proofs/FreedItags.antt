@@ -217,7 +217,8 @@ freed : (w : World) (e c : ℕ) (names : ℕ → Bool) → Invariant w
     → gather (w.part e).orders (sent_at e (w.part e).itag (λ k. is_busy (counted_if (names k) ((w.part e).order_state k))))
     ≡ (completed (last_of (w.part e) names) (shown w e)).issued
 freed w e c names i =
-    gather_same p.orders (sent_at e p.itag (λ k. is_busy (counted_if (names k) (p.order_state k)))) (sent_at e p.itag (λ k. busy k && not (nat_lt k p.orders && last k)))
+    gather_same p.orders (sent_at e p.itag (λ k. is_busy (counted_if (names k) (p.order_state k))))
+    (sent_at e p.itag (λ k. busy k && not (nat_lt k p.orders && last k)))
     (λ k l. ap (λ b. where_so b (issued.Sent e (p.itag k))) (counted_busy (names k) (p.order_state k) ∙ within (busy k) (last k) k l))
     ∙ sym (completed_below (shown w e) e p.orders p.itag busy last refl low alone p.orders (omega arith))
   where

@@ -129,7 +129,8 @@ pub free_itag_is : (w : World) (e : ℕ) → Invariant w → (Labels.lowest_labe
     → free_itag (shown w e).issued 32 0 ≡ Some (Labels.lowest_label 32 (w.part e).at_itag)
 free_itag_is w e i some =
     lowest_free_itag (shown w e).issued 32 (w.part e).at_itag (busy_alike w e i)
-    ∙ ap (λ b. if_found b (Labels.lowest_label 32 (w.part e).at_itag)) (below (Labels.lowest_label 32 (w.part e).at_itag) (label_low 32 (w.part e).at_itag some))
+    ∙ ap (λ b. if_found b (Labels.lowest_label 32 (w.part e).at_itag))
+    (below (Labels.lowest_label 32 (w.part e).at_itag) (label_low 32 (w.part e).at_itag some))
   where
     below : (m : ℕ) → m < 32 → nat_lt m 32 ≡ true
     below m l = grind (arith, nat_tests)

@@ -8,8 +8,8 @@ ghost use Rattle.sva_open_laws.specs.Queues.{CompletionsAreOne, PumpsAreOne, Res
 /// After every list of steps, an accepted step that makes a space, maps a page, binds a space, pumps, asks for a
 /// translation, begins a use while no invalidation is taken, ends one, evicts a translation, looks, or delivers a start,
 /// a response, an invalidation behind which no newer one is taken, or the answer to a request, but one that comes to a
-/// full cache or behind a newer one that is held, is so many acts of the open world: each is permitted where it comes, in
-/// the world seen as an open one, and they leave all that the step leaves.
+/// full cache or behind a newer one that is held, is so many acts of the open world: each is permitted where it comes,
+/// in the world seen as an open one, and they leave all that the step leaves.
 pub fn steps_are_acts()
     ensures { StepsAreActs }
 {}
@@ -28,9 +28,9 @@ pub fn scopes_are_one()
     ensures { ScopesAreOne }
 {}
 
-/// After every list of steps, at each unit: what stands at the head of the open world's invalidation queue is the
-/// oldest descriptor that is queued by names; an ITag is busy there where an invalidation bears it, and the lowest that
-/// isn't is given next; and a wait may leave the queue, draining or not, where it may by the rules of the host.
+/// After every list of steps, at each unit: at the head of the open world's invalidation queue stands the oldest
+/// descriptor that is queued by names; an ITag is busy there where an invalidation bears it, and the lowest that isn't is
+/// given next; and a wait may leave the queue, draining or not, where it may by the rules of the host.
 pub fn units_are_one()
     ensures { UnitsAreOne }
 {}
@@ -48,8 +48,8 @@ pub fn strikes_are_one()
     ensures { StrikesAreOne }
 {}
 
-/// After every list of steps a completion that is delivered at an open unit frees just the ITags of the invalidations of
-/// which it is the last, as those of the open world do one after another; at a unit in reset it frees none.
+/// After every list of steps a completion that is delivered at an open unit frees just the ITags of the invalidations
+/// of which it is the last, as those of the open world do one after another; at a unit in reset it frees none.
 pub fn completions_are_one()
     ensures { CompletionsAreOne }
 {}

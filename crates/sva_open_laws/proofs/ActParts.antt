@@ -93,7 +93,7 @@ taken_same p q (Completing count left) k = refl
 taken_same p q Done k = refl
 taken_same p q Void k = refl
 
-pub seen : (w : World) (m e : ℕ) (p q : Endpoint)
+pub seen : (w : World) (e m : ℕ) (p q : Endpoint)
     → part_of (record w { messages = m }) e (device p q) ≡ record (part_of w e p) {
       requests = tabulate Limits.request_tags (λ t. option_map (request_of (device p q)) (q.at_tag t));
       held = gather q.requests (λ r. if_there (held_of w.mappings (device p q) r));
@@ -101,7 +101,7 @@ pub seen : (w : World) (m e : ℕ) (p q : Endpoint)
           ++ gather p.orders (λ k. taken_of p (p.order_state k) k);
       flight = gather m (λ c. flying_of w.mappings (device p q) (q.message c));
     }
-seen w m e p q =
+seen w e m p q =
     ap (λ rows. record (part_of (record w { messages = m }) e (device p q)) { rows = rows })
     (tabulate_same 33 (row_at w.bindings (device p q)) (row_at w.bindings p) (λ t l. row_same w.bindings p q t))
     ∙ ap (λ taken. record (part_of (record w { messages = m }) e (device p q)) { rows = tabulate 33 (row_at w.bindings p); works = uses ++ taken })
@@ -188,19 +188,13 @@ frames_same w v same =
 
 -- ---- An act of an endpoint
 
-module _ (w : World) (e : ℕ) (o : LocalAct) (i : Invariant w) (low : e < w.config.endpoints)
-    (calm : (x : Owed) → answered (act_alone (w.part e) w.messages o) x ≡ answered (w.part e) x) where
+module _ (w : World) (e : ℕ) (o : LocalAct) (i : Invariant w) (low : e < w.config.endpoints) where
   abbrev parts : List Part
   parts = tabulate w.config.endpoints (λ x. part_of w x (w.part x))
 
   other_same : (k : ℕ) → part_of (act w (AtEndpoint e o)) k (w.part k) ≡ part_of w k (w.part k)
   other_same k =
       ap (λ flight. record (part_of w k (w.part k)) { flight = flight }) (none_sent w (w.part k) (sends o) (λ c l. (i.parts k).resets.unsent c l))
-
-  frames : tabulate w.config.frames (tenure_of (act w (AtEndpoint e o))) ≡ tabulate w.config.frames (tenure_of w)
-  frames =
-      frames_same w (act w (AtEndpoint e o))
-      (put_keeps (λ k p. (x : Owed) → answered p x ≡ answered (w.part k) x) w.part e (act_alone (w.part e) w.messages o) calm (λ k x. refl))
 
   parts_now : (v : Part) → part_of (act w (AtEndpoint e o)) e (act_alone (w.part e) w.messages o) ≡ v
       → tabulate w.config.endpoints (λ x. part_of (act w (AtEndpoint e o)) x ((act w (AtEndpoint e o)).part x)) ≡ slice_set parts e v
@@ -209,15 +203,28 @@ module _ (w : World) (e : ℕ) (o : LocalAct) (i : Invariant w) (low : e < w.con
       (ap (part_of (act w (AtEndpoint e o)) e) (put-same w.part e (act_alone (w.part e) w.messages o)) ∙ is)
       (λ k ne. ap (part_of (act w (AtEndpoint e o)) k) (put-other w.part e (act_alone (w.part e) w.messages o) k ne) ∙ other_same k)
 
-  -- where the open act leaves of the part what the act leaves, so it is of the world
+  -- where the open act leaves of the part what the act leaves, so it is of the world, but for the frames that the act frees
+  pub but_frames : (its : Doing) (v : Part) → part_of (act w (AtEndpoint e o)) e (act_alone (w.part e) w.messages o) ≡ v
+      → next_part (open_of w).settings (open_of w).mappings (part_of w e (w.part e)) its ≡ Some v
+      → next_open (open_of w) (doing.At e its) ≡ Some (record (open_of (act w (AtEndpoint e o))) { frames = tabulate w.config.frames (tenure_of w) })
+  but_frames its v is leads =
+      ap (λ p. option_map (with_parts (open_of w)) (parts_after (open_of w).settings (open_of w).mappings parts e its p))
+      (tabulate_get w.config.endpoints (λ x. part_of w x (w.part x)) e low)
+      ∙ ap (λ p. option_map (with_parts (open_of w)) (option_map (slice_set parts e) p)) leads
+      ∙ ap (λ ps. Some (record (open_of w) { parts = ps })) (sym (parts_now v is))
+
+module _ (w : World) (e : ℕ) (o : LocalAct) (i : Invariant w) (low : e < w.config.endpoints)
+    (calm : (x : Owed) → answered (act_alone (w.part e) w.messages o) x ≡ answered (w.part e) x) where
+  frames : tabulate w.config.frames (tenure_of (act w (AtEndpoint e o))) ≡ tabulate w.config.frames (tenure_of w)
+  frames =
+      frames_same w (act w (AtEndpoint e o))
+      (put_keeps (λ k p. (x : Owed) → answered p x ≡ answered (w.part k) x) w.part e (act_alone (w.part e) w.messages o) calm (λ k x. refl))
+
   pub at_one_endpoint : (its : Doing) (v : Part) → part_of (act w (AtEndpoint e o)) e (act_alone (w.part e) w.messages o) ≡ v
       → next_part (open_of w).settings (open_of w).mappings (part_of w e (w.part e)) its ≡ Some v
       → next_open (open_of w) (doing.At e its) ≡ Some (open_of (act w (AtEndpoint e o)))
   at_one_endpoint its v is leads =
-      ap (λ p. option_map (with_parts (open_of w)) (parts_after (open_of w).settings (open_of w).mappings parts e its p))
-      (tabulate_get w.config.endpoints (λ x. part_of w x (w.part x)) e low)
-      ∙ ap (λ p. option_map (with_parts (open_of w)) (option_map (slice_set parts e) p)) leads
-      ∙ ap Some (sym (ap₂ (λ fs ps. record (open_of w) { frames = fs; parts = ps }) frames (parts_now v is)))
+      but_frames w e o i low its v is leads ∙ ap (λ fs. Some (record (open_of (act w (AtEndpoint e o))) { frames = fs })) (sym frames)
 
   -- where it leaves the part as it was, the world is as it was
   pub unseen : part_of (act w (AtEndpoint e o)) e (act_alone (w.part e) w.messages o) ≡ part_of w e (w.part e)
@@ -225,4 +232,5 @@ module _ (w : World) (e : ℕ) (o : LocalAct) (i : Invariant w) (low : e < w.con
   unseen is =
       sym (ap₂ (λ fs ps. record (open_of w) { frames = fs; parts = ps }) frames
       (tabulate_same w.config.endpoints (λ x. part_of (act w (AtEndpoint e o)) x ((act w (AtEndpoint e o)).part x)) (λ x. part_of w x (w.part x))
-      (λ k l. put_keeps (λ x p. part_of (act w (AtEndpoint e o)) x p ≡ part_of w x (w.part x)) w.part e (act_alone (w.part e) w.messages o) is other_same k)))
+      (λ k l. put_keeps (λ x p. part_of (act w (AtEndpoint e o)) x p ≡ part_of w x (w.part x)) w.part e (act_alone (w.part e) w.messages o) is
+      (other_same w e o i low) k)))

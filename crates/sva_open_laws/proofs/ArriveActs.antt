@@ -113,14 +113,14 @@ flying_same ms p q (Some (PageRequestOf r)) = refl
 flying_same ms p q (Some (MarkerOf b)) = refl
 flying_same ms p q (Some ResetDone) = refl
 
-pub seen : (w : World) (m e : ℕ) (p q : Endpoint)
+pub seen : (w : World) (e m : ℕ) (p q : Endpoint)
     → part_of (record w { messages = m }) e (light p q) ≡ record (part_of w e p) {
       rows = tabulate (suc Limits.pasids) (row_at w.bindings (light p q));
       groups = tabulate Limits.groups (λ t. option_map (group_of (light p q)) (q.at_index t));
       is_enabled = not q.is_disabled;
       flight = gather m (λ c. flying_of w.mappings (light p q) (q.message c));
     }
-seen w m e p q =
+seen w e m p q =
     ap₂ (λ taken queue. record (part_of (record w { messages = m }) e (light p q)) {
       works = gather p.uses (λ u. where_so (is_running (p.use_state u)) (use_of w.mappings p u)) ++ taken;
       queue = queue;
@@ -160,7 +160,7 @@ module _ (w : World) (e c g : ℕ) (code : Code) (i : Invariant w) (low : e < w.
   abbrev place : ℕ
   place = place_of_message w.mappings (w.part e) c
 
-  alike : IsDeliveredAlike w e p c (ResponseOf g code) its
+  alike : IsDeliveredAlike w e c (ResponseOf g code) its
   alike = delivered_alike w e c (ResponseOf g code) its i speaks (λ k. absurd (cc)) refl
 
   sent_before : c < w.messages
@@ -212,7 +212,7 @@ module _ (w : World) (e c g : ℕ) (code : Code) (i : Invariant w) (low : e < w.
 
   sees : part_of (act w (AtEndpoint e (LocalAct.Answered c g code))) e answered ≡ part_now
   sees =
-      seen w (w.messages + 0) e p answered
+      seen w e (w.messages + 0) p answered
       ∙ ap (λ rows. record (part_of w e p) {
         rows = rows;
         groups = tabulate 32 (λ t. option_map (group_of answered) (answered.at_index t));

@@ -219,7 +219,7 @@ module _ (w : World) (e t q : ℕ) (i : Invariant w) (low : e < w.config.endpoin
 
   sees : part_of (act w (AtEndpoint e (LocalAct.Ask b q tag))) e asked ≡ asked_part
   sees =
-      seen w (w.messages + 1) e p asked
+      seen w e (w.messages + 1) p asked
       ∙ ap (λ z. record (part_of w e p) {
         requests = z;
         held = gather (suc p.requests) (held_at w.mappings asked);

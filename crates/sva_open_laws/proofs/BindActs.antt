@@ -94,11 +94,16 @@ count_same_end n q h = ap (λ (b : Bool). if b then suc (count_below n q) else c
 
 -- ---- Acts, by tables of parts
 
+-- where no units are shared
+alone : (now : World_) (e : ℕ) (its : Doing) → now.units ≡ [] → next_open now (doing.At e its) ≡ at_endpoint now e its
+alone now e its none =
+    ap (λ us. shared us (about us e its (slice_get now.parts e)) its now.parts (at_endpoint now (about us e its (slice_get now.parts e)) its)) none
+
 at_table : (now : World_) (n : ℕ) (parts : ℕ → Part) (e : ℕ) (its : Doing) (v : Part) → e < n → now.units ≡ [] → now.parts ≡ tabulate n parts
     → next_part now.settings now.mappings (parts e) its ≡ Some v
     → next_open now (doing.At e its) ≡ Some (record now { parts = tabulate n (put parts e v) })
-at_table now n parts e its v low apart are leads =
-    ap (λ units. shared units (about units e its (slice_get now.parts e)) its now.parts (at_endpoint now (about units e its (slice_get now.parts e)) its)) apart
+at_table now n parts e its v low none are leads =
+    alone now e its none
     ∙ ap (λ ps. option_map (with_parts now) (parts_after now.settings now.mappings ps e its (slice_get ps e))) are
     ∙ ap (λ p. option_map (with_parts now) (parts_after now.settings now.mappings (tabulate n parts) e its p)) (tabulate_get n parts e low)
     ∙ ap (λ p. option_map (with_parts now) (option_map (slice_set (tabulate n parts) e) p)) leads

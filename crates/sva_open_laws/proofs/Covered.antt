@@ -30,7 +30,7 @@ module _ (w : World) (e b page : ℕ) (i : Invariant w) (u : is_unreleased ((w.p
   p = w.part e
 
   -- two unreleased bindings have one PASID only where they are one
-  same_owner : (d : ℕ) → is_unreleased (p.stage d) ≡ true → (p.pasid d == p.pasid b) ≡ (d == b)
+  pub same_owner : (d : ℕ) → is_unreleased (p.stage d) ≡ true → (p.pasid d == p.pasid b) ≡ (d == b)
   same_owner d v = go (d == b) refl
     where
       go : (x : Bool) → (d == b) ≡ x → (p.pasid d == p.pasid b) ≡ x
@@ -41,7 +41,7 @@ module _ (w : World) (e b page : ℕ) (i : Invariant w) (u : is_unreleased ((w.p
           let same = (bearer p b (i.parts e).labels u).alone d v (eqb-true (p.pasid d) (p.pasid b) k) in
           absurd (cc (sym (eq-eqb d b same) ∙ h)))
 
-  covered : (x : Order) → is_wait x ≡ false → is_unreleased (p.stage (binding_of x)) ≡ true
+  pub covered : (x : Order) → is_wait x ≡ false → is_unreleased (p.stage (binding_of x)) ≡ true
       → covers (scope_of p x) (p.pasid b) page ≡ model.covers x b page
   covered (RangeOf d range) h v = ap₂ (λ x y. x && y) (same_owner d v) (within range.base page (pages_in range))
   covered (PasidOf d) h v = same_owner d v ∙ and_true (d == b)

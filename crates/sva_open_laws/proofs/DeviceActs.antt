@@ -68,7 +68,7 @@ pub quiet : (w : World) (e : ℕ) (p q : Endpoint) → ((c : ℕ) → w.messages
       works = gather q.uses (uses_at w.mappings (working p q)) ++ all_taken p;
     }
 quiet w e p q unsent =
-    seen w (w.messages + 0) e p (working p q)
+    seen w e (w.messages + 0) p (working p q)
     ∙ ap (λ flight. record (part_of w e p) {
       held = gather p.requests (held_at w.mappings (working p q));
       works = gather q.uses (uses_at w.mappings (working p q)) ++ all_taken p;

@@ -1,4 +1,5 @@
 pub mod ActParts
+pub mod AnswerActs
 pub mod ArriveActs
 pub mod AsActs
 pub mod AskActs
@@ -11,10 +12,13 @@ pub mod Ended
 pub mod Enough
 pub mod Filters
 pub mod Forward
+pub mod FreeActs
+pub mod FreedItags
 pub mod FreshNumbers
 pub mod GatherLists
 pub mod Gathered
 pub mod HostPaid
+pub mod KeepActs
 pub mod LinkLists
 pub mod LinkOrders
 pub mod LinksPaid
@@ -33,9 +37,17 @@ pub mod PageRuns
 pub mod PageSafety
 pub mod PageTimes
 mod PageWorlds
+pub mod PumpActs
+pub mod PumpSteps
+pub mod QueueOrder
+pub mod QueueSteps
 pub mod Safety
 pub mod Shown
 pub mod StartActs
+pub mod StrikeActs
+pub mod TakeActs
+pub mod UnitLists
+pub mod UnitParts
 pub mod UnitsPaid
 pub mod Usable
 pub mod Weighed

@@ -31,7 +31,7 @@ use Rattle.sva_open_laws.proofs.LinkOrders.{alike, kind_by, read_off}
 use Rattle.sva_open_laws.proofs.Usable.{sent_low}
 
 -- what one of the things that are gathered is
-any_gathered : {A : Type 0} (q : A → Bool) (n : ℕ) (f : ℕ → List A) → list_any q (gather n f) ≡ any_below n (λ k. list_any q (f k))
+pub any_gathered : {A : Type 0} (q : A → Bool) (n : ℕ) (f : ℕ → List A) → list_any q (gather n f) ≡ any_below n (λ k. list_any q (f k))
 unfolding gather any_below
 any_gathered q zero f = refl
 any_gathered q (suc n) f =
@@ -50,7 +50,7 @@ unfolding gather
 none_any q zero f h = refl
 none_any q (suc n) f h = list_any-append q (gather n f) (f n) ∙ ap₂ (λ a b. a || b) (none_any q n f h) (h n)
 
-or_false : (b : Bool) → (b || false) ≡ b
+pub or_false : (b : Bool) → (b || false) ≡ b
 or_false true = refl
 or_false false = refl
 
@@ -98,7 +98,7 @@ module _ (ms : Mappings) (p : Endpoint) (x : Subject) (m : Message) (kind : kind
   behind (Some ResetDone) = or_false _ ∙ behind_one ResetDone _ (in_one _)
 
 pub delivered_alike : (w : World) (e c : ℕ) (x : Subject) (one : Sent) → Invariant w → (w.part e).message c ≡ Some x → x ≢ ResetDone
-    → sent_of w.mappings (w.part e) x ≡ one ∷ [] → IsDeliveredAlike w e (w.part e) c x one
+    → sent_of w.mappings (w.part e) x ≡ one ∷ [] → IsDeliveredAlike w e c x one
 delivered_alike w e c x one i h ne is =
     record {
       stands = ap (λ z. slice_get z (length before)) s.whole ∙ get_at before one s.behind;

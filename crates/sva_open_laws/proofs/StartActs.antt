@@ -85,7 +85,7 @@ module _ (w : World) (e c b : ℕ) (i : Invariant w) (low : e < w.config.endpoin
   abbrev place : ℕ
   place = place_of_message w.mappings (w.part e) c
 
-  alike : IsDeliveredAlike w e p c (StartOf b) its
+  alike : IsDeliveredAlike w e c (StartOf b) its
   alike = delivered_alike w e c (StartOf b) its i speaks (λ k. absurd (cc)) refl
 
   bearer : IsBearer p b
@@ -192,7 +192,7 @@ module _ (w : World) (e c b : ℕ) (i : Invariant w) (low : e < w.config.endpoin
 
   sees : part_of (act w (AtEndpoint e (LocalAct.Start_arrives c b))) e started ≡ part_now
   sees =
-      seen w (w.messages + 0) e p started
+      seen w e (w.messages + 0) p started
       ∙ ap₂ (λ rs fs. record (part_of w e p) { rows = rs; flight = fs })
       (tabulate_set 33 (row_at w.bindings p) (row_at w.bindings started) t row_now its_row row_other) flight
 

@@ -1,17 +1,20 @@
 -- Steps of this project's own host are acts of the open world: seen as an open world, what an accepted step leaves is what its acts leave,
 -- one after another, each permitted. Nothing is left out of that but the steps for which no acts are said here.
-use Rattle.std.specs.Prelude.{◌≡◌, ℕ, Bool, true, false, List, [], ◌∷◌, ◌++◌, Option, Some, None, option_and_then, Ok}
+use Rattle.std.specs.Prelude.{◌≡◌, ℕ, ◌&&◌, ◌||◌, not, nat_lt, Bool, true, false, List, [], ◌∷◌, ◌++◌, map, Option, Some, None, option_and_then, Ok}
 use Rattle.sva_step.specs.declared.answers.Answer.{Answer}
+use Rattle.sva_step.specs.declared.answers.Answer.TheVariants as answer
 use Rattle.sva_step.specs.declared.limits.Config.{Config}
 use Rattle.sva_step.specs.declared.steps.Step.{Step}
 use Rattle.sva_step.specs.declared.steps.Step.TheVariants as step
-use Rattle.sva_model.specs.Words.{any_below, count_below, the}
-use Rattle.sva_model.specs.State.{Endpoint, PasidRule, Subject, UseState, World}
-use Rattle.sva_model.specs.State.Subject.{ResponseOf, StartOf}
+use Rattle.sva_model.specs.Words.{any_below, count_below, is_some, select, the}
+use Rattle.sva_model.specs.State.{Endpoint, PasidRule, RequestState, Subject, UseState, World}
+use Rattle.sva_model.specs.State.RequestState.{Out}
+use Rattle.sva_model.specs.State.Subject.{CompletionOf, InvalidateOf, ResponseOf, StartOf}
 use Rattle.sva_model.specs.State.UseState.{Running}
-use Rattle.sva_model.specs.States.{is_running, is_taken}
+use Rattle.sva_model.specs.States.{is_free, is_running, is_taken}
 use Rattle.sva_model.specs.Labels.{lowest_frame, name, pasid_for}
-use Rattle.sva_model.specs.Steps.{reply, world_after}
+use Rattle.sva_model.specs.Outcomes.{is_full}
+use Rattle.sva_model.specs.Steps.{Reply, next, reply, world_after}
 use Rattle.sva_model.specs.Claims.{Fits}
 use Rattle.sva_open.specs.declared.acts.Act.{Act}
 use Rattle.sva_open.specs.declared.acts.Act.TheVariants as act
@@ -48,11 +51,40 @@ bind_acts endpoint space pasid = act.At endpoint (local.SetEntry pasid space) �
 abbrev pub has_taken : Endpoint → Bool
 has_taken part = any_below part.orders (λ k. is_taken (part.order_state k))
 
--- of deliveries it is said of a start, and of a response
-abbrev pub deliver_acts : (endpoint place : ℕ) → Option Subject → Option (List Act)
-deliver_acts endpoint place (Some (StartOf binding)) = Some (act.At endpoint (local.Deliver place) ∷ [])
-deliver_acts endpoint place (Some (ResponseOf group code)) = Some (act.At endpoint (local.Deliver place) ∷ [])
-deliver_acts endpoint place _ = None
+-- the frames that a step frees
+abbrev pub freed_by : (before after : World) → List ℕ
+freed_by before after = select before.config.frames (λ f. is_free after f && not (is_free before f))
+
+-- A pump that sends an invalidation, or passes a wait: what this withheld, the host then gives away. One that is idle or blocked is none.
+abbrev pub pump_acts : (endpoint : ℕ) → (freed : List ℕ) → Reply → List Act
+pump_acts endpoint freed (Ok (answer.Itag itag)) = act.At endpoint local.Pump ∷ []
+pump_acts endpoint freed (Ok answer.WaitDone) = act.At endpoint local.Pump ∷ map act.FreeFrame freed
+pump_acts endpoint freed _ = []
+
+abbrev pub unless_so : Bool → List Act → Option (List Act)
+unless_so true acts = None
+unless_so false acts = Some acts
+
+-- By names the invalidations that are taken stand as they were submitted, and what is held as it was asked for; in the open world as they
+-- came. So nothing is said of one that comes behind a newer one; nor of a translation that the cache has no room for.
+abbrev pub comes_late : Endpoint → (order : ℕ) → Bool
+comes_late part order = any_below part.orders (λ k. nat_lt order k && is_taken (part.order_state k))
+
+abbrev pub is_kept_late : Endpoint → (request : ℕ) → Bool
+is_kept_late part request = any_below part.requests (λ r. nat_lt request r && is_some (part.held r))
+
+abbrev pub is_left_open : Endpoint → (request : ℕ) → (found : Option ℕ) → RequestState → Bool
+is_left_open part request (Some mapping) Out = is_full part request || is_kept_late part request
+is_left_open part request found state = false
+
+-- of deliveries it is said of a start, a response, an invalidation, and the answer to a translation request
+abbrev pub deliver_acts : Endpoint → (endpoint place : ℕ) → Option Subject → Option (List Act)
+deliver_acts part endpoint place (Some (StartOf binding)) = Some (act.At endpoint (local.Deliver place) ∷ [])
+deliver_acts part endpoint place (Some (ResponseOf group code)) = Some (act.At endpoint (local.Deliver place) ∷ [])
+deliver_acts part endpoint place (Some (InvalidateOf order)) = unless_so (comes_late part order) (act.At endpoint (local.Deliver place) ∷ [])
+deliver_acts part endpoint place (Some (CompletionOf request found)) =
+    unless_so (is_left_open part request found (part.request request)) (act.At endpoint (local.Deliver place) ∷ [])
+deliver_acts part endpoint place _ = None
 
 -- the acts that stand for a step; none are said of those that aren't named here
 abbrev pub acts_of : World → Step → Option (List Act)
@@ -68,9 +100,11 @@ acts_of world (step.EndUse endpoint slot) =
     ((world.part endpoint).use_state (the ((world.part endpoint).at_slot slot))))
 acts_of world (step.Evict endpoint pasid page) = Some (act.At endpoint (local.Evict pasid page) ∷ [])
 acts_of world (step.Deliver number) =
-    deliver_acts (world.link_of (name world number))
+    deliver_acts (world.part (world.link_of (name world number))) (world.link_of (name world number))
     (place_of_message world.mappings (world.part (world.link_of (name world number))) (name world number))
     ((world.part (world.link_of (name world number))).message (name world number))
+acts_of world (step.Pump endpoint) =
+    Some (pump_acts endpoint (freed_by world (next world (step.Pump endpoint))) (reply world (step.Pump endpoint)))
 acts_of world (step.Look frame) = Some []
 acts_of world (step.Bearer pasid) = Some []
 acts_of world _ = None
@@ -78,8 +112,8 @@ acts_of world _ = None
 -- so it is after every list of steps
 abbrev pub StepsAreActs : Type 0
 StepsAreActs =
-    (rule : PasidRule) (config : Config) (steps : List Step) (next : Step) (said : Answer) (acts : List Act)
+    (rule : PasidRule) (config : Config) (steps : List Step) (its : Step) (said : Answer) (acts : List Act)
     → Fits config
-    → reply (world_after rule config steps) next ≡ Ok said
-    → acts_of (world_after rule config steps) next ≡ Some acts
-    → acted acts (open_of (world_after rule config steps)) ≡ Some (open_of (world_after rule config (steps ++ next ∷ [])))
+    → reply (world_after rule config steps) its ≡ Ok said
+    → acts_of (world_after rule config steps) its ≡ Some acts
+    → acted acts (open_of (world_after rule config steps)) ≡ Some (open_of (world_after rule config (steps ++ its ∷ [])))

@@ -8,5 +8,6 @@ pub mod LinkOrders
 pub mod OneUnit
 pub mod PageRows
 pub mod Pages
+pub mod Queues
 pub mod Shown
 pub mod Weights

@@ -26,11 +26,13 @@ place_of_message mappings part message = length (gather message (λ c. flying_of
 
 -- A message that is one in the open world too stands at its place, and may be delivered from there exactly where it may by MODEL. Of a
 -- reset-done nothing is said: it stays behind a completion of no invalidation too, which the open world doesn't show.
-pub record IsDeliveredAlike (world : World) (endpoint : ℕ) (part : Endpoint) (message : ℕ) (subject : Subject) (one : Sent) : Type 0 where
-  pub stands : slice_get (part_of world endpoint part).flight (place_of_message world.mappings part message) ≡ Some one
+pub record IsDeliveredAlike (world : World) (endpoint message : ℕ) (subject : Subject) (one : Sent) : Type 0 where
+  pub stands :
+      slice_get (part_of world endpoint (world.part endpoint)).flight (place_of_message world.mappings (world.part endpoint) message) ≡ Some one
   pub permitted :
-      may_deliver Free (part_of world endpoint part).flight (place_of_message world.mappings part message) one.message
-      ≡ is_permitted part message subject
+      may_deliver Free (part_of world endpoint (world.part endpoint)).flight
+      (place_of_message world.mappings (world.part endpoint) message) one.message
+      ≡ is_permitted (world.part endpoint) message subject
 
 abbrev pub DeliveriesAreOne : Type 0
 DeliveriesAreOne =
@@ -38,4 +40,4 @@ DeliveriesAreOne =
     → ((world_after rule config steps).part endpoint).message message ≡ Some subject
     → subject ≢ ResetDone
     → sent_of (world_after rule config steps).mappings ((world_after rule config steps).part endpoint) subject ≡ one ∷ []
-    → IsDeliveredAlike (world_after rule config steps) endpoint ((world_after rule config steps).part endpoint) message subject one
+    → IsDeliveredAlike (world_after rule config steps) endpoint message subject one

@@ -33,6 +33,12 @@ abbrev found_by : Text → Finding → (count : ℕ) → (lines : List ℕ) → 
 found_by text one count lines =
     (codes "unsafe in " ++ events_count count ++ codes ": " ++ wrong_text one.wrong ++ 10 ∷ []) ++ front_text text ++ lines
 
+with_its_lines : (text : Text) (one : Finding)
+    → found_text text false one
+    ≡ found_by text one (length one.witness.items)
+    (flat_map (event_line (width_from 0 (events_by text one.witness.items))) (events_by text one.witness.items))
+with_its_lines text one = refl
+
 tells : (text : Text) (one : Finding) → IsFit text → Shows text.driver one.wrong one.witness.items → TellsFinding text one (found_text text false one)
 tells text one fit shows =
     let choices = one.witness.items in
@@ -42,7 +48,8 @@ tells text one fit shows =
       last = shows.0;
       told = walk.told;
       wrong = shows.2;
-      report = ap (λ n. found_by text one n (flat_map (event_line (width_from 0 (events_by text choices))) (events_by text choices))) (sym walk.many)
+      report = with_its_lines text one
+          ∙ ap (λ n. found_by text one n (flat_map (event_line (width_from 0 (events_by text choices))) (events_by text choices))) (sym walk.many)
           ∙ ap (λ lines. found_by text one (length walk.lines) lines) walk.says;
     }
 

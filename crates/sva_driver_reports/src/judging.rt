@@ -82,8 +82,9 @@ fn tell_leak(out: &mut Vec<u8>, number: u64, wrong: Wrong) -> Result<Option<Ruli
     Ok(Some(Ruling::Unsafe))
 }
 
-/// Reads a driver, judges it and writes its report, as is wanted. Where lines are wrong, that is written alone, and `None` given. Where something is wrong behind a line before `race`, the first such line is
-/// written alone, with what is wrong, and nothing is searched. The watch is told how far the search is.
+/// Reads a driver, judges it and writes its report, as is wanted. Where lines are wrong, that is written alone, and
+/// `None` given. Where something is wrong behind a line before `race`, the first such line is written alone, with what
+/// is wrong, and nothing is searched. The watch is told how far the search is.
 pub fn judge_text<P: Watch>(
     alloc: Global,
     wanted: Wanted,

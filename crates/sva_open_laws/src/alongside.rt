@@ -7,9 +7,10 @@ ghost use Rattle.sva_open_laws.specs.Queues.{CompletionsAreOne, PumpsAreOne, Res
 
 /// After every list of steps, an accepted step that makes a space, maps a page, binds a space, pumps, asks for a
 /// translation, begins a use while no invalidation is taken, ends one, evicts a translation, looks, or delivers a start,
-/// a response, an invalidation behind which no newer one is taken, or the answer to a request, but one that comes to a
-/// full cache or behind a newer one that is held, is so many acts of the open world: each is permitted where it comes,
-/// in the world seen as an open one, and they leave all that the step leaves.
+/// a response, a page request, a translation request, an invalidation behind which no newer one is taken, or the answer
+/// to a translation request, but one that comes to a full cache or behind a newer one that is held, is so many acts of
+/// the open world: each is permitted where it comes, in the world seen as an open one, and they leave all that the step
+/// leaves.
 pub fn steps_are_acts()
     ensures { StepsAreActs }
 {}

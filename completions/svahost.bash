@@ -20,7 +20,7 @@ _svahost() {
     # readline takes the = of --most=N for a word
     [[ $before == --most || $before == --part || $before == --jobs || $before == = ]] && return
     words='--most --part --jobs --help'
-    if [ "$command" = judge ]; then words="--run --strict $words"; else words="--why --ends $words"; fi
+    if [ "$command" = judge ]; then words="--run --strict --all $words"; else words="--why --ends $words"; fi
     if [[ $current != -* ]]; then
       compopt -o filenames 2> /dev/null
       local kind=r

@@ -7,7 +7,8 @@ use Rattle.sva_race_reports.specs.declared.searching.Wanted.{Wanted}
 use Rattle.sva_race_reports.specs.Explored.{ExploresText}
 use Rattle.sva_why.specs.Why.{why_of}
 use Rattle.sva_driver_reports.specs.declared.reports.Ruling.{Ruling}
-use Rattle.sva_driver_reports.specs.declared.reports.Ruling.TheVariants.{Safe, Untried, Right, Unsafe, Stuck, CutOff}
+use Rattle.sva_driver_reports.specs.declared.reports.Ruling.TheVariants.{Safe, Untried, Right, Unsafe, UnsafeSoFar, Stuck, CutOff}
+use Rattle.sva_driver_reports.specs.declared.wanted.Wanted as driver
 use Rattle.sva_driver_reports.specs.Judged.{IsTextJudged, IsTextRun}
 use Rattle.sva_c.specs.Buffers.{IsHandedOver, LacksMemory}
 use Rattle.sva_c.specs.declared.statuses.TheConstants.{CUT_OFF, DONE, FAILS, FAULTED}
@@ -19,6 +20,7 @@ ruled_status (Some Safe) = DONE
 ruled_status (Some Untried) = DONE
 ruled_status (Some Right) = DONE
 ruled_status (Some Unsafe) = FAILS
+ruled_status (Some UnsafeSoFar) = FAILS
 ruled_status (Some Stuck) = FAILS
 ruled_status (Some CutOff) = CUT_OFF
 
@@ -33,6 +35,10 @@ explored_status (Some Unknown) = CUT_OFF
 abbrev pub whole_report : (most : ℕ) → Wanted
 whole_report most = record { most = most; whys = false; few_ends = false; is_brief = false }
 
+-- of a driver a nearest finding, with its witness
+abbrev pub nearest : (most : ℕ) → driver.Wanted
+nearest most = record { most = most; all = false; lines_alone = false }
+
 -- what was handed over is such a report, with how it is told
 abbrev pub HandsOver : {A : Type 0} → (IsSaid : A → List ℕ → Type 0) → (told : A → ℕ) → (old new : List ℕ) → (needed status : ℕ) → Type 0
 HandsOver {A} IsSaid told old new needed status =
@@ -41,7 +47,7 @@ HandsOver {A} IsSaid told old new needed status =
 -- what a call comes to, of which the definitions say this of its text
 abbrev pub Judges : (text : List ℕ) → (most : ℕ) → (old new : List ℕ) → (needed status : ℕ) → Type 0
 Judges text most old new needed status =
-    HandsOver (IsTextJudged text most) ruled_status old new needed status ⊎ LacksMemory old new needed status
+    HandsOver (IsTextJudged text (nearest most)) ruled_status old new needed status ⊎ LacksMemory old new needed status
 
 abbrev pub Runs : (text old new : List ℕ) → (needed status : ℕ) → Type 0
 Runs text old new needed status =

@@ -2,10 +2,10 @@
 
 ghost use Rattle.std.specs.Prelude.{◌≡◌};
 ghost use Rattle.sva_c.specs.Buffers.{IsHandedOver, status_of};
-ghost use Rattle.sva_c.specs.Searches.{explored_status, ruled_status};
+ghost use Rattle.sva_c.specs.Searches.{explored_status, nearest, ruled_status};
 
 use crate::statuses::{CUT_OFF, DONE, FAILS, FAULTED, NO_MEMORY, TOO_SMALL};
-use sva_driver_reports::Ruling;
+use sva_driver_reports::{Ruling, Wanted};
 use sva_race_reports::Judged;
 use sva_streams::Outcome;
 
@@ -39,6 +39,17 @@ pub(crate) fn status_of(outcome: Outcome) -> u32
     }
 }
 
+/// That of a driver a nearest finding is wanted, with its witness.
+pub(crate) fn nearest(most: u64) -> Wanted
+    ensures { result ≡ nearest most }
+{
+    Wanted {
+        most,
+        all: false,
+        lines_alone: false,
+    }
+}
+
 /// How it is told what is said of a driver.
 pub(crate) fn ruled_status(said: Option<Ruling>) -> u32
     ensures { result ≡ ruled_status said }
@@ -46,7 +57,7 @@ pub(crate) fn ruled_status(said: Option<Ruling>) -> u32
     match said {
         None => FAULTED,
         Some(Ruling::Safe | Ruling::Untried | Ruling::Right) => DONE,
-        Some(Ruling::Unsafe | Ruling::Stuck) => FAILS,
+        Some(Ruling::Unsafe | Ruling::UnsafeSoFar | Ruling::Stuck) => FAILS,
         Some(Ruling::CutOff) => CUT_OFF,
     }
 }

@@ -16,7 +16,7 @@ ghost use Rattle.sva_why.specs.Why.{why_of};
 mod handing;
 mod statuses;
 
-use crate::handing::{explored_status, hand_over, lack, ruled_status, status_of};
+use crate::handing::{explored_status, hand_over, lack, nearest, ruled_status, status_of};
 use std::alloc::Global;
 use sva_driver_reports::{judge_text, run_text};
 use sva_race_reports::{Wanted, explore_text};
@@ -134,7 +134,7 @@ pub extern "C" fn sva_c_judge(
     ensures { Judges text.now most report.old report.new needed.new result }
 {
     let mut said = Vec::new(alloc);
-    match judge_text(alloc, most, text, &mut said, &mut Unwatched) {
+    match judge_text(alloc, nearest(most), text, &mut said, &mut Unwatched) {
         Ok(ruling) => hand_over(said.as_slice(), ruled_status(ruling), report, needed),
         Err(_) => lack(needed),
     }

@@ -34,11 +34,11 @@ means (files.Wrong said) = Wrong said.items
 
 -- ---- Which search
 
--- with `--run` the lines of drivers are taken; else all their orders are judged, within `--most`, by `--strict` or not; races
+-- with `--run` the lines of drivers are taken; else all their orders are judged, within `--most`, by `--strict` and `--all` or not; races
 -- are explored. No other command takes files
 abbrev pub search_of : Asked → Search
-search_of (Judge true most strict) = Lines
-search_of (Judge false most strict) = Drivers most strict
+search_of (Judge true most strict all) = Lines
+search_of (Judge false most strict all) = Drivers most all strict
 search_of (Explore most whys few_ends) = Races most
 search_of asked = Lines
 

@@ -53,7 +53,8 @@ fn search_of(asked: Asked) -> Search
             run: false,
             most,
             strict,
-        } => Search::Drivers { most, strict },
+            all,
+        } => Search::Drivers { most, all, strict },
         Asked::Explore { most, .. } => Search::Races { most },
         // No other command takes files.
         _ => Search::Lines,

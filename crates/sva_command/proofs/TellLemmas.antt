@@ -104,13 +104,13 @@ tells_explore name rest most whys few_ends is are short =
       subst IsReadable (sym enters) (λ is_storm. absurd (is_other explore refl is_storm)),
     )
 
-tells_judge : (name : Text) (rest : List Text) (run : Bool) (most : ℕ) (strict : Bool)
+tells_judge : (name : Text) (rest : List Text) (run : Bool) (most : ℕ) (strict all : Bool)
     → run ≡ is_given (codes "run") (rows_after judge_shape.rules [] rest)
     → most ≡ most_by (most_text (rows_after judge_shape.rules [] rest)) → strict ≡ is_given (codes "strict") (rows_after judge_shape.rules [] rest)
-    → Tells (Judge run most strict) (name ∷ judge ∷ rest)
-tells_judge name rest run most strict is are strictly =
+    → all ≡ is_given (codes "all") (rows_after judge_shape.rules [] rest) → Tells (Judge run most strict all) (name ∷ judge ∷ rest)
+tells_judge name rest run most strict all is are strictly each =
     let enters = enters_judge name rest in (
-      ap asked_by enters ∙ (λ i. Judge (sym is i) (sym are i) (sym strictly i)),
+      ap asked_by enters ∙ (λ i. Judge (sym is i) (sym are i) (sym strictly i) (sym each i)),
       subst IsReadable (sym enters) (λ is_storm. absurd (is_other judge refl is_storm)),
     )
 
@@ -136,8 +136,8 @@ tells Why words is = bare_tells explaining words is
 tells (Chart svg) words (name, rest, given, e) = subst (Tells (Chart svg)) (sym e) (tells_chart name rest svg given.1)
 tells (Explore most whys few_ends) words (name, rest, given, e) =
     subst (Tells (Explore most whys few_ends)) (sym e) (tells_explore name rest most whys few_ends given.1 given.2 given.3)
-tells (Judge run most strict) words (name, rest, given, e) =
-    subst (Tells (Judge run most strict)) (sym e) (tells_judge name rest run most strict given.1 given.2 given.3)
+tells (Judge run most strict all) words (name, rest, given, e) =
+    subst (Tells (Judge run most strict all)) (sym e) (tells_judge name rest run most strict all given.1 given.2 given.3 given.4)
 tells (Trace live whys) words (name, rest, given, e) = subst (Tells (Trace live whys)) (sym e) (tells_trace name rest live whys given.1 given.2)
 tells (Storm turns) words (name, rest, given, inl e) =
     let t = given_taken turns rest given in

@@ -1,14 +1,14 @@
 //! The command line.
 
-ghost use Rattle.std.specs.Prelude.{◌≡◌, IfOk, codes, false};
+ghost use Rattle.std.specs.Prelude.{◌≡◌, ◌∷◌, [], IfOk, codes, false};
 ghost use Rattle.clap.specs.Words.{FailsBy, app_of, found_of, new_app, rows_of, rule_of, subcommand_rows_of, with_rule, with_subcommand};
 ghost use Rattle.sva_command.specs.Command.{Asks, IsReadable, IsWritten, asked_by, faults_of, flag_rule, is_given, judge_app, no_commands, own_faults};
 ghost use Rattle.sva_command.specs.Command.{most_by, most_rule, most_text, svahost, texts, turns_by, turns_rule, turns_text, within};
 
 use crate::help::{
-    ABOUT, CHART, CHECK, ENDS, EXPLORE, EXPLORE_USAGE, FILES, HELP, JUDGE, JUDGE_USAGE, LIVE, MOST,
-    PLAIN, REPLAY, RUN, SHOW, STORM, STRICT, STRICT_RUN, SVG, TEST, TRACE, TURNS, VERSION, WAITS,
-    WHY, WHYS,
+    ABOUT, ALL, ALL_RUN, CHART, CHECK, ENDS, EXPLORE, EXPLORE_USAGE, FILES, HELP, JUDGE,
+    JUDGE_USAGE, LIVE, MOST, PLAIN, REPLAY, RUN, SHOW, STORM, STRICT, STRICT_RUN, SVG, TEST, TRACE,
+    TURNS, VERSION, WAITS, WHY, WHYS,
 };
 use clap::builder::ValueParser;
 use clap::error::ErrorKind;
@@ -69,6 +69,8 @@ pub enum Asked {
         most: u64,
         /// Does a verdict that says nothing have a status of its own? Not where the lines are taken one after another.
         strict: bool,
+        /// Are all findings told, but for what is behind one? Not where the lines are taken one after another.
+        all: bool,
     },
     /// Each step of a script with its answer and its messages, as it comes.
     Trace {
@@ -183,7 +185,8 @@ fn with_judge<'a>(svahost: Command<'a>, alloc: Global) -> Result<Command<'a>, Al
     let with_most = judge.arg(most_option(alloc))?;
     let with_run = with_most.arg(flag(alloc, "run", RUN))?;
     let with_strict = with_run.arg(flag(alloc, "strict", STRICT))?;
-    svahost.subcommand(with_strict)
+    let with_all = with_strict.arg(flag(alloc, "all", ALL))?;
+    svahost.subcommand(with_all)
 }
 
 /// The program with its command `trace`.
@@ -255,8 +258,16 @@ pub fn parse(alloc: Global, words: &[String]) -> Result<Asked, Error>
     }
 }
 
-/// A command that was entered, unless that can't be meant: `--strict` is of a verdict on all orders, and with `--run` there is
-/// none.
+/// That two options of `judge` can't be meant together.
+fn conflict(alloc: Global, told: &'static str) -> Result<Asked, Error>
+    ensures { FailsBy (ErrorKind.ArgumentConflict ∷ []) result }
+{
+    let mut judge = Command::new(alloc, "judge").override_usage(JUDGE_USAGE);
+    Err(judge.error(ErrorKind::ArgumentConflict, told)?)
+}
+
+/// A command that was entered, unless that can't be meant: `--strict` and `--all` are of a verdict on all orders, and with
+/// `--run` there is none.
 fn meant(alloc: Global, asked: Asked) -> Result<Asked, Error>
     ensures fails { FailsBy (own_faults asked) result }
     ensures asked { IfOk result (λ meant. meant ≡ asked) }
@@ -266,10 +277,12 @@ fn meant(alloc: Global, asked: Asked) -> Result<Asked, Error>
             run: true,
             strict: true,
             ..
-        } => {
-            let mut judge = Command::new(alloc, "judge").override_usage(JUDGE_USAGE);
-            Err(judge.error(ErrorKind::ArgumentConflict, STRICT_RUN)?)
-        }
+        } => conflict(alloc, STRICT_RUN),
+        Asked::Judge {
+            run: true,
+            all: true,
+            ..
+        } => conflict(alloc, ALL_RUN),
         _ => Ok(asked),
     }
 }
@@ -299,6 +312,7 @@ fn entered(matches: &ArgMatches<'_>) -> Asked
             run: is_given(below, "run"),
             most: most(below),
             strict: is_given(below, "strict"),
+            all: is_given(below, "all"),
         },
         Some(("trace", below)) => Asked::Trace {
             live: is_given(below, "live"),

@@ -75,6 +75,13 @@ pub const RUN: &str =
 pub const STRICT: &str =
     "The status is 8 where nothing was ever tried, and the verdict so says nothing";
 
+/// What `-h` says of `--all`.
+pub const ALL: &str =
+    "Each finding that isn't behind another one is told, with a shortest list of events to it";
+
+/// What is told of `--all` with `--run`.
+pub const ALL_RUN: &str = "the argument '--all' cannot be used with '--run'";
+
 /// What is told of `--strict` with `--run`.
 pub const STRICT_RUN: &str = "the argument '--strict' cannot be used with '--run'";
 
@@ -121,8 +128,9 @@ what device, link and unit do beside its lines:
 `svahost judge FILE` follows every order, and prints `safe in all N moments`, or a shortest list of
 events behind which an endpoint may still use a frame that has another owner, say. Here that has 5
 events; with `await wait 0` above `free 0` the order is safe. `--most N` is how many moments are looked
-at, at most; `--run` takes the lines one after another instead, and looks at no other order; with
-`--strict` the status is 8 where nothing was ever tried. The acts stand further down.
+at, at most; `--run` takes the lines one after another instead, and looks at no other order; `--all`
+tells each finding that isn't behind another one; with `--strict` the status is 8 where nothing was
+ever tried. The acts stand further down.
 
 A scenario is a text on standard input, of at most 65536 lines and 1048576 bytes. Its first line is
 the config: how many endpoints, frames and workers there are. Each further line is a step. Words are

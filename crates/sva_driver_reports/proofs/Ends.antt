@@ -1,5 +1,5 @@
 -- What is told of a driver that is stuck is so.
-use Rattle.std.proofs.Common.{◌≡◌, ◌∙◌, ◌≤◌, ap, refl, subst, sym, ℕ, List, ◌∷◌, ◌++◌, Bool, true, false, length, Some, Result, Ok, Err}
+use Rattle.std.proofs.Common.{◌≡◌, ◌∙◌, ◌≤◌, ap, refl, subst, sym, ℕ, List, ◌∷◌, ◌++◌, Bool, true, false, length, Option, Some, None, Result, Ok, Err}
 use Rattle.std.specs.Prelude.{codes, flat_map, if◌then◌else◌}
 use Rattle.sva_judge.specs.Spots.{Spot, start_of}
 use Rattle.sva_judge.specs.Verdicts.{IsAlwaysSafe, IsJudged, IsStuck}
@@ -15,11 +15,12 @@ use Rattle.sva_driver_texts.specs.declared.kept.Read.{Read}
 use Rattle.sva_driver_texts.specs.declared.kept.Text.{Text}
 use Rattle.sva_driver_reports.specs.Judged.{IsTold, IsToldBy}
 use Rattle.sva_driver_reports.specs.Nevers.{is_tried}
-use Rattle.sva_driver_reports.specs.Reports.{behind, budgets_text, events_by, events_count, others_text, parts_from, report_text, ruling_of}
+use Rattle.sva_driver_reports.specs.Reports.{behind, budgets_text, events_by, events_count, others_text, parts_from, report_text, ruling_of, ruling_of_all}
 use Rattle.sva_driver_reports.specs.Reports.{stuck_text, waiting_text}
 use Rattle.sva_driver_reports.specs.Witness.{event_line, front_text, width_from}
 use Rattle.sva_driver_reports.specs.Witnesses.{EndsAreTold, HasEnd, HasRead}
 use Rattle.sva_driver_reports.specs.declared.reports.Ruling.TheVariants as ruling
+use Rattle.sva_driver_reports.specs.declared.wanted.Wanted.{Wanted}
 use Rattle.sva_driver_reports.proofs.Witnesses.{IsFit, fits, walked}
 
 -- ---- The report
@@ -55,48 +56,53 @@ stuck_alone : (tried : Bool) → ruling.Stuck ≡ (if tried then ruling.Safe els
 stuck_alone true is = cc is
 stuck_alone false is = cc is
 
-end_by : (text : Text) (most : ℕ) (it : Verdict) (out : List ℕ) → IsFit text
-    → IsJudged text.driver most it → ruling.Stuck ≡ ruling_of it → out ≡ report_text text it → HasEnd text out
-end_by text most (verdict.Stuck witness moments) out fit holds rules is = end_of text witness.items out fit holds.0 holds.1 holds.2 is
-end_by text most (verdict.Safe moments looked) out fit holds rules is = absurd (stuck_alone (is_tried looked.items) rules)
-end_by text most (verdict.SafeApart moments looked) out fit holds rules is = absurd (stuck_alone (is_tried looked.items) rules)
-end_by text most (verdict.Unsafe witness) out fit holds rules is = absurd (cc rules)
-end_by text most (verdict.CutOff moments events) out fit holds rules is = absurd (cc rules)
+none_found : (cut : Option ℕ) → ruling.Stuck ≡ ruling_of_all cut → ⊥
+none_found None is = cc is
+none_found (Some events) is = cc is
 
-told_stuck : (text : Text) (most : ℕ) (out : List ℕ) → IsFit text → IsToldBy text most ruling.Stuck out → HasEnd text out
-told_stuck text most out fit told = end_by text most told.verdict out fit told.holds told.ruling told.report
+end_by : (text : Text) (most : ℕ) (brief : Bool) (it : Verdict) (out : List ℕ) → IsFit text
+    → IsJudged text.driver most it → ruling.Stuck ≡ ruling_of it → out ≡ report_text text brief it → HasEnd text out
+end_by text most brief (verdict.Stuck witness moments) out fit holds rules is = end_of text witness.items out fit holds.0 holds.1 holds.2 is
+end_by text most brief (verdict.Safe moments looked) out fit holds rules is = absurd (stuck_alone (is_tried looked.items) rules)
+end_by text most brief (verdict.SafeApart moments looked) out fit holds rules is = absurd (stuck_alone (is_tried looked.items) rules)
+end_by text most brief (verdict.Unsafe witness) out fit holds rules is = absurd (cc rules)
+end_by text most brief (verdict.Findings found moments cut) out fit holds rules is = absurd (none_found cut rules)
+end_by text most brief (verdict.CutOff moments events) out fit holds rules is = absurd (cc rules)
+
+told_stuck : (text : Text) (wanted : Wanted) (out : List ℕ) → IsFit text → IsToldBy text wanted ruling.Stuck out → HasEnd text out
+told_stuck text wanted out fit told = end_by text wanted.most wanted.lines_alone told.verdict out fit told.holds told.ruling told.report
 
 -- ---- The law
 
 abbrev EndsIn : Read → (out : List ℕ) → Type 0
 EndsIn read out = (behind : Text) × IsText read behind × HasEnd behind out
 
-module _ (text : List ℕ) (from : DriverRead) (read : Read) (most : ℕ) (wrongs out : List ℕ) (is : driver_of text ≡ Ok from) (reads : IsRead from read) where
-  ended_at : (led : Result Spot Halt) (to : Begun) → StandsAt read led to wrongs → IsTold to most wrongs (Some ruling.Stuck) out → EndsIn read out
+module _ (text : List ℕ) (from : DriverRead) (read : Read) (wanted : Wanted) (wrongs out : List ℕ) (is : driver_of text ≡ Ok from) (reads : IsRead from read) where
+  ended_at : (led : Result Spot Halt) (to : Begun) → StandsAt read led to wrongs → IsTold to wanted wrongs (Some ruling.Stuck) out → EndsIn read out
   ended_at (Ok spot) (begun.Stands behind) stands told =
-      (behind, stands.0, told_stuck behind most out (fits text from read behind is reads stands.0) told)
+      (behind, stands.0, told_stuck behind wanted out (fits text from read behind is reads stands.0) told)
   ended_at (Ok spot) (begun.Leaks number found) stands told = absurd stands
   ended_at (Ok spot) begun.Faulted stands told = absurd stands
   ended_at (Err (halt.Refused place)) begun.Faulted stands told = absurd (cc told.0)
   ended_at (Err (halt.Refused place)) (begun.Leaks number found) stands told = absurd stands
   ended_at (Err (halt.Refused place)) (begun.Stands text) stands told = absurd stands
   ended_at (Err (halt.Leaks number found)) to stands told =
-      let leaks = subst (λ (it : Begun). IsTold it most wrongs (Some ruling.Stuck) out) stands.0 told in
+      let leaks = subst (λ (it : Begun). IsTold it wanted wrongs (Some ruling.Stuck) out) stands.0 told in
       absurd (cc leaks.0)
 
-  ended_by : (is_race : Bool) (to : Begun) → StandsBy read is_race to wrongs → IsTold to most wrongs (Some ruling.Stuck) out → EndsIn read out
+  ended_by : (is_race : Bool) (to : Begun) → StandsBy read is_race to wrongs → IsTold to wanted wrongs (Some ruling.Stuck) out → EndsIn read out
   ended_by true to stands told = ended_at (behind_first read.opening read.before) to stands told
   ended_by false to stands told =
-      let faulted = subst (λ (it : Begun). IsTold it most wrongs (Some ruling.Stuck) out) stands.0 told in
+      let faulted = subst (λ (it : Begun). IsTold it wanted wrongs (Some ruling.Stuck) out) stands.0 told in
       absurd (cc faulted.0)
 
-ended : (text : List ℕ) (led : Result DriverRead (List ℕ)) (most : ℕ) (to : Begun) (wrongs out : List ℕ) → driver_of text ≡ led → ReadsDriver led to wrongs
-    → IsTold to most wrongs (Some ruling.Stuck) out → HasRead text (λ (read : Read). EndsIn read out)
-ended text (Err said) most to wrongs out is reads told =
-    let faulted = subst (λ (it : Begun). IsTold it most wrongs (Some ruling.Stuck) out) reads.0 told in
+ended : (text : List ℕ) (led : Result DriverRead (List ℕ)) (wanted : Wanted) (to : Begun) (wrongs out : List ℕ) → driver_of text ≡ led → ReadsDriver led to wrongs
+    → IsTold to wanted wrongs (Some ruling.Stuck) out → HasRead text (λ (read : Read). EndsIn read out)
+ended text (Err said) wanted to wrongs out is reads told =
+    let faulted = subst (λ (it : Begun). IsTold it wanted wrongs (Some ruling.Stuck) out) reads.0 told in
     absurd (cc faulted.0)
-ended text (Ok from) most to wrongs out is reads told =
-    (from, reads.0, is, reads.1, ended_by text from reads.0 most wrongs out is reads.1 reads.0.is_race to reads.2 told)
+ended text (Ok from) wanted to wrongs out is reads told =
+    (from, reads.0, is, reads.1, ended_by text from reads.0 wanted wrongs out is reads.1 reads.0.is_race to reads.2 told)
 
 pub ends_are_told : EndsAreTold
-ends_are_told text most out judged = ended text (driver_of text) most judged.to judged.wrongs out refl judged.reads judged.told
+ends_are_told text wanted out judged = ended text (driver_of text) wanted judged.to judged.wrongs out refl judged.reads judged.told

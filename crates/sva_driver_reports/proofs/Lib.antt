@@ -9,3 +9,4 @@ mod Told
 mod UntakenLines
 mod Witnesses
 mod Ends
+mod AllFound

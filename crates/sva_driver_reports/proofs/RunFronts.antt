@@ -13,6 +13,7 @@ use Rattle.sva_script_reading.specs.Begins.{config_in, lines_from}
 use Rattle.sva_driver_texts.specs.Texts.{ReadsDriver, ReadsText, driver_behind, driver_of, too_large}
 use Rattle.sva_driver_reports.specs.declared.reports.Ruling.{Ruling}
 use Rattle.sva_driver_reports.specs.Judged.{IsTextJudged, IsTextRun, Judges, Runs}
+use Rattle.sva_driver_reports.specs.declared.wanted.Wanted.{Wanted}
 
 -- ---- More than the first 1,048,577 bytes don't matter: the text is too large anyhow
 
@@ -33,9 +34,9 @@ same_front text = by_size (ltb 1048576 (length text)) refl
         let short : length text ≤ 1048577 = omega (arith, ltb-false 1048576 (length text) e) in
         ap driver_of (take_all 1048577 text short)
 
-front_judged : (text : List ℕ) (most : ℕ) (said : Option Ruling) (out : List ℕ) → IsTextJudged (take 1048577 text) most said out
-    → IsTextJudged text most said out
-front_judged text most said out h = record {
+front_judged : (text : List ℕ) (wanted : Wanted) (said : Option Ruling) (out : List ℕ) → IsTextJudged (take 1048577 text) wanted said out
+    → IsTextJudged text wanted said out
+front_judged text wanted said out h = record {
   to = h.to;
   wrongs = h.wrongs;
   reads = subst (λ d. ReadsDriver d h.to h.wrongs) (same_front text) h.reads;
@@ -52,42 +53,42 @@ front_run text said out h = record {
 
 -- ---- It was written, a part of it, or nothing
 
-pub whole_judged : (text : List ℕ) (most : ℕ) (old new : Option (List ℕ)) (out : List ℕ) (said : Option Ruling) → IsTextJudged text most said out
-    → Appends old new out → Judges text most old new (Ok said)
-whole_judged text most old new out said tells whole = (out, tells, whole)
+pub whole_judged : (text : List ℕ) (wanted : Wanted) (old new : Option (List ℕ)) (out : List ℕ) (said : Option Ruling) → IsTextJudged text wanted said out
+    → Appends old new out → Judges text wanted old new (Ok said)
+whole_judged text wanted old new out said tells whole = (out, tells, whole)
 
-pub part_judged : (text : List ℕ) (most : ℕ) (old new : Option (List ℕ)) (out : List ℕ) (said : Option Ruling) (fault : DriveFault)
-    → IsTextJudged text most said out → fault ≡ Write → AppendsProperPrefix old new out → Judges text most old new (Err fault)
-part_judged text most old new out said fault tells is part =
-    subst (λ f. Judges text most old new (Err f)) (sym is) (out, said, tells, (part.0, part.1, part.2, part.3))
+pub part_judged : (text : List ℕ) (wanted : Wanted) (old new : Option (List ℕ)) (out : List ℕ) (said : Option Ruling) (fault : DriveFault)
+    → IsTextJudged text wanted said out → fault ≡ Write → AppendsProperPrefix old new out → Judges text wanted old new (Err fault)
+part_judged text wanted old new out said fault tells is part =
+    subst (λ f. Judges text wanted old new (Err f)) (sym is) (out, said, tells, (part.0, part.1, part.2, part.3))
 
-nothing_judged : (text : List ℕ) (most : ℕ) (old : Option (List ℕ)) (fault : DriveFault) → (fault ≡ Write → ⊥) → Judges text most old old (Err fault)
-nothing_judged text most old Read other = ([], [], refl, Appends-nil old)
-nothing_judged text most old Write other = absurd (other refl)
-nothing_judged text most old Memory other = ([], [], refl, Appends-nil old)
+nothing_judged : (text : List ℕ) (wanted : Wanted) (old : Option (List ℕ)) (fault : DriveFault) → (fault ≡ Write → ⊥) → Judges text wanted old old (Err fault)
+nothing_judged text wanted old Read other = ([], [], refl, Appends-nil old)
+nothing_judged text wanted old Write other = absurd (other refl)
+nothing_judged text wanted old Memory other = ([], [], refl, Appends-nil old)
 
-pub none_judged : (text : List ℕ) (most : ℕ) (old new : Option (List ℕ)) (fault : DriveFault) → (fault ≡ Write → ⊥) → new ≡ old
-    → Judges text most old new (Err fault)
-none_judged text most old new fault other same = subst (λ n. Judges text most old n (Err fault)) (sym same) (nothing_judged text most old fault other)
+pub none_judged : (text : List ℕ) (wanted : Wanted) (old new : Option (List ℕ)) (fault : DriveFault) → (fault ≡ Write → ⊥) → new ≡ old
+    → Judges text wanted old new (Err fault)
+none_judged text wanted old new fault other same = subst (λ n. Judges text wanted old n (Err fault)) (sym same) (nothing_judged text wanted old fault other)
 
-pub unread_judged : (known old new : Option (List ℕ)) (most : ℕ) (fault : DriveFault) → (fault ≡ Write → ⊥) → new ≡ old
-    → IfSome known (λ input. Judges input most old new (Err fault))
-unread_judged None old new most fault other same = tt
-unread_judged (Some input) old new most fault other same = none_judged input most old new fault other same
+pub unread_judged : (known old new : Option (List ℕ)) (wanted : Wanted) (fault : DriveFault) → (fault ≡ Write → ⊥) → new ≡ old
+    → IfSome known (λ input. Judges input wanted old new (Err fault))
+unread_judged None old new wanted fault other same = tt
+unread_judged (Some input) old new wanted fault other same = none_judged input wanted old new fault other same
 
-front_of_judged : (text : List ℕ) (most : ℕ) (old new : Option (List ℕ)) (result : Result (Option Ruling) DriveFault)
-    → Judges (take 1048577 text) most old new result → Judges text most old new result
-front_of_judged text most old new (Ok said) h = (h.0, front_judged text most said h.0 h.1, h.2)
-front_of_judged text most old new (Err Write) h = (h.0, h.1, front_judged text most h.1 h.0 h.2, h.3)
-front_of_judged text most old new (Err Read) h = h
-front_of_judged text most old new (Err Memory) h = h
+front_of_judged : (text : List ℕ) (wanted : Wanted) (old new : Option (List ℕ)) (result : Result (Option Ruling) DriveFault)
+    → Judges (take 1048577 text) wanted old new result → Judges text wanted old new result
+front_of_judged text wanted old new (Ok said) h = (h.0, front_judged text wanted said h.0 h.1, h.2)
+front_of_judged text wanted old new (Err Write) h = (h.0, h.1, front_judged text wanted h.1 h.0 h.2, h.3)
+front_of_judged text wanted old new (Err Read) h = h
+front_of_judged text wanted old new (Err Memory) h = h
 
-pub kept_judged : (known old new : Option (List ℕ)) (most : ℕ) (kept text : List ℕ) (result : Result (Option Ruling) DriveFault)
-    → text ≡ kept → IfSome known (λ input. kept ≡ take 1048577 input) → Judges text most old new result
-    → IfSome known (λ input. Judges input most old new result)
-kept_judged None old new most kept text result same cut tells = tt
-kept_judged (Some input) old new most kept text result same cut tells =
-    front_of_judged input most old new result (subst (λ t. Judges t most old new result) (same ∙ cut) tells)
+pub kept_judged : (known old new : Option (List ℕ)) (wanted : Wanted) (kept text : List ℕ) (result : Result (Option Ruling) DriveFault)
+    → text ≡ kept → IfSome known (λ input. kept ≡ take 1048577 input) → Judges text wanted old new result
+    → IfSome known (λ input. Judges input wanted old new result)
+kept_judged None old new wanted kept text result same cut tells = tt
+kept_judged (Some input) old new wanted kept text result same cut tells =
+    front_of_judged input wanted old new result (subst (λ t. Judges t wanted old new result) (same ∙ cut) tells)
 
 pub whole_run : (text : List ℕ) (old new : Option (List ℕ)) (out : List ℕ) (said : Option Ruling) → IsTextRun text said out
     → Appends old new out → Runs text old new (Ok said)

@@ -23,7 +23,7 @@ use Rattle.sva_open_safe.specs.declared.wrongs.Wrong.{Wrong}
 use Rattle.sva_judge.specs.Choices.{act_of, behind_choice, behind_line, behind_own, is_open_to, next_in, own_act}
 use Rattle.sva_judge.specs.Rules.{rules_of}
 use Rattle.sva_judge.specs.Spots.{Spot, start_of}
-use Rattle.sva_judge.specs.Verdicts.{IsJudged, IsLeak}
+use Rattle.sva_judge.specs.Verdicts.{IsAsked, IsJudged, IsLeak}
 use Rattle.sva_judge.specs.declared.choices.Choice.{Choice}
 use Rattle.sva_judge.specs.declared.choices.Doing.{Doing}
 use Rattle.sva_judge.specs.declared.choices.Doing.TheVariants as doing
@@ -51,6 +51,7 @@ use Rattle.sva_driver_reports.proofs.OneLines.{blanks_one, both}
 use Rattle.sva_driver_reports.proofs.ReadLines.{AreWhole, are_whole, event_whole}
 use Rattle.sva_driver_reports.specs.Witnesses.{AreTold, HasLeak, HasRead, HasWitness, IsLineBy, IsOneLine, LeaksAreTold, WitnessesAreTold}
 use Rattle.sva_driver_reports.specs.declared.reports.Ruling.TheVariants as ruling
+use Rattle.sva_driver_reports.specs.declared.wanted.Wanted.{Wanted}
 
 -- ---- What isn't safe has something wrong
 
@@ -241,17 +242,19 @@ unsafe_alone : (tried : Bool) → ruling.Unsafe ≡ (if tried then ruling.Safe e
 unsafe_alone true is = cc is
 unsafe_alone false is = cc is
 
-witness_by : (text : Text) (most : ℕ) (it : Verdict) (out : List ℕ) → IsFit text
-    → IsJudged text.driver most it → ruling.Unsafe ≡ ruling_of it → out ≡ report_text text it → HasWitness text out
-witness_by text most (verdict.Unsafe witness) out fit holds rules is = witness_of text witness.items out fit holds.0 holds.1 is
-witness_by text most (verdict.Safe moments looked) out fit holds rules is = absurd (unsafe_alone (is_tried looked.items) rules)
-witness_by text most (verdict.SafeApart moments looked) out fit holds rules is = absurd (unsafe_alone (is_tried looked.items) rules)
-witness_by text most (verdict.Stuck witness moments) out fit holds rules is = absurd (cc rules)
-witness_by text most (verdict.CutOff moments events) out fit holds rules is = absurd (cc rules)
+witness_by : (text : Text) (most : ℕ) (brief : Bool) (it : Verdict) (out : List ℕ) → IsFit text
+    → IsJudged text.driver most it → IsAsked false it → ruling.Unsafe ≡ ruling_of it → out ≡ report_text text brief it → HasWitness text out
+witness_by text most brief (verdict.Unsafe witness) out fit holds asked rules is = witness_of text witness.items out fit holds.0 holds.1 is
+witness_by text most brief (verdict.Safe moments looked) out fit holds asked rules is = absurd (unsafe_alone (is_tried looked.items) rules)
+witness_by text most brief (verdict.SafeApart moments looked) out fit holds asked rules is = absurd (unsafe_alone (is_tried looked.items) rules)
+witness_by text most brief (verdict.Findings found moments cut) out fit holds asked rules is = absurd asked
+witness_by text most brief (verdict.Stuck witness moments) out fit holds asked rules is = absurd (cc rules)
+witness_by text most brief (verdict.CutOff moments events) out fit holds asked rules is = absurd (cc rules)
 
-told_unsafe : (text : Text) (most : ℕ) (out : List ℕ) → IsFit text
-    → IsToldBy text most ruling.Unsafe out → HasWitness text out
-told_unsafe text most out fit told = witness_by text most told.verdict out fit told.holds told.ruling told.report
+told_unsafe : (text : Text) (wanted : Wanted) (out : List ℕ) → IsFit text → wanted.all ≡ false
+    → IsToldBy text wanted ruling.Unsafe out → HasWitness text out
+told_unsafe text wanted out fit one told =
+    witness_by text wanted.most wanted.lines_alone told.verdict out fit told.holds (subst (λ b. IsAsked b told.verdict) one told.asked) told.ruling told.report
 
 -- ---- The first line behind which something is wrong
 
@@ -328,7 +331,7 @@ module _ (driver : Driver) (number : ℕ) (found : Wrong) where
   at_line place (Ok before) first is rest = unless_left place before first (is_left_out before place (slice_get driver.lines.items place)) is
   at_line place (Err stop) first is rest = later place (rest (first ∙ is))
 
-  leak_told : (count : ℕ) → behind_first driver count ≡ Err (halt.Leaks number found) → HasLeak driver count (unsafe_at number found)
+  pub leak_told : (count : ℕ) → behind_first driver count ≡ Err (halt.Leaks number found) → HasLeak driver count (unsafe_at number found)
   unfolding behind_first
   leak_told zero is = absurd (cc is)
   leak_told (suc place) is = at_line place (behind_first driver place) refl is (leak_told place)
@@ -352,39 +355,40 @@ fits text from read behind is reads stands = record {
   whole = subst (λ (said : Vec Said Global). AreWhole said.items) (sym stands.said) (are_whole text from read is reads);
 }
 
-module _ (text : List ℕ) (from : DriverRead) (read : Read) (most : ℕ) (wrongs out : List ℕ) (is : driver_of text ≡ Ok from) (reads : IsRead from read) where
+module _ (text : List ℕ) (from : DriverRead) (read : Read) (wanted : Wanted) (wrongs out : List ℕ) (is : driver_of text ≡ Ok from) (reads : IsRead from read)
+    (one : wanted.all ≡ false) where
   shown_at : (led : Result Spot Halt) (to : Begun) → behind_first read.opening read.before ≡ led → StandsAt read led to wrongs
-      → IsTold to most wrongs (Some ruling.Unsafe) out
+      → IsTold to wanted wrongs (Some ruling.Unsafe) out
       → HasLeak read.opening read.before out ⊎ ((behind : Text) × IsText read behind × HasWitness behind out)
   shown_at (Ok spot) (begun.Stands behind) led stands told =
-      inr (behind, stands.0, told_unsafe behind most out (fits text from read behind is reads stands.0) told)
+      inr (behind, stands.0, told_unsafe behind wanted out (fits text from read behind is reads stands.0) one told)
   shown_at (Ok spot) (begun.Leaks number found) led stands told = absurd stands
   shown_at (Ok spot) begun.Faulted led stands told = absurd stands
   shown_at (Err (halt.Refused place)) begun.Faulted led stands told = absurd (cc told.0)
   shown_at (Err (halt.Refused place)) (begun.Leaks number found) led stands told = absurd stands
   shown_at (Err (halt.Refused place)) (begun.Stands text) led stands told = absurd stands
   shown_at (Err (halt.Leaks number found)) to led stands told =
-      let leaks = subst (λ (it : Begun). IsTold it most wrongs (Some ruling.Unsafe) out) stands.0 told in
+      let leaks = subst (λ (it : Begun). IsTold it wanted wrongs (Some ruling.Unsafe) out) stands.0 told in
       inl (subst (HasLeak read.opening read.before) (sym leaks.1) (leak_told read.opening number found read.before led))
 
-  shown_by : (is_race : Bool) (to : Begun) → StandsBy read is_race to wrongs → IsTold to most wrongs (Some ruling.Unsafe) out
+  shown_by : (is_race : Bool) (to : Begun) → StandsBy read is_race to wrongs → IsTold to wanted wrongs (Some ruling.Unsafe) out
       → HasLeak read.opening read.before out ⊎ ((behind : Text) × IsText read behind × HasWitness behind out)
   shown_by true to stands told = shown_at (behind_first read.opening read.before) to refl stands told
   shown_by false to stands told =
-      let faulted = subst (λ (it : Begun). IsTold it most wrongs (Some ruling.Unsafe) out) stands.0 told in
+      let faulted = subst (λ (it : Begun). IsTold it wanted wrongs (Some ruling.Unsafe) out) stands.0 told in
       absurd (cc faulted.0)
 
-shown : (text : List ℕ) (led : Result DriverRead (List ℕ)) (most : ℕ) (to : Begun) (wrongs out : List ℕ) → driver_of text ≡ led → ReadsDriver led to wrongs
-    → IsTold to most wrongs (Some ruling.Unsafe) out
+shown : (text : List ℕ) (led : Result DriverRead (List ℕ)) (wanted : Wanted) (to : Begun) (wrongs out : List ℕ) → driver_of text ≡ led → ReadsDriver led to wrongs
+    → wanted.all ≡ false → IsTold to wanted wrongs (Some ruling.Unsafe) out
     → HasRead text (λ (read : Read). HasLeak read.opening read.before out ⊎ ((behind : Text) × IsText read behind × HasWitness behind out))
-shown text (Err said) most to wrongs out is reads told =
-    let faulted = subst (λ (it : Begun). IsTold it most wrongs (Some ruling.Unsafe) out) reads.0 told in
+shown text (Err said) wanted to wrongs out is reads one told =
+    let faulted = subst (λ (it : Begun). IsTold it wanted wrongs (Some ruling.Unsafe) out) reads.0 told in
     absurd (cc faulted.0)
-shown text (Ok from) most to wrongs out is reads told =
-    (from, reads.0, is, reads.1, shown_by text from reads.0 most wrongs out is reads.1 reads.0.is_race to reads.2 told)
+shown text (Ok from) wanted to wrongs out is reads one told =
+    (from, reads.0, is, reads.1, shown_by text from reads.0 wanted wrongs out is reads.1 one reads.0.is_race to reads.2 told)
 
 pub witnesses_are_told : WitnessesAreTold
-witnesses_are_told text most out judged = shown text (driver_of text) most judged.to judged.wrongs out refl judged.reads judged.told
+witnesses_are_told text wanted out one judged = shown text (driver_of text) wanted judged.to judged.wrongs out refl judged.reads one judged.told
 
 -- ---- Line by line
 

@@ -8,7 +8,7 @@ use Rattle.sva_streams.specs.Streams.{AppendsPrefix}
 use Rattle.sva_open_safe.specs.declared.wrongs.Wrong.{Wrong}
 use Rattle.sva_judge.specs.declared.verdicts.Verdict.{Verdict}
 use Rattle.sva_judge.specs.Spots.{Spot}
-use Rattle.sva_judge.specs.Verdicts.{IsJudged}
+use Rattle.sva_judge.specs.Verdicts.{IsAsked, IsJudged}
 use Rattle.sva_driver_texts.specs.Texts.{ReadsDriver, ReadsText, behind_first, driver_of, refused_at}
 use Rattle.sva_driver_texts.specs.declared.kept.Begun.{Begun}
 use Rattle.sva_driver_texts.specs.declared.kept.Begun.TheVariants as begun
@@ -20,15 +20,17 @@ use Rattle.sva_driver_reports.specs.Findings.{wrong_text}
 use Rattle.sva_driver_reports.specs.Reports.{events_count, report_text, ruling_of}
 use Rattle.sva_driver_reports.specs.declared.reports.Ruling.{Ruling}
 use Rattle.sva_driver_reports.specs.declared.reports.Ruling.TheVariants as ruling
+use Rattle.sva_driver_reports.specs.declared.wanted.Wanted.{Wanted}
 
 -- ---- Judged
 
--- a verdict that holds of the driver, with its report: of several witnesses that are as short as any, one is told
-pub record IsToldBy (text : Text) (most : ℕ) (said : Ruling) (out : List ℕ) : Type 0 where
+-- a verdict that holds of the driver, by all findings where these are wanted, with its report: of several witnesses that are as short as any, one is told
+pub record IsToldBy (text : Text) (wanted : Wanted) (said : Ruling) (out : List ℕ) : Type 0 where
   pub verdict : Verdict
-  pub holds : IsJudged text.driver most verdict
+  pub holds : IsJudged text.driver wanted.most verdict
+  pub asked : IsAsked wanted.all verdict
   pub ruling : said ≡ ruling_of verdict
-  pub report : out ≡ report_text text verdict
+  pub report : out ≡ report_text text wanted.lines_alone verdict
 
 -- something is wrong behind a line
 abbrev pub unsafe_at : (number : ℕ) → Wrong → List ℕ
@@ -36,17 +38,17 @@ unsafe_at number found = codes "unsafe at line " ++ decimal number ++ codes ": "
 
 -- what is wrong with the text is told alone; and so is the first line before `race` behind which something is wrong:
 -- the driver is unsafe then
-abbrev pub IsTold : Begun → (most : ℕ) → (wrongs : List ℕ) → Option Ruling → (out : List ℕ) → Type 0
-IsTold begun.Faulted most wrongs said out = (said ≡ None) × (out ≡ wrongs)
-IsTold (begun.Leaks number found) most wrongs said out = (said ≡ Some ruling.Unsafe) × (out ≡ unsafe_at number found)
-IsTold (begun.Stands text) most wrongs (Some said) out = IsToldBy text most said out
-IsTold (begun.Stands text) most wrongs None out = ⊥
+abbrev pub IsTold : Begun → (wanted : Wanted) → (wrongs : List ℕ) → Option Ruling → (out : List ℕ) → Type 0
+IsTold begun.Faulted wanted wrongs said out = (said ≡ None) × (out ≡ wrongs)
+IsTold (begun.Leaks number found) wanted wrongs said out = (said ≡ Some ruling.Unsafe) × (out ≡ unsafe_at number found)
+IsTold (begun.Stands text) wanted wrongs (Some said) out = IsToldBy text wanted said out
+IsTold (begun.Stands text) wanted wrongs None out = ⊥
 
-pub record IsTextJudged (text : List ℕ) (most : ℕ) (said : Option Ruling) (out : List ℕ) : Type 0 where
+pub record IsTextJudged (text : List ℕ) (wanted : Wanted) (said : Option Ruling) (out : List ℕ) : Type 0 where
   pub to : Begun
   pub wrongs : List ℕ
   pub reads : ReadsDriver (driver_of text) to wrongs
-  pub told : IsTold to most wrongs said out
+  pub told : IsTold to wanted wrongs said out
 
 -- ---- Line by line
 
@@ -97,11 +99,11 @@ pub record IsTextRun (text : List ℕ) (said : Option Ruling) (out : List ℕ) :
 
 -- ---- What is written of it: all, or a prefix where writing failed; where memory lacked, nothing is
 
-abbrev pub Judges : (text : List ℕ) → (most : ℕ) → (old new : Option (List ℕ)) → Result (Option Ruling) DriveFault → Type 0
-Judges text most old new (Ok said) = (out : List ℕ) × IsTextJudged text most said out × Appends old new out
-Judges text most old new (Err Write) =
-    (out : List ℕ) × (said : Option Ruling) × IsTextJudged text most said out × AppendsPrefix old new out
-Judges text most old new (Err fault) = AppendsPrefix old new []
+abbrev pub Judges : (text : List ℕ) → (wanted : Wanted) → (old new : Option (List ℕ)) → Result (Option Ruling) DriveFault → Type 0
+Judges text wanted old new (Ok said) = (out : List ℕ) × IsTextJudged text wanted said out × Appends old new out
+Judges text wanted old new (Err Write) =
+    (out : List ℕ) × (said : Option Ruling) × IsTextJudged text wanted said out × AppendsPrefix old new out
+Judges text wanted old new (Err fault) = AppendsPrefix old new []
 
 abbrev pub Runs : (text : List ℕ) → (old new : Option (List ℕ)) → Result (Option Ruling) DriveFault → Type 0
 Runs text old new (Ok said) = (out : List ℕ) × IsTextRun text said out × Appends old new out

@@ -1,6 +1,7 @@
 -- The report of a driver that was judged, and what it says in a word.
 use Rattle.std.specs.Prelude.{ℕ, ◌+◌, ◌&&◌, not, nat_lt, if◌then◌else◌, Bool, true, false, List, [], ◌∷◌, ◌++◌}
 use Rattle.std.specs.Prelude.{codes, length, slice_get}
+use Rattle.std.specs.Prelude.{flat_map}
 use Rattle.std.specs.Prelude.{Option, Some, None}
 use Rattle.sva_open.specs.World.{Part, is_stopping}
 use Rattle.sva_open.specs.declared.rows.Row.{Row}
@@ -13,6 +14,7 @@ use Rattle.sva_open.specs.declared.drivers.Device.{Device}
 use Rattle.sva_open.specs.declared.drivers.Line.{Line}
 use Rattle.sva_judge.specs.Choices.{is_next}
 use Rattle.sva_judge.specs.Spots.{Spot, start_of}
+use Rattle.sva_judge.specs.declared.findings.Finding.{Finding}
 use Rattle.sva_judge.specs.declared.verdicts.Looked.{Looked}
 use Rattle.sva_judge.specs.declared.verdicts.Verdict.{Verdict}
 use Rattle.sva_judge.specs.declared.verdicts.Verdict.TheVariants as verdict
@@ -29,6 +31,9 @@ use Rattle.sva_driver_reports.specs.declared.reports.Ruling.TheVariants as rulin
 
 abbrev pub moments_text : (count : ℕ) → List ℕ
 moments_text count = counted_text count (codes "moment") (codes "moments")
+
+abbrev pub findings_count : (count : ℕ) → List ℕ
+findings_count count = counted_text count (codes "finding") (codes "findings")
 
 abbrev pub events_count : (count : ℕ) → List ℕ
 events_count count = counted_text count (codes "event") (codes "events")
@@ -221,16 +226,51 @@ abbrev pub cut_text : (moments events : ℕ) → List ℕ
 cut_text moments events =
     codes "cut off at " ++ moments_text moments ++ codes ": safe in each list of fewer than " ++ events_count events ++ 10 ∷ []
 
-abbrev pub report_text : Text → Verdict → List ℕ
-report_text text (verdict.Safe moments looked) = safe_text text moments false looked.items
-report_text text (verdict.SafeApart moments looked) = safe_text text moments true looked.items
-report_text text (verdict.Unsafe witness) = unsafe_text text witness.items
-report_text text (verdict.Stuck witness moments) = stuck_text text witness.items
-report_text text (verdict.CutOff moments events) = cut_text moments events
+-- ---- All findings
+
+abbrev pub found_line : Finding → List ℕ
+found_line one =
+    codes "unsafe in " ++ events_count (length one.witness.items) ++ codes ": " ++ wrong_text one.wrong ++ 10 ∷ []
+
+-- each with its witness, or without
+abbrev pub found_text : Text → (is_brief : Bool) → Finding → List ℕ
+found_text text true one = found_line one
+found_text text false one = found_line one ++ witness_text text one.witness.items
+
+-- what there is no more of: at all, or in fewer events than those behind which the search was cut off
+abbrev pub no_more_text : (cut : Option ℕ) → (moments : ℕ) → List ℕ
+no_more_text None moments = codes " in all " ++ moments_text moments
+no_more_text (Some events) moments =
+    codes ", cut off at " ++ moments_text moments ++ codes ": no other in fewer than " ++ events_count events
+
+abbrev pub behind_text : List ℕ
+behind_text = codes "; what is behind a finding was not searched\n"
+
+abbrev pub last_text : (count : ℕ) → (cut : Option ℕ) → (moments : ℕ) → List ℕ
+last_text count cut moments = findings_count count ++ no_more_text cut moments ++ behind_text
+
+abbrev pub findings_text : Text → (is_brief : Bool) → List Finding → (cut : Option ℕ) → (moments : ℕ) → List ℕ
+findings_text text is_brief found cut moments = flat_map (found_text text is_brief) found ++ last_text (length found) cut moments
+
+-- ---- Each verdict
+
+abbrev pub report_text : Text → (is_brief : Bool) → Verdict → List ℕ
+report_text text is_brief (verdict.Safe moments looked) = safe_text text moments false looked.items
+report_text text is_brief (verdict.SafeApart moments looked) = safe_text text moments true looked.items
+report_text text is_brief (verdict.Unsafe witness) = unsafe_text text witness.items
+report_text text is_brief (verdict.Findings found moments cut) = findings_text text is_brief found.items cut moments
+report_text text is_brief (verdict.Stuck witness moments) = stuck_text text witness.items
+report_text text is_brief (verdict.CutOff moments events) = cut_text moments events
+
+-- where the search for all findings was cut off, some may not be told
+abbrev pub ruling_of_all : (cut : Option ℕ) → Ruling
+ruling_of_all None = ruling.Unsafe
+ruling_of_all (Some events) = ruling.UnsafeSoFar
 
 abbrev pub ruling_of : Verdict → Ruling
 ruling_of (verdict.Safe moments looked) = if is_tried looked.items then ruling.Safe else ruling.Untried
 ruling_of (verdict.SafeApart moments looked) = if is_tried looked.items then ruling.Safe else ruling.Untried
 ruling_of (verdict.Unsafe witness) = ruling.Unsafe
+ruling_of (verdict.Findings found moments cut) = ruling_of_all cut
 ruling_of (verdict.Stuck witness moments) = ruling.Stuck
 ruling_of (verdict.CutOff moments events) = ruling.CutOff

@@ -1,7 +1,7 @@
 -- What is told of a driver that is unsafe, or stuck, is so: a list of events that leads there, each with its line, and what is wrong,
 -- or waits, at its end.
 use Rattle.std.specs.Prelude.{◌≡◌, ◌⊎◌, ◌<◌, ◌≤◌, ◌==◌, ℕ, Bool, true, false, List, [], ◌∷◌, ◌++◌, codes, flat_map, length}
-use Rattle.std.specs.Prelude.{replicate, slice_get, Some, Ok}
+use Rattle.std.specs.Prelude.{replicate, slice_get, Option, Some, Ok}
 use Rattle.std.specs.List.{list_any}
 use Rattle.sva_grammar.specs.Replies.{ended}
 use Rattle.sva_open.specs.declared.drivers.Driver.{Driver}
@@ -10,18 +10,22 @@ use Rattle.sva_open_safe.specs.Wrongs.{first_wrong}
 use Rattle.sva_open_safe.specs.declared.wrongs.Wrong.{Wrong}
 use Rattle.sva_search.specs.Rules.{IsEnd}
 use Rattle.sva_judge.specs.Choices.{next_in}
+use Rattle.sva_judge.specs.Findings.{AreFound}
 use Rattle.sva_judge.specs.Rules.{rules_of, waits_at}
 use Rattle.sva_judge.specs.Spots.{Spot, start_of}
 use Rattle.sva_judge.specs.Verdicts.{IsAlwaysSafe, IsLeak, IsStuck}
 use Rattle.sva_judge.specs.declared.choices.Choice.{Choice}
+use Rattle.sva_judge.specs.declared.findings.Finding.{Finding}
 use Rattle.sva_driver_texts.specs.Texts.{DriverRead, IsRead, IsText, behind_first, driver_of, line_choice}
 use Rattle.sva_driver_texts.specs.declared.kept.Read.{Read}
 use Rattle.sva_driver_texts.specs.declared.kept.Text.{Text}
 use Rattle.sva_driver_reports.specs.Findings.{wrong_text}
 use Rattle.sva_driver_reports.specs.Judged.{IsTextJudged, IsTextRun, unsafe_at}
-use Rattle.sva_driver_reports.specs.Reports.{budgets_text, events_count, others_text, parts_from, waiting_text}
+use Rattle.sva_driver_reports.specs.Reports.{budgets_text, events_count, last_text, others_text, parts_from, ruling_of_all, waiting_text}
 use Rattle.sva_driver_reports.specs.Witness.{EventSaid, event_of, front_text}
+use Rattle.sva_driver_reports.specs.declared.reports.Ruling.{Ruling}
 use Rattle.sva_driver_reports.specs.declared.reports.Ruling.TheVariants as ruling
+use Rattle.sva_driver_reports.specs.declared.wanted.Wanted.{Wanted}
 
 -- ---- A witness
 
@@ -80,6 +84,36 @@ pub record HasEnd (text : Text) (out : List ℕ) : Type 0 where
       ++ 10 ∷ others_text text last ++ parts_from 0 last.world.parts ++ budgets_text (codes "# ") text
       ++ (front_text text ++ flat_map ended lines)
 
+-- ---- All findings
+
+-- The first line says how many events there are, and what is wrong behind them; then comes the front, and then a line for each event.
+pub record TellsFinding (text : Text) (one : Finding) (out : List ℕ) : Type 0 where
+  pub lines : List (List ℕ)
+  pub last : Spot
+  pub told : AreTold text (start_of text.driver) one.witness.items lines last
+  pub wrong : first_wrong last.world ≡ Some one.wrong
+  pub report : out
+      ≡ (codes "unsafe in " ++ events_count (length lines) ++ codes ": " ++ wrong_text one.wrong ++ 10 ∷ [])
+      ++ front_text text ++ flat_map ended lines
+
+-- one after another, and no more
+abbrev pub TellEach : Text → List Finding → (out : List ℕ) → Type 0
+TellEach text [] out = out ≡ []
+TellEach text (one ∷ found) out =
+    (own : List ℕ) × (rest : List ℕ) × TellsFinding text one own × TellEach text found rest × (out ≡ own ++ rest)
+
+-- All that is wrong where a list leads that was tried, each once, with a list as short as any; then how many there are, and whether the
+-- search was cut off.
+pub record HasFindings (text : Text) (said : Ruling) (out : List ℕ) : Type 0 where
+  pub found : List Finding
+  pub cut : Option ℕ
+  pub moments : ℕ
+  pub rules : said ≡ ruling_of_all cut
+  pub are : AreFound text.driver cut found
+  pub each : List ℕ
+  pub told : TellEach text found each
+  pub report : out ≡ each ++ last_text (length found) cut moments
+
 -- ---- A line behind which something is wrong
 
 -- The first of so many lines that is such: those before it lead to nothing wrong, it is permitted there, and what is wrong behind it is
@@ -103,14 +137,25 @@ pub record HasLeak (driver : Driver) (count : ℕ) (out : List ℕ) : Type 0 whe
 abbrev pub HasRead : (text : List ℕ) → (IsSo : Read → Type 0) → Type 0
 HasRead text IsSo = (from : DriverRead) × (read : Read) × (driver_of text ≡ Ok from) × IsRead from read × IsSo read
 
--- a text that is judged as unsafe is told as unsafe at a line before `race`, or has a witness behind these
+-- a text that is judged as unsafe, where not all findings are wanted, is told as unsafe at a line before `race`, or has a witness behind
+-- these
 abbrev pub WitnessesAreTold : Type 0
-WitnessesAreTold = (text : List ℕ) (most : ℕ) (out : List ℕ) → IsTextJudged text most (Some ruling.Unsafe) out
+WitnessesAreTold = (text : List ℕ) (wanted : Wanted) (out : List ℕ) → wanted.all ≡ false → IsTextJudged text wanted (Some ruling.Unsafe) out
     → HasRead text (λ (read : Read). HasLeak read.opening read.before out ⊎ ((behind : Text) × IsText read behind × HasWitness behind out))
+
+-- unsafe, whether all findings are told or not all may be
+abbrev pub IsUnsafe : Ruling → Type 0
+IsUnsafe said = (said ≡ ruling.Unsafe) ⊎ (said ≡ ruling.UnsafeSoFar)
+
+-- and where they are, with their witnesses, it has all findings behind these lines
+abbrev pub FindingsAreTold : Type 0
+FindingsAreTold = (text : List ℕ) (wanted : Wanted) (said : Ruling) (out : List ℕ) → wanted.all ≡ true → wanted.lines_alone ≡ false → IsUnsafe said
+    → IsTextJudged text wanted (Some said) out
+    → HasRead text (λ (read : Read). HasLeak read.opening read.before out ⊎ ((behind : Text) × IsText read behind × HasFindings behind said out))
 
 -- one that is judged as stuck has a list to an end at which a line waits
 abbrev pub EndsAreTold : Type 0
-EndsAreTold = (text : List ℕ) (most : ℕ) (out : List ℕ) → IsTextJudged text most (Some ruling.Stuck) out
+EndsAreTold = (text : List ℕ) (wanted : Wanted) (out : List ℕ) → IsTextJudged text wanted (Some ruling.Stuck) out
     → HasRead text (λ (read : Read). (behind : Text) × IsText read behind × HasEnd behind out)
 
 -- and one whose lines are taken one after another, at one of all its lines

@@ -8,6 +8,7 @@ ghost use Rattle.sva_driver_reports.specs.Judged.{Judges, Runs};
 
 use crate::judging::{judge_text, run_text};
 use crate::reports::Ruling;
+use crate::wanted::Wanted;
 use std::alloc::Global;
 use std::io::{Read, Write};
 use sva_search::Watch;
@@ -17,7 +18,7 @@ use sva_streams::{DriveFault, Told, read_all, write_all};
 /// text was written, after `Read` or `Memory` nothing. The watch is told before that how far the search is.
 pub fn judge<R: Read, W: Write, P: Watch>(
     alloc: Global,
-    most: u64,
+    wanted: Wanted,
     reader: &mut Told<R>,
     writer: &mut Told<W>,
     watch: &mut P,
@@ -25,7 +26,7 @@ pub fn judge<R: Read, W: Write, P: Watch>(
     requires reader { IsNew reader.old }
     requires writer { IsNew writer.old }
     ensures judged { IfSome (R.remaining reader.old.inner)
-        (λ input. Judges input most (W.contents writer.old.inner) (W.contents writer.new.inner) result) }
+        (λ input. Judges input wanted (W.contents writer.old.inner) (W.contents writer.new.inner) result) }
     ensures end { OnOk result ((reader.new.failures ≡ 0) × IsAtEnd (R.remaining reader.new.inner) × (writer.new.failures ≡ 0)) }
     ensures read { result ≡ Err DriveFault.Read → (writer.new ≡ writer.old)
         × ((reader.new.failures ≡ 1) ⊎ ((reader.new.failures ≡ 0) × (reader.new.calls ≡ MOST_TURNS))) }
@@ -34,23 +35,23 @@ pub fn judge<R: Read, W: Write, P: Watch>(
     ensures turns { reader.new.calls ≤ MOST_TURNS }
 {
     let text = read_all(alloc, reader)?;
-    tell_judged(alloc, most, text.as_slice(), writer, watch)
+    tell_judged(alloc, wanted, text.as_slice(), writer, watch)
 }
 
 /// Writes what comes of judging a driver.
 fn tell_judged<W: Write, P: Watch>(
     alloc: Global,
-    most: u64,
+    wanted: Wanted,
     text: &[u8],
     writer: &mut Told<W>,
     watch: &mut P,
 ) -> Result<Option<Ruling>, DriveFault>
     requires { IsNew writer.old }
-    ensures judged { Judges text.now most (W.contents writer.old.inner) (W.contents writer.new.inner) result }
+    ensures judged { Judges text.now wanted (W.contents writer.old.inner) (W.contents writer.new.inner) result }
     ensures told { Tells writer.old writer.new result }
 {
     let mut out = Vec::new(alloc);
-    match judge_text(alloc, most, text, &mut out, watch) {
+    match judge_text(alloc, wanted, text, &mut out, watch) {
         Ok(said) => {
             write_all(writer, out.as_slice())?;
             Ok(said)

@@ -1,11 +1,12 @@
 //! A text that is judged, and one whose lines are taken one after another.
 
 ghost use Rattle.std.specs.Prelude.{◌≡◌, ◌++◌, [], IfOk, OnOk};
-ghost use Rattle.sva_judge.specs.Verdicts.{IsJudged};
+ghost use Rattle.sva_judge.specs.Verdicts.{IsAsked, IsJudged};
 ghost use Rattle.sva_driver_reports.specs.Judged as judged;
 
 use crate::findings::put_wrong;
 use crate::reports::{Ruling, put_report, ruling_of};
+use crate::wanted::Wanted;
 use std::alloc::{AllocError, Global};
 use sva_driver_texts::{Begun, Halt, Read, Text, put_refused, read_driver, read_text, take_lines};
 use sva_driver_words::put_counted;
@@ -14,15 +15,16 @@ use sva_open_safe::Wrong;
 use sva_script_reading::put_number;
 use sva_search::Watch;
 
-/// The verdict on the driver of a text, which is given back: at most so many moments are looked at in each search.
+/// The verdict on the driver of a text, which is given back, by all findings where these are wanted.
 fn verdict_on<P: Watch>(
     alloc: Global,
-    most: u64,
+    wanted: Wanted,
     text: Text,
     watch: &mut P,
 ) -> Result<(Text, Verdict), AllocError>
     ensures text { IfOk result (λ made. made.0 ≡ text) }
-    ensures verdict { IfOk result (λ made. IsJudged text.driver most made.1) }
+    ensures verdict { IfOk result (λ made. IsJudged text.driver wanted.most made.1) }
+    ensures asked { IfOk result (λ made. IsAsked wanted.all made.1) }
 {
     let Text {
         config,
@@ -31,7 +33,7 @@ fn verdict_on<P: Watch>(
         before,
         said,
     } = text;
-    let (driver, verdict) = judge_driver(alloc, driver, most as usize, watch)?;
+    let (driver, verdict) = judge_driver(alloc, driver, wanted.most as usize, wanted.all, watch)?;
     Ok((
         Text {
             config,
@@ -47,16 +49,16 @@ fn verdict_on<P: Watch>(
 /// Judges what was read of a text, and appends its report.
 fn judge_read<P: Watch>(
     alloc: Global,
-    most: u64,
+    wanted: Wanted,
     text: Text,
     out: &mut Vec<u8>,
     watch: &mut P,
 ) -> Result<Ruling, AllocError>
     requires { out.old.items ≡ [] }
-    ensures { IfOk result (λ said. judged.IsToldBy text most said out.new.items) }
+    ensures { IfOk result (λ said. judged.IsToldBy text wanted said out.new.items) }
 {
-    let (text, verdict) = verdict_on(alloc, most, text, watch)?;
-    put_report(alloc, out, &text, &verdict)?;
+    let (text, verdict) = verdict_on(alloc, wanted, text, watch)?;
+    put_report(alloc, out, &text, wanted.lines_alone, &verdict)?;
     Ok(ruling_of(&verdict))
 }
 
@@ -80,24 +82,23 @@ fn tell_leak(out: &mut Vec<u8>, number: u64, wrong: Wrong) -> Result<Option<Ruli
     Ok(Some(Ruling::Unsafe))
 }
 
-/// Reads a driver, judges it and writes its report: at most so many moments are looked at. Where lines are wrong, that
-/// is written alone, and `None` given. Where something is wrong behind a line before `race`, the first such line is
+/// Reads a driver, judges it and writes its report, as is wanted. Where lines are wrong, that is written alone, and `None` given. Where something is wrong behind a line before `race`, the first such line is
 /// written alone, with what is wrong, and nothing is searched. The watch is told how far the search is.
 pub fn judge_text<P: Watch>(
     alloc: Global,
-    most: u64,
+    wanted: Wanted,
     text: &[u8],
     out: &mut Vec<u8>,
     watch: &mut P,
 ) -> Result<Option<Ruling>, AllocError>
     requires { out.old.items ≡ [] }
-    ensures { IfOk result (λ said. judged.IsTextJudged text.now most said out.new.items) }
+    ensures { IfOk result (λ said. judged.IsTextJudged text.now wanted said out.new.items) }
 {
     match read_driver(alloc, text, out)? {
         Begun::Faulted => Ok(None),
         Begun::Leaks { number, wrong } => tell_leak(out, number, wrong),
         Begun::Stands { text } => {
-            let said = judge_read(alloc, most, text, out, watch)?;
+            let said = judge_read(alloc, wanted, text, out, watch)?;
             Ok(Some(said))
         }
     }

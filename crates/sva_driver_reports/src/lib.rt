@@ -13,9 +13,11 @@ mod nevers;
 mod notes;
 mod reports;
 mod untaken;
+mod wanted;
 mod witness;
 
 pub use driving::{judge, run};
 pub use judging::{judge_text, run_text};
 pub use laws::witnesses_are_told;
 pub use reports::Ruling;
+pub use wanted::Wanted;

@@ -1,6 +1,6 @@
 //! The report of a driver that was judged.
 
-ghost use Rattle.std.specs.Prelude.{◌≡◌, ◌++◌, IfOk, OnOk};
+ghost use Rattle.std.specs.Prelude.{◌≡◌, ◌++◌, IfOk, OnOk, flat_map, length};
 ghost use Rattle.sva_open_safe.specs.Wrongs as wrongs;
 ghost use Rattle.sva_driver_reports.specs.Reports as reports;
 
@@ -13,7 +13,7 @@ use crate::witness::{Event, events_of, put_events};
 use std::alloc::{AllocError, Global};
 use sva_driver_texts::Text;
 use sva_driver_words::put_counted;
-use sva_judge::{Choice, Looked, Spot, Verdict, start};
+use sva_judge::{Choice, Finding, Looked, Spot, Verdict, start};
 use sva_open_safe::first_wrong;
 
 /// What is said of a driver.
@@ -27,6 +27,8 @@ pub enum Ruling {
     Right,
     /// One isn't.
     Unsafe,
+    /// One isn't, and there was no room for one more moment: not all that is wrong may be told.
+    UnsafeSoFar,
     /// Each is, but a line waits at an end.
     Stuck,
     /// There was no room for one more moment.
@@ -161,6 +163,109 @@ fn put_cut(out: &mut Vec<u8>, moments: usize, events: usize) -> Result<(), Alloc
     out.extend_from_slice(b"\n")
 }
 
+fn put_found_line(out: &mut Vec<u8>, finding: &Finding) -> Result<(), AllocError>
+    ensures { OnOk result (out.new.items ≡ out.old.items ++ reports.found_line finding.now) }
+{
+    out.extend_from_slice(b"unsafe in ")?;
+    put_event_count(out, finding.witness.len())?;
+    out.extend_from_slice(b": ")?;
+    put_wrong(out, finding.wrong)?;
+    out.extend_from_slice(b"\n")
+}
+
+/// Appends the line of a finding, and its witness, unless the line is wanted alone.
+fn put_found(
+    alloc: Global,
+    out: &mut Vec<u8>,
+    text: &Text,
+    is_brief: bool,
+    finding: &Finding,
+) -> Result<(), AllocError>
+    ensures { OnOk result (out.new.items ≡ out.old.items ++ reports.found_text text.now is_brief finding.now) }
+{
+    put_found_line(out, finding)?;
+    if is_brief {
+        return Ok(());
+    }
+    let (events, _spot) = witness_of(alloc, text, finding.witness.as_slice())?;
+    put_witness(alloc, out, text, events.as_slice())
+}
+
+fn put_each_found(
+    alloc: Global,
+    out: &mut Vec<u8>,
+    text: &Text,
+    is_brief: bool,
+    found: &[Finding],
+) -> Result<(), AllocError>
+    ensures { OnOk result (out.new.items
+        ≡ out.old.items ++ flat_map (reports.found_text text.now is_brief) found.now) }
+{
+    for place in 0..found.len() {
+        put_found(alloc, out, text, is_brief, &found[place])?;
+    }
+    Ok(())
+}
+
+/// Appends of which findings there are no more: of all, or of those in fewer events than those behind which the search
+/// was cut off.
+fn put_no_more(out: &mut Vec<u8>, cut: Option<usize>, moments: usize) -> Result<(), AllocError>
+    ensures { OnOk result (out.new.items ≡ out.old.items ++ reports.no_more_text cut moments) }
+{
+    match cut {
+        None => {
+            out.extend_from_slice(b" in all ")?;
+            put_counted(out, moments as u64, "moment", "moments")
+        }
+        Some(events) => {
+            out.extend_from_slice(b", cut off at ")?;
+            put_counted(out, moments as u64, "moment", "moments")?;
+            out.extend_from_slice(b": no other in fewer than ")?;
+            put_event_count(out, events)
+        }
+    }
+}
+
+fn put_last(
+    out: &mut Vec<u8>,
+    count: usize,
+    cut: Option<usize>,
+    moments: usize,
+) -> Result<(), AllocError>
+    ensures { OnOk result (out.new.items ≡ out.old.items ++ reports.last_text count cut moments) }
+{
+    put_counted(out, count as u64, "finding", "findings")?;
+    put_no_more(out, cut, moments)?;
+    out.extend_from_slice(b"; what is behind a finding was not searched\n")
+}
+
+/// Appends all findings, and how many there are.
+fn put_findings(
+    alloc: Global,
+    out: &mut Vec<u8>,
+    text: &Text,
+    is_brief: bool,
+    found: &[Finding],
+    cut: Option<usize>,
+    moments: usize,
+) -> Result<(), AllocError>
+    ensures { OnOk result (out.new.items
+        ≡ out.old.items ++ reports.findings_text text.now is_brief found.now cut moments) }
+{
+    put_each_found(alloc, out, text, is_brief, found)?;
+    put_last(out, found.len(), cut, moments)
+}
+
+/// What all findings say in a word.
+fn ruling_of_all(cut: Option<usize>) -> Ruling
+    ensures { result ≡ reports.ruling_of_all cut }
+{
+    match cut {
+        None => Ruling::Unsafe,
+        Some(_events) => Ruling::UnsafeSoFar,
+    }
+}
+
 /// What a verdict says in a word.
 pub fn ruling_of(verdict: &Verdict) -> Ruling
     ensures { result ≡ reports.ruling_of verdict.now }
@@ -174,19 +279,22 @@ pub fn ruling_of(verdict: &Verdict) -> Ruling
             }
         }
         Verdict::Unsafe { .. } => Ruling::Unsafe,
+        Verdict::Findings { cut, .. } => ruling_of_all(*cut),
         Verdict::Stuck { .. } => Ruling::Stuck,
         Verdict::CutOff { .. } => Ruling::CutOff,
     }
 }
 
-/// Appends the report of a driver that was judged.
+/// Appends the report of a driver that was judged, of all findings without their witnesses if their lines are wanted
+/// alone.
 pub fn put_report(
     alloc: Global,
     out: &mut Vec<u8>,
     text: &Text,
+    is_brief: bool,
     verdict: &Verdict,
 ) -> Result<(), AllocError>
-    ensures { OnOk result (out.new.items ≡ out.old.items ++ reports.report_text text.now verdict.now) }
+    ensures { OnOk result (out.new.items ≡ out.old.items ++ reports.report_text text.now is_brief verdict.now) }
 {
     match verdict {
         Verdict::Safe { moments, looked } => {
@@ -196,6 +304,11 @@ pub fn put_report(
             put_safe(alloc, out, text, *moments, true, looked.as_slice())
         }
         Verdict::Unsafe { witness } => put_unsafe(alloc, out, text, witness.as_slice()),
+        Verdict::Findings {
+            found,
+            moments,
+            cut,
+        } => put_findings(alloc, out, text, is_brief, found.as_slice(), *cut, *moments),
         Verdict::Stuck { witness, .. } => put_stuck(alloc, out, text, witness.as_slice()),
         Verdict::CutOff { moments, events } => put_cut(out, *moments, *events),
     }

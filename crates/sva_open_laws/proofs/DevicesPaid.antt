@@ -2,7 +2,7 @@
 use Rattle.std.proofs.Common.{◌≡◌, ◌<◌, ◌≤◌, ℕ, ◌+◌, Bool, true, false, Option, Some, None, List, [], ◌∷◌, ◌++◌, map, refl, ap, arith}
 use Rattle.std.proofs.lemmas.Bool.{and_parts, not-true}
 use Rattle.std.proofs.lemmas.List.Sums.{sum_by_push}
-use Rattle.std.specs.Prelude.{◌&&◌, not, if◌then◌else◌, find, is_none, position, remove, slice_get, slice_set, sum_by}
+use Rattle.std.specs.Prelude.{◌==◌, ◌&&◌, not, if◌then◌else◌, find, is_none, position, remove, slice_get, slice_set, sum_by}
 use Rattle.std.specs.List.{list_any}
 use Rattle.sva_step.specs.Limits
 use Rattle.sva_open.specs.declared.frames.Translation.{Translation}
@@ -202,13 +202,14 @@ leave part =
 
 -- ---- the unit: the invalidation queue
 
-issue : (part : Part) (scope : Scope) (o : Option ℕ) → slice_get part.queue 0 ≡ Some (descriptor.Device scope)
+issue : (part : Part) (endpoint : ℕ) (scope : Scope) (o : Option ℕ) → slice_get part.queue 0 ≡ Some (descriptor.Device endpoint scope)
     → IsBelow (part_weight part + 0) (unit.issue part scope o)
-issue part scope None h = tt
-issue part scope (Some itag) h =
-    let less = out descriptor_weight part.queue 0 (descriptor.Device scope) h in
-    let issued = sum_by_push issued_weight part.issued (Issue itag) in
-    let added = sends (record (unit.shifted part) { issued = part.issued ++ Issue itag ∷ [] }) 0 part.time (message.Invalidate itag scope) in
+issue part endpoint scope None h = tt
+issue part endpoint scope (Some itag) h =
+    let less = out descriptor_weight part.queue 0 (descriptor.Device endpoint scope) h in
+    let one = Issue part.endpoint itag in
+    let issued = sum_by_push issued_weight part.issued one in
+    let added = sends (record (unit.shifted part) { issued = part.issued ++ one ∷ [] }) 0 part.time (message.Invalidate itag scope) in
     omega (arith, less, issued, added)
 
 -- a wait that drains weighs nothing
@@ -236,13 +237,14 @@ pass part name drain = by_test (unit.is_out_before part.issued _)
 pump_head : (settings : Settings) (part : Part) (o : Option Descriptor) → slice_get part.queue 0 ≡ o
     → IsBelow (part_weight part + 0) (unit.pump_head settings part o)
 pump_head settings part None h = tt
-pump_head settings part (Some (descriptor.Device scope)) h = issue part scope (unit.free_itag part.issued Limits.itags 0) h
-pump_head settings part (Some (descriptor.Translations scope)) h =
-    let less = out descriptor_weight part.queue 0 (descriptor.Translations scope) h in
+pump_head settings part (Some (descriptor.Device endpoint scope)) h =
+    issue part endpoint scope (unit.free_itag part.issued Limits.itags 0) h
+pump_head settings part (Some (descriptor.Translations endpoint scope)) h =
+    let less = out descriptor_weight part.queue 0 (descriptor.Translations endpoint scope) h in
     let gone = left_in translation_weight (is_left scope) part.kept in
     omega (arith, less, gone)
-pump_head settings part (Some (descriptor.Entry pasid)) h =
-    let less = out descriptor_weight part.queue 0 (descriptor.Entry pasid) h in
+pump_head settings part (Some (descriptor.Entry endpoint pasid)) h =
+    let less = out descriptor_weight part.queue 0 (descriptor.Entry endpoint pasid) h in
     let gone = left_in entry_weight (unit.is_no_entry_of pasid) part.kept_entries in
     omega (arith, less, gone)
 pump_head settings part (Some (descriptor.Wait name drain fence)) h =
@@ -267,21 +269,22 @@ queue_left settings part head = by_test (unit.bars settings part head)
     by_test true = less_out descriptor_weight part.queue 0
     by_test false = omega arith
 
-of_itag_goes : (itag : ℕ) (one : Issued) → unit.has_itag itag one ≡ true → unit.is_other_sent itag one ≡ false
-of_itag_goes itag (Issue own) h = ap not h
-of_itag_goes itag (Waiting name drain) h = absurd (cc)
+of_itag_goes : (endpoint itag : ℕ) (one : Issued) → unit.is_sent_to endpoint itag one ≡ true → unit.is_other_sent itag one ≡ false
+of_itag_goes endpoint itag (Issue own other) h = ap not (and_parts (own == endpoint) (other == itag) h).1
+of_itag_goes endpoint itag (Waiting name drain) h = absurd (cc)
 
-of_itag_weighs : (itag : ℕ) (one : Issued) → unit.has_itag itag one ≡ true → 0 < issued_weight one
-of_itag_weighs itag (Issue own) h = omega arith
-of_itag_weighs itag (Waiting name drain) h = absurd (cc)
+of_itag_weighs : (endpoint itag : ℕ) (one : Issued) → unit.is_sent_to endpoint itag one ≡ true → 0 < issued_weight one
+of_itag_weighs endpoint itag (Issue own other) h = omega arith
+of_itag_weighs endpoint itag (Waiting name drain) h = absurd (cc)
 
-expired : (settings : Settings) (part : Part) (itag : ℕ) → list_any (unit.has_itag itag) part.issued ≡ true
+expired : (settings : Settings) (part : Part) (itag : ℕ) → list_any (unit.is_sent_to part.endpoint itag) part.issued ≡ true
     → part_weight (unit.expired settings part itag) < part_weight part
 expired settings part itag is =
     let works = left_in work_weight (unit.isnt_taken_of itag) part.works in
     let flight = left_in sent_weight (unit.isnt_sent_of itag) part.flight in
     let queue = queue_left settings part (slice_get part.queue 0) in
-    let issued = left_less issued_weight (unit.is_other_sent itag) (unit.has_itag itag) (of_itag_goes itag) (of_itag_weighs itag) part.issued is in
+    let issued = left_less issued_weight (unit.is_other_sent itag) (unit.is_sent_to part.endpoint itag)
+    (of_itag_goes part.endpoint itag) (of_itag_weighs part.endpoint itag) part.issued is in
     omega (arith, works, flight, queue, issued)
 
 pub expire : (settings : Settings) (part : Part) (itag : ℕ) (silent : Bool) → IsBelow (part_weight part + 0) (unit.expire settings part itag silent)
@@ -290,7 +293,7 @@ expire settings part itag silent =
     (λ so.
     let rest = (and_parts (unit.is_timed settings.timeouts && (part.is_open && not part.is_stalled)) _ so).1 in
     let its = (and_parts (is_none (unit.pump settings part)) _ rest).1 in
-    let is = (and_parts (list_any (unit.has_itag itag) part.issued) _ its).0 in
+    let is = (and_parts (list_any (unit.is_sent_to part.endpoint itag) part.issued) _ its).0 in
     let less = expired settings part itag is in
     omega (arith, less))
 

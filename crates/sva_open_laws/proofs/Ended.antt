@@ -14,14 +14,16 @@ use Rattle.sva_judge.specs.declared.choices.Choice.{Choice}
 use Rattle.sva_judge.specs.declared.choices.Doing.{Doing}
 use Rattle.sva_judge.specs.declared.choices.Doing.TheVariants as doing
 use Rattle.sva_open_laws.specs.Ends.{EndsAreThere, GoesForward, IsAtRest, IsDone, ListsAreBounded, NeverStuckIsDone, measure}
-use Rattle.sva_open_laws.proofs.Lowered.{each_event_lowers}
+use Rattle.sva_open_laws.specs.Weights.{AreNumbered}
+use Rattle.sva_open_laws.proofs.Lowered.{each_event_leaves, each_event_lowers}
 
 -- ---- lists are bounded
 
--- what is led to measures less by each event
+-- what is led to measures less by each event, and each endpoint stands at its number there
 abbrev IsShort : Driver → Spot → List Choice → Option Spot → Type 0
 IsShort driver spot choices None = ⊤
-IsShort driver spot choices (Some last) = length choices + measure driver last ≤ measure driver spot
+IsShort driver spot choices (Some last) =
+    (length choices + measure driver last ≤ measure driver spot) × AreNumbered last.world.parts
 
 run_none : (driver : Driver) (choices : List Choice) → run_from (rules_of driver) None choices ≡ None
 run_none driver [] = refl
@@ -30,24 +32,32 @@ run_none driver (one ∷ choices) = run_none driver choices
 one_more : (driver : Driver) (spot next : Spot) (one : Choice) (choices : List Choice) (o : Option Spot)
     → measure driver next < measure driver spot → IsShort driver next choices o → IsShort driver spot (one ∷ choices) o
 one_more driver spot next one choices None less rest = tt
-one_more driver spot next one choices (Some last) less rest = omega (arith, less, rest)
+one_more driver spot next one choices (Some last) less rest =
+    let short = rest.0 in
+    (omega (arith, less, short), rest.1)
 
-runs_short : (driver : Driver) → GoesForward driver → (choices : List Choice) (spot : Spot)
+runs_short : (driver : Driver) → GoesForward driver → (choices : List Choice) (spot : Spot) → AreNumbered spot.world.parts
     → IsShort driver spot choices (run_from (rules_of driver) (Some spot) choices)
-runs_short driver forward [] spot = omega arith
-runs_short driver forward (one ∷ choices) spot = by_next (next_in driver spot one) refl (λ next. runs_short driver forward choices next)
+runs_short driver forward [] spot numbered = (omega arith, numbered)
+runs_short driver forward (one ∷ choices) spot numbered =
+    by_next (next_in driver spot one) refl (λ next leaves. runs_short driver forward choices next leaves)
   where
     by_next : (o : Option Spot) → next_in driver spot one ≡ o
-        → ((next : Spot) → IsShort driver next choices (run_from (rules_of driver) (Some next) choices))
+        → ((next : Spot) → AreNumbered next.world.parts → IsShort driver next choices (run_from (rules_of driver) (Some next) choices))
         → IsShort driver spot (one ∷ choices) (run_from (rules_of driver) o choices)
     by_next None h rest = subst (λ (o : Option Spot). IsShort driver spot (one ∷ choices) o) (sym (run_none driver choices)) tt
     by_next (Some next) h rest =
         one_more driver spot next one choices (run_from (rules_of driver) (Some next) choices)
-        (each_event_lowers driver forward spot next one h) (rest next)
+        (each_event_lowers driver forward spot next one numbered h)
+        (rest next (each_event_leaves driver forward spot next one h numbered))
+
+led_to : (driver : Driver) → GoesForward driver → AreNumbered driver.start.parts → (choices : List Choice) (spot : Spot)
+    → LeadsTo (rules_of driver) choices spot → IsShort driver (start_of driver) choices (Some spot)
+led_to driver forward numbered choices spot h =
+    subst (λ (o : Option Spot). IsShort driver (start_of driver) choices o) h (runs_short driver forward choices (start_of driver) numbered)
 
 pub lists_are_bounded : ListsAreBounded
-lists_are_bounded driver forward choices spot h =
-    subst (λ (o : Option Spot). IsShort driver (start_of driver) choices o) h (runs_short driver forward choices (start_of driver))
+lists_are_bounded driver forward numbered choices spot h = (led_to driver forward numbered choices spot h).0
 
 -- ---- is a choice permitted, or none?
 
@@ -175,17 +185,19 @@ one_on driver spot next one h its = (
   its.3,
 )
 
-comes_to_rest : (driver : Driver) → GoesForward driver → (most : ℕ) (spot : Spot) → measure driver spot ≤ most → LeadsToRest driver spot
-comes_to_rest driver forward zero spot low = elim (any_choice driver spot) [
+comes_to_rest : (driver : Driver) → GoesForward driver → (most : ℕ) (spot : Spot) → AreNumbered spot.world.parts → measure driver spot ≤ most
+    → LeadsToRest driver spot
+comes_to_rest driver forward zero spot numbered low = elim (any_choice driver spot) [
   | inl found ↦
-      let less = each_event_lowers driver forward spot found.1 found.0 found.2 in
+      let less = each_event_lowers driver forward spot found.1 found.0 numbered found.2 in
       absurd (omega (arith, less, low))
   | inr rest ↦ ([], spot, refl, rest)
 ]
-comes_to_rest driver forward (suc most) spot low = elim (any_choice driver spot) [
+comes_to_rest driver forward (suc most) spot numbered low = elim (any_choice driver spot) [
   | inl found ↦
-      let less = each_event_lowers driver forward spot found.1 found.0 found.2 in
-      one_on driver spot found.1 found.0 found.2 (comes_to_rest driver forward most found.1 (omega (arith, less, low)))
+      let less = each_event_lowers driver forward spot found.1 found.0 numbered found.2 in
+      one_on driver spot found.1 found.0 found.2
+      (comes_to_rest driver forward most found.1 (each_event_leaves driver forward spot found.1 found.0 found.2 numbered) (omega (arith, less, low)))
   | inr rest ↦ ([], spot, refl, rest)
 ]
 
@@ -200,8 +212,8 @@ led_on driver choices more spot last h its =
     run_append driver (Some (start_of driver)) choices more ∙ ap (λ (o : Option Spot). run_from (rules_of driver) o more) h ∙ its
 
 pub ends_are_there : EndsAreThere
-ends_are_there driver forward choices spot h =
-    let its = comes_to_rest driver forward (measure driver spot) spot (omega arith) in
+ends_are_there driver forward numbered choices spot h =
+    let its = comes_to_rest driver forward (measure driver spot) spot (led_to driver forward numbered choices spot h).1 (omega arith) in
     (its.0, its.1, led_on driver choices its.0 spot its.1 h its.2, its.3, tt)
 
 -- ---- what is never stuck is done
@@ -212,8 +224,8 @@ rests_done driver never choices spot h rest =
     false_from_ne_true (waits_at spot) (λ waits. never choices (spot, h, (λ one due. rest one), waits))
 
 pub never_stuck_is_done : NeverStuckIsDone
-never_stuck_is_done driver forward never choices spot h =
-    let its = ends_are_there driver forward choices spot h in (
+never_stuck_is_done driver forward numbered never choices spot h =
+    let its = ends_are_there driver forward numbered choices spot h in (
       (its.0, its.1, its.2, its.3, rests_done driver never (choices ++ its.0) its.1 its.2 its.3),
       rests_done driver never choices spot h,
     )

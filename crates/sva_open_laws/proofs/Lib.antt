@@ -50,6 +50,7 @@ pub mod StrikeActs
 pub mod TakeActs
 pub mod UnitLists
 pub mod UnitParts
+pub mod UnitsPaid
 pub mod Usable
 pub mod Weighed
 pub mod WorldsPaid

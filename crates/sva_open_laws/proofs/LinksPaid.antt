@@ -160,7 +160,7 @@ answered settings part one tag pasid page entry target =
 settled : (part : Part) (place : ℕ) (is_out : Bool) (o : Option Issued) → part_weight (unit.settled part place is_out o) ≤ part_weight part
 settled part place true o = omega arith
 settled part place false None = omega arith
-settled part place false (Some (Issue itag)) = omega arith
+settled part place false (Some (Issue endpoint itag)) = omega arith
 settled part place false (Some (Waiting name drain)) =
     let less = less_out issued_weight part.issued place in
     let same = waited (record part { issued = remove part.issued place }) name drain in
@@ -182,14 +182,14 @@ arrives : (settings : Settings) (part : Part) (one : Sent) (request : PageReques
     → part_weight (link.arrive settings part one request) < part_weight part + 5
 arrives settings part one request = by_test settings.drain_empties
   where
-    queued : sum_by arrived_weight (part.arrived ++ link.arrived_as one request ∷ []) ≡ sum_by arrived_weight part.arrived + 3
-    queued = sum_by_push arrived_weight part.arrived (link.arrived_as one request)
+    queued : sum_by arrived_weight (part.arrived ++ link.arrived_as part.endpoint one request ∷ []) ≡ sum_by arrived_weight part.arrived + 3
+    queued = sum_by_push arrived_weight part.arrived (link.arrived_as part.endpoint one request)
 
-    taken : sum_by received_weight (part.received ++ Asked (link.arrived_as one request) ∷ []) ≡ sum_by received_weight part.received + 4
-    taken = sum_by_push received_weight part.received (Asked (link.arrived_as one request))
+    taken : sum_by received_weight (part.received ++ Asked (link.arrived_as part.endpoint one request) ∷ []) ≡ sum_by received_weight part.received + 4
+    taken = sum_by_push received_weight part.received (Asked (link.arrived_as part.endpoint one request))
 
-    by_test : (b : Bool) → part_weight (if b then record part { arrived = part.arrived ++ link.arrived_as one request ∷ [] }
-        else record part { received = part.received ++ Asked (link.arrived_as one request) ∷ [] }) < part_weight part + 5
+    by_test : (b : Bool) → part_weight (if b then record part { arrived = part.arrived ++ link.arrived_as part.endpoint one request ∷ [] }
+        else record part { received = part.received ++ Asked (link.arrived_as part.endpoint one request) ∷ [] }) < part_weight part + 5
     by_test true = omega (arith, queued)
     by_test false = omega (arith, taken)
 

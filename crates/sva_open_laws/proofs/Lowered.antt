@@ -31,37 +31,38 @@ use Rattle.sva_open.specs.Acts.{next_open, next_part}
 use Rattle.sva_open.specs.Finding.{found, is_draining, is_of_kind, is_taken, is_use, more_of, nth}
 use Rattle.sva_open.specs.Host.{is_group}
 use Rattle.sva_judge.specs.Choices as choice
-use Rattle.sva_judge.specs.Choices.{act_of, behind_act, behind_choice, behind_line, behind_local, behind_named, behind_own, found_at, goes_on}
+use Rattle.sva_judge.specs.Choices.{act_of, behind_act, behind_choice, behind_line, behind_named, behind_own, found_at, goes_on}
 use Rattle.sva_judge.specs.Choices.{has_left, if_taken, is_at, is_found, is_locked, is_next, is_open_to, local_act, next_in, noted, own_act}
-use Rattle.sva_judge.specs.Choices.{said, spent, was_taken, with_leave, with_lock, with_spent, with_world}
+use Rattle.sva_judge.specs.Choices.{said, spent, was_taken, with_flag, with_leave, with_lock, with_spent, with_world}
 use Rattle.sva_judge.specs.Spots.{Spot}
 use Rattle.sva_judge.specs.declared.choices.Choice.{Choice}
 use Rattle.sva_judge.specs.declared.choices.Doing.{Doing}
 use Rattle.sva_judge.specs.declared.choices.Doing.TheVariants as doing
 use Rattle.sva_open_laws.specs.Ends.{EachEventLowers, GoesForward, IsBehind, ahead_of, budget_weight, line_price, measure, named_price, saying_price}
-use Rattle.sva_open_laws.specs.Weights.{act_price, further_price, local_price, part_weight, world_weight}
+use Rattle.sva_open_laws.specs.Weights.{AreNumbered, act_price, further_price, local_price, part_weight, world_weight}
 use Rattle.sva_open_laws.proofs.Weighed.{any_at, further_behind, put_in}
 use Rattle.sva_open_laws.proofs.HostPaid.{IsBelow}
-use Rattle.sva_open_laws.proofs.WorldsPaid.{IsWorldBelow, act_at, act_in, acts_at, answer_at}
+use Rattle.sva_open_laws.proofs.WorldsPaid.{IsPaid, act_at, act_in, acts_for, answer_at, more_paid}
 
 -- ---- what a line says: only the world may weigh more, by its price
 
--- all that the threads and the budgets have is as it was, and the world weighs less than so much
+-- all that the threads and the budgets have is as it was, the world weighs less than so much, and each endpoint stays at its number
 record IsSaid (spot : Spot) (bound : ℕ) (next : Spot) : Type 0 where
   at : next.at ≡ spot.at
   left : next.left ≡ spot.left
   world : world_weight next.world < bound
+  numbered : AreNumbered spot.world.parts → AreNumbered next.world.parts
 
 abbrev Says : Spot → (bound : ℕ) → Option Spot → Type 0
 Says spot bound None = ⊤
 Says spot bound (Some next) = IsSaid spot bound next
 
-acted : (spot : Spot) (bound : ℕ) (o : Option Open) → IsWorldBelow bound o → Says spot bound (option_map (with_world spot) o)
+acted : (spot : Spot) (bound : ℕ) (o : Option Open) → IsPaid spot.world bound o → Says spot bound (option_map (with_world spot) o)
 acted spot bound None h = tt
-acted spot bound (Some next) h = record { at = refl; left = refl; world = h }
+acted spot bound (Some next) h = record { at = refl; left = refl; world = h.0; numbered = h.1 }
 
-acts : (spot : Spot) (one : Act) → Says spot (world_weight spot.world + act_price one) (behind_act spot one)
-acts spot one = acted spot (world_weight spot.world + act_price one) (next_open spot.world one) (act_in spot.world one)
+acts : (spot : Spot) (one : Act) → AreNumbered spot.world.parts → Says spot (world_weight spot.world + act_price one) (behind_act spot one)
+acts spot one numbered = acted spot (world_weight spot.world + act_price one) (next_open spot.world one) (act_in spot.world one numbered)
 
 if_so : (spot : Spot) (bound : ℕ) (b : Bool) (o : Option Spot) → Says spot bound o → Says spot bound (if_taken b o)
 if_so spot bound true o h = h
@@ -98,25 +99,34 @@ found_costs : (name : Named) (o : Option Part) → Costs (named_price name) (fou
 found_costs name None = tt
 found_costs name (Some part) = named_costs part name
 
-named_says : (spot : Spot) (endpoint price : ℕ) (o : Option LocalAct) → Costs price o
+named_says : (spot : Spot) (endpoint price : ℕ) (o : Option LocalAct) → AreNumbered spot.world.parts → Costs price o
     → Says spot (world_weight spot.world + price) (behind_named spot endpoint o)
-named_says spot endpoint price None h = tt
-named_says spot endpoint price (Some its) h =
-    subst (λ n. Says spot (world_weight spot.world + n) (behind_act spot (act.At endpoint its))) h (acts spot (act.At endpoint its))
+named_says spot endpoint price None numbered h = tt
+named_says spot endpoint price (Some its) numbered h =
+    subst (λ n. Says spot (world_weight spot.world + n) (behind_act spot (act.At endpoint its))) h (acts spot (act.At endpoint its) numbered)
 
-line_says : (spot : Spot) (saying : Saying) → Says spot (world_weight spot.world + saying_price saying) (said spot saying)
-line_says spot (Does its) = acts spot its
-line_says spot (Names endpoint name) =
-    named_says spot endpoint (named_price name) (found_at name (slice_get spot.world.parts endpoint))
+-- a line that does nothing in the world
+rests : (spot next : Spot) → next.at ≡ spot.at → next.left ≡ spot.left → next.world ≡ spot.world → IsSaid spot (world_weight spot.world + 1) next
+rests spot next at left world =
+    let same = ap world_weight world in
+    record { at = at; left = left; world = omega (arith, same); numbered = λ h. subst (λ (now : Open). AreNumbered now.parts) (sym world) h }
+
+line_says : (spot : Spot) (saying : Saying) → AreNumbered spot.world.parts
+    → Says spot (world_weight spot.world + saying_price saying) (said spot saying)
+line_says spot (Does its) numbered = acts spot its numbered
+line_says spot (Names endpoint name) numbered =
+    named_says spot endpoint (named_price name) (found_at name (slice_get spot.world.parts endpoint)) numbered
     (found_costs name (slice_get spot.world.parts endpoint))
-line_says spot (AwaitsLine line) = if_so spot _ (was_taken spot line) (Some spot) (record { at = refl; left = refl; world = omega arith })
-line_says spot (AwaitsWaits endpoint line) =
-    if_so spot _ (was_taken spot line) (behind_act spot (act.At endpoint (local.AwaitWait line))) (acts spot (act.At endpoint (local.AwaitWait line)))
-line_says spot (Locks lock) = if_so spot _ _ (Some (with_lock lock true spot)) (record { at = refl; left = refl; world = omega arith })
-line_says spot (Unlocks lock) =
-    if_so spot _ (is_locked spot lock) (Some (with_lock lock false spot)) (record { at = refl; left = refl; world = omega arith })
-line_says spot (Sets flag on) = record { at = refl; left = refl; world = omega arith }
-line_says spot (Looks its so) = record { at = refl; left = refl; world = omega arith }
+line_says spot (AwaitsLine line) numbered = if_so spot _ (was_taken spot line) (Some spot) (rests spot spot refl refl refl)
+line_says spot (AwaitsWaits endpoint line) numbered =
+    if_so spot _ (was_taken spot line) (behind_act spot (act.At endpoint (local.AwaitWait line)))
+    (acts spot (act.At endpoint (local.AwaitWait line)) numbered)
+line_says spot (Locks lock) numbered =
+    if_so spot _ _ (Some (with_lock lock true spot)) (rests spot (with_lock lock true spot) refl refl refl)
+line_says spot (Unlocks lock) numbered =
+    if_so spot _ (is_locked spot lock) (Some (with_lock lock false spot)) (rests spot (with_lock lock false spot) refl refl refl)
+line_says spot (Sets flag on) numbered = rests spot (with_flag flag on spot) refl refl refl
+line_says spot (Looks its so) numbered = rests spot spot refl refl refl
 
 -- ---- a line that is taken: its thread has less before it
 
@@ -156,10 +166,11 @@ next_at place None h = absurd (cc)
 next_at place (Some None) h = absurd (cc)
 next_at place (Some (Some next)) h = ap (λ n. Some (Some n)) (eqb-true next place h)
 
--- what is permitted lowers the measure
+-- what is permitted lowers the measure, and leaves each endpoint at its number
 abbrev Lowers : Driver → Spot → Option Spot → Type 0
 Lowers driver spot None = ⊤
-Lowers driver spot (Some next) = measure driver next < measure driver spot
+Lowers driver spot (Some next) =
+    (measure driver next < measure driver spot) × (AreNumbered spot.world.parts → AreNumbered next.world.parts)
 
 noted_lowers : (driver : Driver) (spot : Spot) (place : ℕ) (line : Line) (next : Option ℕ) (o : Option Spot)
     → slice_get driver.lines.items place ≡ Some line → slice_get spot.at line.thread ≡ Some (Some place) → IsBehind place next
@@ -173,12 +184,12 @@ noted_lowers driver spot place line next (Some behind) h at forward said =
     let budgets = ap (sum_by budget_weight) said.left in
     let less = left_behind lines place line next h forward in
     let world = said.world in
-    omega (arith, put, threads, budgets, less, world)
+    (omega (arith, put, threads, budgets, less, world), said.numbered)
 
-line_lowers : (driver : Driver) → GoesForward driver → (spot : Spot) (place : ℕ) (o : Option Line) → slice_get driver.lines.items place ≡ o
-    → Lowers driver spot (behind_line spot place o)
-line_lowers driver forward spot place None h = tt
-line_lowers driver forward spot place (Some line) h = by_test (is_next spot place line) refl
+line_lowers : (driver : Driver) → GoesForward driver → (spot : Spot) → AreNumbered spot.world.parts → (place : ℕ) (o : Option Line)
+    → slice_get driver.lines.items place ≡ o → Lowers driver spot (behind_line spot place o)
+line_lowers driver forward spot numbered place None h = tt
+line_lowers driver forward spot numbered place (Some line) h = by_test (is_next spot place line) refl
   where
     goes : IsBehind place (goes_on spot line line.saying)
     goes = goes_by (IsBehind place) spot line line.saying (forward place line h).0 (forward place line h).1
@@ -187,7 +198,7 @@ line_lowers driver forward spot place (Some line) h = by_test (is_next spot plac
         → Lowers driver spot (if b then option_map (noted place line.thread (goes_on spot line line.saying)) (said spot line.saying) else None)
     by_test true is =
         noted_lowers driver spot place line (goes_on spot line line.saying) (said spot line.saying) h
-        (next_at place (slice_get spot.at line.thread) is) goes (line_says spot line.saying)
+        (next_at place (slice_get spot.at line.thread) is) goes (line_says spot line.saying numbered)
     by_test false is = tt
 
 -- ---- what endpoints, units and workers do by themselves: their budgets pay for what it adds
@@ -209,11 +220,6 @@ leave_pays : (settings : Settings) (mappings : List Mapping) (part : Part) (pric
 leave_pays settings mappings part price true its h = h
 leave_pays settings mappings part price false its h = tt
 
--- what costs less is paid too
-more_paid : (bound more : ℕ) (o : Option Part) → bound ≤ more → IsBelow bound o → IsBelow more o
-more_paid bound more None low h = tt
-more_paid bound more (Some next) low h = omega (arith, low, h)
-
 own_group : (filed : Filed) → is_group filed.pasid filed.index filed ≡ true
 own_group filed = and_from (filed.pasid == filed.pasid) (filed.index == filed.index) (search rules) (search rules)
 
@@ -228,7 +234,7 @@ respond_pays settings mappings part may fails number (Some filed) h =
 module _ (settings : Settings) (mappings : List Mapping) (part : Part) where
   expires : (silent : Bool) (o : Option Issued) → Pays settings mappings part 0 (choice.expire silent o)
   expires silent None = tt
-  expires silent (Some (Issue itag)) = act_at settings mappings part (local.Expire itag silent)
+  expires silent (Some (Issue endpoint itag)) = act_at settings mappings part (local.Expire itag silent)
   expires silent (Some (Waiting name drain)) = tt
 
   completes : (index : ℕ) (o : Option (Option Group)) → Pays settings mappings part 0 (choice.complete index o)
@@ -330,45 +336,51 @@ spent_lowers driver spot own at left (Some behind) h so said =
     let threads = ap (sum_by (ahead_of driver.lines.items)) said.at in
     let paid = spent_pays left own so in
     let world = said.world in
-    omega (arith, put, budgets, threads, paid, world)
+    (omega (arith, put, budgets, threads, paid, world), said.numbered)
 
-own_lowers : (driver : Driver) (spot : Spot) (own : Doing) (at number : ℕ) (left : Option Budget) (its : Option LocalAct)
-    → slice_get spot.left at ≡ left → act_of driver spot own at number ≡ its
+own_lowers : (driver : Driver) (spot : Spot) → AreNumbered spot.world.parts → (own : Doing) (at number : ℕ) (left : Option Budget)
+    (its : Option LocalAct) → slice_get spot.left at ≡ left → act_of driver spot own at number ≡ its
     → Lowers driver spot (behind_own spot own at left its)
-own_lowers driver spot own at number None its h is = tt
-own_lowers driver spot own at number (Some left) None h is = tt
-own_lowers driver spot own at number (Some left) (Some its) h is = by_test (has_left left own) refl
+own_lowers driver spot numbered own at number None its h is = tt
+own_lowers driver spot numbered own at number (Some left) None h is = tt
+own_lowers driver spot numbered own at number (Some left) (Some its) h is = by_test (has_left left own) refl
   where
-    pays : (o : Option Part) → slice_get spot.world.parts at ≡ o → (part : Part) → o ≡ Some part
+    pays : (part : Part) → slice_get spot.world.parts at ≡ Some part
         → IsBelow (part_weight part + doing_price own) (next_part spot.world.settings spot.world.mappings part its)
-    pays o there part same =
+    pays part there =
         subst (λ (one : Option LocalAct). Pays spot.world.settings spot.world.mappings part (doing_price own) one)
-        (sym (ap (own_act driver own number (slice_get driver.devices.items at)) (there ∙ same)) ∙ is)
+        (sym (ap (own_act driver own number (slice_get driver.devices.items at)) there) ∙ is)
         (its_pays driver spot.world.settings spot.world.mappings own number (slice_get driver.devices.items at) part)
 
     says : Says spot (world_weight spot.world + doing_price own) (behind_act spot (act.At at its))
     says = acted spot (world_weight spot.world + doing_price own) (next_open spot.world (act.At at its))
-        (acts_at spot.world at (doing_price own) its (slice_get spot.world.parts at) refl
-        (pays (slice_get spot.world.parts at) refl))
+        (acts_for spot.world at (doing_price own) its numbered pays)
 
     by_test : (b : Bool) → has_left left own ≡ b
         → Lowers driver spot (if b then option_map (with_spent at (spent left own)) (behind_act spot (act.At at its)) else None)
     by_test true so = spent_lowers driver spot own at left (behind_act spot (act.At at its)) h so says
     by_test false so = tt
 
-choice_lowers : (driver : Driver) → GoesForward driver → (spot : Spot) (own : Doing) (at number : ℕ)
+choice_lowers : (driver : Driver) → GoesForward driver → (spot : Spot) → AreNumbered spot.world.parts → (own : Doing) (at number : ℕ)
     → Lowers driver spot (behind_choice driver spot own at number)
-choice_lowers driver forward spot doing.Line at number = line_lowers driver forward spot number (slice_get driver.lines.items number) refl
-choice_lowers driver forward spot own at number =
-    own_lowers driver spot own at number (slice_get spot.left at) (act_of driver spot own at number) refl refl
+choice_lowers driver forward spot numbered doing.Line at number =
+    line_lowers driver forward spot numbered number (slice_get driver.lines.items number) refl
+choice_lowers driver forward spot numbered own at number =
+    own_lowers driver spot numbered own at number (slice_get spot.left at) (act_of driver spot own at number) refl refl
 
-open_lowers : (driver : Driver) → GoesForward driver → (spot : Spot) (one : Choice) → Lowers driver spot (next_in driver spot one)
-open_lowers driver forward spot one = by_test (is_open_to driver spot one)
+lowers : (driver : Driver) → GoesForward driver → (spot : Spot) → AreNumbered spot.world.parts → (one : Choice)
+    → Lowers driver spot (next_in driver spot one)
+lowers driver forward spot numbered one = by_test (is_open_to driver spot one)
   where
     by_test : (b : Bool) → Lowers driver spot (if b then behind_choice driver spot one.doing one.at one.number else None)
-    by_test true = choice_lowers driver forward spot one.doing one.at one.number
+    by_test true = choice_lowers driver forward spot numbered one.doing one.at one.number
     by_test false = tt
 
 pub each_event_lowers : EachEventLowers
-each_event_lowers driver forward spot next one h =
-    subst (λ (o : Option Spot). Lowers driver spot o) h (open_lowers driver forward spot one)
+each_event_lowers driver forward spot next one numbered h =
+    (subst (λ (o : Option Spot). Lowers driver spot o) h (lowers driver forward spot numbered one)).0
+
+pub each_event_leaves : (driver : Driver) → GoesForward driver → (spot next : Spot) (one : Choice) → next_in driver spot one ≡ Some next
+    → AreNumbered spot.world.parts → AreNumbered next.world.parts
+each_event_leaves driver forward spot next one h numbered =
+    (subst (λ (o : Option Spot). Lowers driver spot o) h (lowers driver forward spot numbered one)).1 numbered

@@ -17,12 +17,13 @@ use Rattle.sva_open.specs.Below.{taken_by, told, unfiled, with_told}
 use Rattle.sva_open.specs.World.{Open, Part, opened, part_opened, parts_opened}
 use Rattle.sva_open_laws.specs.OneUnit.{AlwaysSeeOneUnit}
 use Rattle.sva_open_laws.specs.Pages.{after}
+use Rattle.sva_open_laws.specs.Weights.{AreNumbered}
 use Rattle.sva_open_laws.proofs.OneUnitActs as acts
 use Rattle.sva_open_laws.proofs.OneUnitActs.{IsLeft, Of}
 
 -- ---- lists
 
-set_here : (parts : List Part) (at : ℕ) (part new : Part) → slice_get parts at ≡ Some part → slice_get (slice_set parts at new) at ≡ Some new
+pub set_here : (parts : List Part) (at : ℕ) (part new : Part) → slice_get parts at ≡ Some part → slice_get (slice_set parts at new) at ≡ Some new
 set_here [] at part new h = absurd (cc)
 set_here (x ∷ xs) zero part new h = refl
 set_here (x ∷ xs) (suc at) part new h = set_here xs at part new h
@@ -36,7 +37,7 @@ set_elsewhere (x ∷ xs) (suc at) (suc other) new h = set_elsewhere xs at other 
 
 -- ---- which stand below one unit
 
-same_unit : (a b : Option ℕ) → is_one a b ≡ true → a ≡ b
+pub same_unit : (a b : Option ℕ) → is_one a b ≡ true → a ≡ b
 same_unit None b h = absurd (cc)
 same_unit (Some unit) None h = absurd (cc)
 same_unit (Some unit) (Some other) h = ap Some (equal unit other h)
@@ -80,7 +81,7 @@ left_sees own head by part =
 by_left : (own : LocalAct) (head : Option Descriptor) (by part other : Part) → seen (left own head by part) other ≡ seen by other
 by_left own head by part other = by_unfiled (closes own) _ other ∙ by_struck (taken_by own head) (seen by part) other
 
-left_named : (own : LocalAct) (head : Option Descriptor) (by part : Part) → (left own head by part).endpoint ≡ part.endpoint
+pub left_named : (own : LocalAct) (head : Option Descriptor) (by part : Part) → (left own head by part).endpoint ≡ part.endpoint
 left_named own head by part = unfiled_named (closes own) _ ∙ struck_named (taken_by own head) (seen by part)
   where
     struck_named : (head : Option Descriptor) (part : Part) → (struck head part).endpoint ≡ part.endpoint
@@ -99,7 +100,7 @@ left_named own head by part = unfiled_named (closes own) _ ∙ struck_named (tak
 -- ---- the endpoints
 
 record Sees (units : List ℕ) (parts : List Part) : Type 0 where
-  numbered : (endpoint : ℕ) (part : Part) → slice_get parts endpoint ≡ Some part → part.endpoint ≡ endpoint
+  numbered : AreNumbered parts
   same : (one other : ℕ) (its their : Part) → slice_get parts one ≡ Some its → slice_get parts other ≡ Some their
       → is_one (slice_get units one) (slice_get units other) ≡ true → seen its their ≡ their
 
@@ -125,20 +126,19 @@ place_of parts at place part after its found h = by (place == at) refl
         (same_Some _ _ (sym h ∙ ap (slice_get (slice_set parts at after)) same ∙ set_here parts at part after found))
     by false k = elsewhere (isnt place at k) (sym (set_elsewhere parts at place after (isnt place at k)) ∙ h)
 
-numbered_set : (units : List ℕ) (parts : List Part) (at : ℕ) (part after : Part) → Sees units parts → slice_get parts at ≡ Some part
-    → after.endpoint ≡ part.endpoint → (endpoint : ℕ) (its : Part) → slice_get (slice_set parts at after) endpoint ≡ Some its
-    → its.endpoint ≡ endpoint
-numbered_set units parts at part after h found named endpoint its k = by (place_of parts at endpoint part after its found k)
+pub numbered_set : (parts : List Part) (at : ℕ) (part after : Part) → AreNumbered parts → slice_get parts at ≡ Some part
+    → after.endpoint ≡ part.endpoint → AreNumbered (slice_set parts at after)
+numbered_set parts at part after h found named endpoint its k = by (place_of parts at endpoint part after its found k)
   where
     by : Place parts at after endpoint its → its.endpoint ≡ endpoint
-    by (here same is) = ap (λ (it : Part). it.endpoint) is ∙ named ∙ h.numbered at part found ∙ sym same
-    by (elsewhere apart is) = h.numbered endpoint its is
+    by (here same is) = ap (λ (it : Part). it.endpoint) is ∙ named ∙ h at part found ∙ sym same
+    by (elsewhere apart is) = h endpoint its is
 
 -- an act that isn't of the unit
 quiet : (units : List ℕ) (parts : List Part) (at : ℕ) (part after : Part) → Sees units parts → slice_get parts at ≡ Some part
     → after.endpoint ≡ part.endpoint → ((other : Part) → seen after other ≡ seen part other) → Sees units (slice_set parts at after)
 quiet units parts at part after h found named still = record {
-  numbered = numbered_set units parts at part after h found named;
+  numbered = numbered_set parts at part after h.numbered found named;
   same = λ one other its their a b k.
       by one other its their (place_of parts at one part after its found a) (place_of parts at other part after their found b) k;
 }
@@ -193,7 +193,7 @@ beside_one units at place h = same_unit (slice_get units at) (slice_get units pl
     second false b h = absurd (cc h)
 
 -- one that is in a unit is in its own
-in_own : (a b : Option ℕ) → is_one a b ≡ true → (is_one a a ≡ true) × (is_one b b ≡ true)
+pub in_own : (a b : Option ℕ) → is_one a b ≡ true → (is_one a a ≡ true) × (is_one b b ≡ true)
 in_own a b h =
     let same : a ≡ b = same_unit a b h in
     (ap (is_one a) same ∙ h, ap (λ (x : Option ℕ). is_one x b) (sym same) ∙ h)
@@ -214,8 +214,8 @@ loud units parts at own head part after h found named = record {
       (told_as units at one own head after x.0 (number one x.0 x.1)) (told_as units at other own head after y.0 (number other y.0 y.1)) k));
 }
   where
-    number : (endpoint : ℕ) (its : Part) → slice_get (slice_set parts at after) endpoint ≡ Some its → its.endpoint ≡ endpoint
-    number = numbered_set units parts at part after h found named
+    number : AreNumbered (slice_set parts at after)
+    number = numbered_set parts at part after h.numbered found named
 
     left_at_named : (b : Bool) (its : Part) → (if b then left own head after its else its).endpoint ≡ its.endpoint
     left_at_named true its = left_named own head after its
@@ -275,7 +275,7 @@ abbrev Good : (units : List ℕ) → Option Open → Type 0
 Good units None = ⊤
 Good units (Some next) = (next.units ≡ units) × Sees units next.parts
 
-alone : (units : List ℕ) (at : ℕ) (own : LocalAct) (parts : List Part) → shared units at own parts None ≡ None
+pub alone : (units : List ℕ) (at : ℕ) (own : LocalAct) (parts : List Part) → shared units at own parts None ≡ None
 alone [] at own parts = refl
 alone (unit ∷ units) at own parts = either (awaits_all own && list_any (holds_up (unit ∷ units) at) parts) (is_of_unit own)
   where
@@ -289,7 +289,7 @@ behind : (units : List ℕ) (at : ℕ) (own : LocalAct) (now : Open) (part after
     → slice_get now.parts at ≡ Some part → IsLeft own part after
     → Good units (shared units at own now.parts (Some (with_parts now (slice_set now.parts at after))))
 behind [] at own now part after is h found left_by =
-    (is, record { numbered = numbered_set [] now.parts at part after h found left_by.0; same = λ one other its their a b k. absurd (cc k) })
+    (is, record { numbered = numbered_set now.parts at part after h.numbered found left_by.0; same = λ one other its their a b k. absurd (cc k) })
 behind (unit ∷ units) at own now part after is h found left_by =
     either (awaits_all own && list_any (holds_up (unit ∷ units) at) now.parts) (is_of_unit own) refl
   where

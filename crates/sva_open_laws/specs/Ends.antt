@@ -16,7 +16,7 @@ use Rattle.sva_judge.specs.declared.choices.Choice.{Choice}
 use Rattle.sva_driver_texts.specs.Texts.{ReadsDriver, driver_of}
 use Rattle.sva_driver_texts.specs.declared.kept.Begun.TheVariants.{Stands}
 use Rattle.sva_driver_texts.specs.declared.kept.Text.{Text}
-use Rattle.sva_open_laws.specs.Weights.{act_price, further_price, world_weight}
+use Rattle.sva_open_laws.specs.Weights.{AreNumbered, act_price, further_price, world_weight}
 
 -- ---- lines go forward
 
@@ -29,9 +29,10 @@ abbrev pub GoesForward : Driver → Type 0
 GoesForward driver = (place : ℕ) (line : Line) → slice_get driver.lines.items place ≡ Some line
     → IsBehind place line.next × IsBehind place line.other
 
--- So it is of each driver that is read from a text.
+-- So it is of each driver that is read from a text; and at its start each endpoint stands at its number.
 abbrev pub TextsGoForward : Type 0
-TextsGoForward = (text : List ℕ) (its : Text) (out : List ℕ) → ReadsDriver (driver_of text) (Stands its) out → GoesForward its.driver
+TextsGoForward = (text : List ℕ) (its : Text) (out : List ℕ) → ReadsDriver (driver_of text) (Stands its) out
+    → GoesForward its.driver × AreNumbered its.driver.start.parts
 
 -- ---- the measure of a moment: of what the threads have before them, of the budgets, and of the world
 
@@ -62,12 +63,13 @@ measure driver spot = sum_by (ahead_of driver.lines.items) spot.at + sum_by budg
 
 -- Each event that is permitted lowers it.
 abbrev pub EachEventLowers : Type 0
-EachEventLowers = (driver : Driver) → GoesForward driver → (spot next : Spot) (choice : Choice) → next_in driver spot choice ≡ Some next
-    → measure driver next < measure driver spot
+EachEventLowers = (driver : Driver) → GoesForward driver → (spot next : Spot) (choice : Choice) → AreNumbered spot.world.parts
+    → next_in driver spot choice ≡ Some next → measure driver next < measure driver spot
 
 -- So there is no endless list of events: one leads no further than to what the start measures.
 abbrev pub ListsAreBounded : Type 0
-ListsAreBounded = (driver : Driver) → GoesForward driver → (choices : List Choice) (spot : Spot) → LeadsTo (rules_of driver) choices spot
+ListsAreBounded = (driver : Driver) → GoesForward driver → AreNumbered driver.start.parts
+    → (choices : List Choice) (spot : Spot) → LeadsTo (rules_of driver) choices spot
     → length choices + measure driver spot ≤ measure driver (start_of driver)
 
 -- nothing is permitted any more
@@ -81,7 +83,8 @@ ComesToRest driver choices Such =
 
 -- From each moment one is reached at which nothing is permitted: there is an end.
 abbrev pub EndsAreThere : Type 0
-EndsAreThere = (driver : Driver) → GoesForward driver → (choices : List Choice) (spot : Spot) → LeadsTo (rules_of driver) choices spot
+EndsAreThere = (driver : Driver) → GoesForward driver → AreNumbered driver.start.parts
+    → (choices : List Choice) (spot : Spot) → LeadsTo (rules_of driver) choices spot
     → ComesToRest driver choices (λ last. ⊤)
 
 -- no line waits
@@ -91,6 +94,7 @@ IsDone spot = waits_at spot ≡ false
 -- Of a driver that is never stuck each list can be led on until each thread has taken its last line, and nothing is permitted; and
 -- wherever nothing is permitted, that is so.
 abbrev pub NeverStuckIsDone : Type 0
-NeverStuckIsDone = (driver : Driver) → GoesForward driver → ((choices : List Choice) → IsStuck driver choices → ⊥)
+NeverStuckIsDone = (driver : Driver) → GoesForward driver → AreNumbered driver.start.parts
+    → ((choices : List Choice) → IsStuck driver choices → ⊥)
     → (choices : List Choice) (spot : Spot) → LeadsTo (rules_of driver) choices spot
     → ComesToRest driver choices IsDone × (IsAtRest driver spot → IsDone spot)

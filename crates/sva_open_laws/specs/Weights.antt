@@ -1,6 +1,7 @@
 -- What each thing weighs that is left to be done in the open world: more than all that it may come to. So whatever endpoints, units,
 -- workers and the link do by themselves leaves less, and what an act of the host adds has a price.
-use Rattle.std.specs.Prelude.{◌≡◌, ◌<◌, ℕ, ◌+◌, Bool, true, false, Option, Some, None, sum_by, slice_get}
+use Rattle.std.specs.Prelude.{◌≡◌, ◌<◌, ℕ, ◌+◌, ◌-◌, ◌==◌, ◌||◌, if◌then◌else◌, Bool, true, false, List, [], ◌∷◌}
+use Rattle.std.specs.Prelude.{Option, Some, None, sum_by, slice_get}
 use Rattle.std.specs.List.{list_any}
 use Rattle.sva_open.specs.declared.frames.Translation.{Translation}
 use Rattle.sva_open.specs.declared.rows.State.{State}
@@ -27,6 +28,8 @@ use Rattle.sva_open.specs.declared.acts.LocalAct.{LocalAct}
 use Rattle.sva_open.specs.declared.acts.LocalAct.TheVariants as local
 use Rattle.sva_open.specs.World.{Open, Part}
 use Rattle.sva_open.specs.Acts.{next_open}
+use Rattle.sva_open.specs.Below.{is_beside}
+use Rattle.sva_open.specs.Devices.{highest}
 use Rattle.sva_open.specs.Host.{is_group}
 
 -- ---- what each thing weighs
@@ -99,13 +102,13 @@ group_weight (Some group) = unfinished_weight group.is_finished
 -- an invalidation that has left the queue is completed, or its time runs out; in the queue it has to leave that, and to be sent. A wait
 -- is done with the invalidations behind which it stands
 abbrev pub issued_weight : Issued → ℕ
-issued_weight (Issue itag) = 1
+issued_weight (Issue endpoint itag) = 1
 issued_weight (Waiting name drain) = 0
 
 abbrev pub descriptor_weight : Descriptor → ℕ
-descriptor_weight (descriptor.Device scope) = 5
-descriptor_weight (descriptor.Translations scope) = 1
-descriptor_weight (descriptor.Entry pasid) = 1
+descriptor_weight (descriptor.Device endpoint scope) = 5
+descriptor_weight (descriptor.Translations endpoint scope) = 1
+descriptor_weight (descriptor.Entry endpoint pasid) = 1
 descriptor_weight (descriptor.Wait name drain fence) = 1
 
 -- an endpoint that is there may go
@@ -113,16 +116,33 @@ abbrev pub presence_weight : (is_gone : Bool) → ℕ
 presence_weight true = 0
 presence_weight false = 1
 
-abbrev pub part_weight : Part → ℕ
-part_weight part =
+-- what an endpoint has alone, with its link and what its unit keeps of it
+abbrev pub own_weight : Part → ℕ
+own_weight part =
     sum_by row_weight part.rows + sum_by translation_weight part.held + sum_by work_weight part.works + sum_by group_weight part.groups
-    + sum_by sent_weight part.flight + sum_by descriptor_weight part.queue + sum_by issued_weight part.issued
-    + sum_by entry_weight part.kept_entries + sum_by translation_weight part.kept
-    + sum_by received_weight part.received + sum_by arrived_weight part.arrived + sum_by filed_weight part.filed
-    + presence_weight part.is_gone
+    + sum_by sent_weight part.flight + sum_by entry_weight part.kept_entries + sum_by translation_weight part.kept
+    + sum_by filed_weight part.filed + presence_weight part.is_gone
+
+-- what it sees of its unit's queues
+abbrev pub unit_weight : Part → ℕ
+unit_weight part =
+    sum_by descriptor_weight part.queue + sum_by issued_weight part.issued
+    + sum_by received_weight part.received + sum_by arrived_weight part.arrived
+
+abbrev pub part_weight : Part → ℕ
+part_weight part = own_weight part + unit_weight part
+
+-- Queues are counted once for each unit, by the most that an endpoint below it sees of them: at each endpoint only what is more than any
+-- behind it sees.
+abbrev pub weight_below : (units : List ℕ) → (endpoint : ℕ) → Part → ℕ
+weight_below units endpoint part = if (part.endpoint == endpoint) || is_beside units endpoint part.endpoint then unit_weight part else 0
+
+abbrev pub units_weight : (units : List ℕ) → List Part → ℕ
+units_weight units [] = 0
+units_weight units (part ∷ behind) = (unit_weight part - highest (weight_below units part.endpoint) behind) + units_weight units behind
 
 abbrev pub world_weight : Open → ℕ
-world_weight now = sum_by part_weight now.parts
+world_weight now = sum_by own_weight now.parts + units_weight now.units now.parts
 
 -- ---- what each act costs
 
@@ -162,9 +182,14 @@ abbrev pub act_price : Act → ℕ
 act_price (act.At endpoint its) = local_price its
 act_price _ = 1
 
+-- each endpoint stands at its number, as in each world that comes about
+abbrev pub AreNumbered : List Part → Type 0
+AreNumbered parts = (endpoint : ℕ) (part : Part) → slice_get parts endpoint ≡ Some part → part.endpoint ≡ endpoint
+
 -- Whatever an act leaves weighs less than what was there, with its price.
 abbrev pub EachActIsPaid : Type 0
-EachActIsPaid = (now next : Open) (one : Act) → next_open now one ≡ Some next → world_weight next < world_weight now + act_price one
+EachActIsPaid = (now next : Open) (one : Act) → AreNumbered now.parts → next_open now one ≡ Some next
+    → world_weight next < world_weight now + act_price one
 
 -- does an act answer a group that is filed?
 abbrev pub answers : Part → LocalAct → Bool

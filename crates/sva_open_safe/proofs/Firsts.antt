@@ -33,7 +33,7 @@ found_none now of parts endpoint past = ap (first_from now of endpoint) (drop_al
 
 -- ---- The same of a list of which each has something wrong or not
 
-in_cons : {X : Type 0} (of : X → Option Wrong) (x : X) (xs : List X) → first_in of (x ∷ xs) ≡ or_else (of x) (first_in of xs)
+pub in_cons : {X : Type 0} (of : X → Option Wrong) (x : X) (xs : List X) → first_in of (x ∷ xs) ≡ or_else (of x) (first_in of xs)
 in_cons of x xs = at (of x) refl
   where
     at : (found : Option Wrong) → of x ≡ found

@@ -1,3 +1,4 @@
+pub mod AlikeWrongs
 mod ClassLists
 mod Classes
 pub mod Flights
@@ -8,6 +9,7 @@ mod PlainActs
 mod PlainLinks
 mod PlainLists
 pub mod PlainWorlds
+mod SameWrongs
 pub mod Sound
 mod SwapBelow
 pub mod SwapParts

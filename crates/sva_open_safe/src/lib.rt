@@ -18,4 +18,4 @@ pub use matches::first_wrong;
 pub use plain::nothing_reads_pages_asked_for;
 pub use safety::is_safe;
 pub use sameness::same;
-pub use wrongs::{Sort, Thing, Wrong};
+pub use wrongs::{Sort, Thing, Wrong, is_same_wrong};

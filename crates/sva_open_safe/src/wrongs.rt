@@ -1,5 +1,7 @@
 //! What is wrong at a moment.
 
+ghost use Rattle.std.specs.Prelude.{◌≡◌, IsTrue};
+
 /// What leads to a frame, or is there of a PASID.
 #[derive(Clone, Copy, PartialEq, Eq)]
 pub enum Thing {
@@ -90,6 +92,14 @@ pub enum Wrong {
         endpoint: usize,
         tag: usize,
     },
+}
+
+/// Whether the same is wrong.
+pub fn is_same_wrong(one: Wrong, other: Wrong) -> bool
+    ensures same { IsTrue result → one ≡ other }
+    ensures always { one ≡ other → IsTrue result }
+{
+    one == other
 }
 
 /// In which order what is wrong is looked for.

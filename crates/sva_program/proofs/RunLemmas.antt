@@ -23,11 +23,12 @@ use Rattle.sva_script_reports.specs.Whys.{whys_of}
 use Rattle.sva_script_reports.specs.Traces.{trace_of}
 use Rattle.sva_why.specs.Why.{why_of}
 use Rattle.sva_program.specs.Run.{HasCause, Makes, Reports, Rules, RunsTo, WhereKnown, explored_of, is_strict, ran_of, ruled_of, status_of, status_of_untried}
-use Rattle.sva_program.specs.Run.{style_of}
+use Rattle.sva_program.specs.Run.{style_of, wanted_of_driver}
 use Rattle.sva_command.specs.Command.{Asks, AsksStrict}
 use Rattle.sva_command.specs.declared.command.Asked.{Asked}
 use Rattle.sva_driver_reports.specs.declared.reports.Ruling.{Ruling}
-use Rattle.sva_driver_reports.specs.declared.reports.Ruling.TheVariants.{Safe, Untried, Right, Unsafe, Stuck, CutOff}
+use Rattle.sva_driver_reports.specs.declared.reports.Ruling.TheVariants.{Safe, Untried, Right, Unsafe, UnsafeSoFar, Stuck, CutOff}
+use Rattle.sva_driver_reports.specs.declared.wanted.Wanted as driver
 use Rattle.sva_command.specs.declared.command.Asked.TheVariants.{Chart, Check, Explore, Judge, Plain, Replay, Show, Storm, Test, Trace, Why}
 use Rattle.sva_program.specs.declared.run.Ending.{Ending}
 use Rattle.sva_race_reports.specs.declared.judging.Judged.{Judged}
@@ -125,7 +126,7 @@ run_status strict found ended is = subst (λ e. status_of strict e ≤ 2) (sym i
 
 -- of a command on steps
 pub steps_status : (asked : Asked) (input old new : Option (List ℕ)) (ended : Result Ending DriveFault)
-    → ((most : ℕ) (whys few_ends : Bool) → asked ≡ Explore most whys few_ends → ⊥) → ((run : Bool) (most : ℕ) (strict : Bool) → asked ≡ Judge run most strict → ⊥)
+    → ((most : ℕ) (whys few_ends : Bool) → asked ≡ Explore most whys few_ends → ⊥) → ((run : Bool) (most : ℕ) (strict all : Bool) → asked ≡ Judge run most strict all → ⊥)
     → Reports asked input old new ended → status_of (is_strict asked) ended ≤ 2
 steps_status Replay input old new ended other one h = run_status false h.0 ended h.1
 steps_status Check input old new ended other one h = run_status false h.0 ended h.1
@@ -135,7 +136,7 @@ steps_status Test input old new ended other one h = run_status false h.0 ended h
 steps_status Show input old new ended other one h = run_status false h.0 ended h.1
 steps_status Why input old new ended other one h = run_status false h.0 ended h.1
 steps_status (Explore most whys few_ends) input old new ended other one h = absurd (other most whys few_ends refl)
-steps_status (Judge run most strict) input old new ended other one h = absurd (one run most strict refl)
+steps_status (Judge run most strict all) input old new ended other one h = absurd (one run most strict all refl)
 steps_status (Chart svg) input old new ended other one h = run_status false h.0 ended h.1
 steps_status (Trace live whys) input old new ended other one h = run_status false h.0 ended h.1
 
@@ -162,9 +163,9 @@ untried_status : (strict : Bool) → IsOfJudging strict (status_of_untried stric
 untried_status true = inr (inr (inr (inr (refl, refl))))
 untried_status false = inl refl
 
-pub ruling_status : (run : Bool) (most : ℕ) (strict : Bool) (input old new : Option (List ℕ)) (ended : Result Ending DriveFault)
-    → Reports (Judge run most strict) input old new ended → IsOfJudging strict (status_of strict ended)
-ruling_status run most strict input old new ended h = subst (λ e. IsOfJudging strict (status_of strict e)) (sym h.1) (go h.0)
+pub ruling_status : (run : Bool) (most : ℕ) (strict all : Bool) (input old new : Option (List ℕ)) (ended : Result Ending DriveFault)
+    → Reports (Judge run most strict all) input old new ended → IsOfJudging strict (status_of strict ended)
+ruling_status run most strict all input old new ended h = subst (λ e. IsOfJudging strict (status_of strict e)) (sym h.1) (go h.0)
   where
     go : (found : Result (Option Ruling) DriveFault) → IsOfJudging strict (status_of strict (ruled_of found))
     go (Ok None) = inr (inl refl)
@@ -172,21 +173,22 @@ ruling_status run most strict input old new ended h = subst (λ e. IsOfJudging s
     go (Ok (Some Untried)) = untried_status strict
     go (Ok (Some Right)) = inl refl
     go (Ok (Some Unsafe)) = inr (inr (inl refl))
+    go (Ok (Some UnsafeSoFar)) = inr (inr (inl refl))
     go (Ok (Some Stuck)) = inr (inr (inl refl))
     go (Ok (Some CutOff)) = inr (inr (inr (inl refl)))
     go (Err fault) = inr (inl refl)
 
 -- where the words ask for it, that is `--strict` of theirs
-pub strictly : (run : Bool) (most : ℕ) (strict : Bool) (words : List Text) (status : ℕ) → Asks (Judge run most strict) words
+pub strictly : (run : Bool) (most : ℕ) (strict all : Bool) (words : List Text) (status : ℕ) → Asks (Judge run most strict all) words
     → IsOfJudging strict status
     → (status ≡ 0) ⊎ (status ≡ 1) ⊎ (status ≡ 4) ⊎ (status ≡ 5) ⊎ ((status ≡ 8) × AsksStrict words)
-strictly run most strict words status asks (inl done) = inl done
-strictly run most strict words status asks (inr (inl fault)) = inr (inl fault)
-strictly run most strict words status asks (inr (inr (inl failed))) = inr (inr (inl failed))
-strictly run most strict words status asks (inr (inr (inr (inl unknown)))) = inr (inr (inr (inl unknown)))
-strictly true most true words status asks (inr (inr (inr (inr (untried, is))))) = absurd (cc asks.1)
-strictly false most true words status asks (inr (inr (inr (inr (untried, is))))) = inr (inr (inr (inr (untried, (most, asks)))))
-strictly run most false words status asks (inr (inr (inr (inr (untried, is))))) = absurd (cc is)
+strictly run most strict all words status asks (inl done) = inl done
+strictly run most strict all words status asks (inr (inl fault)) = inr (inl fault)
+strictly run most strict all words status asks (inr (inr (inl failed))) = inr (inr (inl failed))
+strictly run most strict all words status asks (inr (inr (inr (inl unknown)))) = inr (inr (inr (inl unknown)))
+strictly true most true all words status asks (inr (inr (inr (inr (untried, is))))) = absurd (cc asks.1)
+strictly false most true all words status asks (inr (inr (inr (inr (untried, is))))) = inr (inr (inr (inr (untried, (most, all, asks)))))
+strictly run most false all words status asks (inr (inr (inr (inr (untried, is))))) = absurd (cc is)
 
 appends_nothing : (old : Option (List ℕ)) → Appends old old []
 appends_nothing None = tt
@@ -208,9 +210,9 @@ unprinted said old = (nothing_of old said.text, tt)
 lacking : {makes : Result Outcome DriveFault → Type 0} → makes (Err Memory) → RunsTo makes (Err Memory)
 lacking made = (Err Memory, refl, made)
 
-unruled : (run : Bool) (most : ℕ) (text : List ℕ) (old : Option (List ℕ)) → Rules run most text old old (Err Memory)
-unruled true most text old = nothing_of old []
-unruled false most text old = nothing_of old []
+unruled : (run : Bool) (wanted : driver.Wanted) (text : List ℕ) (old : Option (List ℕ)) → Rules run wanted text old old (Err Memory)
+unruled true wanted text old = nothing_of old []
+unruled false wanted text old = nothing_of old []
 
 unwritten_by : (asked : Asked) (input old : Option (List ℕ)) → Reports asked input old old (Err Memory)
 unwritten_by Replay input old = lacking (unwritten_where Outcome _ input old (λ text. (nothing_of old (report_of text), tt)))
@@ -223,7 +225,8 @@ unwritten_by Why input old = lacking (unwritten_where Outcome _ input old (λ te
 unwritten_by (Chart svg) input old =
     lacking (unwritten_where Outcome _ input old (λ text. (show_of text, (refl, λ wrong. refl), unprinted (show_of text) old)))
 unwritten_by (Explore most whys few_ends) input old = (Err Memory, refl, unwritten_where (Option Judged) _ input old (λ text. nothing_of old []))
-unwritten_by (Judge run most strict) input old = (Err Memory, refl, unwritten_where (Option Ruling) _ input old (λ text. unruled run most text old))
+unwritten_by (Judge run most strict all) input old =
+    (Err Memory, refl, unwritten_where (Option Ruling) _ input old (λ text. unruled run (wanted_of_driver most all) text old))
 unwritten_by (Trace live whys) None old = lacking tt
 unwritten_by (Trace live whys) (Some text) old = lacking (unprinted (trace_of why_of (style_of live whys) text) old)
 

@@ -25,7 +25,8 @@ use Rattle.sva_race_reports.specs.declared.judging.Judged.TheVariants.{Holds, Fa
 use Rattle.sva_race_reports.specs.declared.searching.Wanted.{Wanted}
 use Rattle.sva_race_reports.specs.Explored.{Explores}
 use Rattle.sva_driver_reports.specs.declared.reports.Ruling.{Ruling}
-use Rattle.sva_driver_reports.specs.declared.reports.Ruling.TheVariants.{Safe, Untried, Right, Unsafe, Stuck, CutOff}
+use Rattle.sva_driver_reports.specs.declared.reports.Ruling.TheVariants.{Safe, Untried, Right, Unsafe, UnsafeSoFar, Stuck, CutOff}
+use Rattle.sva_driver_reports.specs.declared.wanted.Wanted as driver
 use Rattle.sva_driver_reports.specs.Judged.{Judges, Runs}
 use Rattle.sva_command.specs.declared.command.Asked.{Asked}
 use Rattle.sva_command.specs.declared.command.Asked.TheVariants.{Replay, Check, Storm, Plain, Test, Show, Why, Chart, Explore, Judge, Trace}
@@ -34,7 +35,7 @@ use Rattle.sva_program.specs.declared.run.Ending.TheVariants.{Explored, Ran, Rul
 
 -- `--strict` is of a driver that is judged
 abbrev pub is_strict : Asked → Bool
-is_strict (Judge run most strict) = strict
+is_strict (Judge run most strict all) = strict
 is_strict asked = false
 
 -- where nothing was ever tried in a driver that is safe, the verdict says nothing
@@ -54,6 +55,7 @@ status_of strict (Ok (Ruled Safe)) = 0
 status_of strict (Ok (Ruled Untried)) = status_of_untried strict
 status_of strict (Ok (Ruled Right)) = 0
 status_of strict (Ok (Ruled Unsafe)) = 4
+status_of strict (Ok (Ruled UnsafeSoFar)) = 4
 status_of strict (Ok (Ruled Stuck)) = 4
 status_of strict (Ok (Ruled CutOff)) = 5
 status_of strict (Err fault) = 1
@@ -132,10 +134,14 @@ ExploresTo makes ended = (found : Result (Option Judged) DriveFault) × (ended �
 abbrev pub RulesTo : (Result (Option Ruling) DriveFault → Type 0) → Result Ending DriveFault → Type 0
 RulesTo makes ended = (found : Result (Option Ruling) DriveFault) × (ended ≡ ruled_of found) × makes found
 
+-- of a driver a nearest finding is wanted, or with `--all` all, with their witnesses
+abbrev pub wanted_of_driver : (most : ℕ) → (all : Bool) → driver.Wanted
+wanted_of_driver most all = record { most = most; all = all; lines_alone = false }
+
 -- its lines were taken one after another, or all orders judged
-abbrev pub Rules : (run : Bool) → (most : ℕ) → (text : List ℕ) → (old new : Option (List ℕ)) → Result (Option Ruling) DriveFault → Type 0
-Rules true most text old new found = Runs text old new found
-Rules false most text old new found = Judges text most old new found
+abbrev pub Rules : (run : Bool) → driver.Wanted → (text : List ℕ) → (old new : Option (List ℕ)) → Result (Option Ruling) DriveFault → Type 0
+Rules true wanted text old new found = Runs text old new found
+Rules false wanted text old new found = Judges text wanted old new found
 
 -- What a command wrote. What a storm makes of its input depends on its threads: they have played the scenario in so many turns each, and
 -- what is written is what the audit of their receipts found, the sum of its own counts or a bad receipt; where memory lacked, nothing is. A
@@ -155,7 +161,8 @@ Reports Why input old new = RunsTo (λ found. WhereKnown (λ text. Prints (whys_
 Reports (Chart svg) input old new = RunsTo (λ found. WhereKnown (λ text. Charts text old new found) input old new found)
 Reports (Explore most whys few_ends) input old new =
     ExploresTo (λ found. WhereKnown (λ text. Explores why_of text (wanted_of most whys few_ends) old new found) input old new found)
-Reports (Judge run most strict) input old new = RulesTo (λ found. WhereKnown (λ text. Rules run most text old new found) input old new found)
+Reports (Judge run most strict all) input old new =
+    RulesTo (λ found. WhereKnown (λ text. Rules run (wanted_of_driver most all) text old new found) input old new found)
 Reports (Trace live whys) input old new = RunsTo (λ found. IfSome input (λ text. Prints (trace_of why_of (style_of live whys) text) old new found))
 
 -- a text for the user: something is said, and where the value's own text is known and isn't empty, it is that one

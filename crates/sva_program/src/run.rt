@@ -5,7 +5,7 @@ ghost use Rattle.std.specs.Io.KnownBytes.{Appends};
 ghost use Rattle.std.specs.IoError.{error_kind};
 ghost use Rattle.sva_command.specs.Command.{Asks, AsksExplore, AsksJudge, AsksRun, AsksStrict, AsksText, CallsHelp, CallsVersion, IsMistaken, texts};
 ghost use Rattle.sva_program.specs.Run.{HasCause, IsSaid, Reports, Rules, Says, WhereKnown, columns_of, complaint, explored_of, fault_line, is_strict, ran_of, ruled_of};
-ghost use Rattle.sva_program.specs.Run.{status_of, status_of_untried, style_of, unread_line, wanted_of};
+ghost use Rattle.sva_program.specs.Run.{status_of, status_of_untried, style_of, unread_line, wanted_of, wanted_of_driver};
 ghost use Rattle.sva_streams.specs.Streams.{IsNew, Writes};
 
 use crate::storming::drive_storm;
@@ -133,7 +133,10 @@ fn perform<X: AllocGlobal + Threads + Wait + Sync, R: Read, W: Write, P: Watch>(
             let wanted = wanted_of(most, whys, few_ends);
             explored(explore::<Explainer, R, W, P>(rt.alloc(), wanted, reader, writer, watch))
         }
-        Asked::Judge { run, most, .. } => ruled(rule(rt.alloc(), run, most, reader, writer, watch)),
+        Asked::Judge { run, most, all, .. } => {
+            let wanted = wanted_of_driver(most, all);
+            ruled(rule(rt.alloc(), run, wanted, reader, writer, watch))
+        }
         Asked::Trace { live, whys } => ran(trace::<Explainer, R, W>(
             rt.alloc(),
             style_of(live, whys),
@@ -197,25 +200,36 @@ fn ruled(found: Result<Option<Ruling>, DriveFault>) -> Result<Ending, DriveFault
     }
 }
 
+/// What is wanted of a driver.
+fn wanted_of_driver(most: u64, all: bool) -> sva_driver_reports::Wanted
+    ensures { result ≡ wanted_of_driver most all }
+{
+    sva_driver_reports::Wanted {
+        most,
+        all,
+        lines_alone: false,
+    }
+}
+
 /// Judges a driver, or takes its lines one after another.
 fn rule<R: Read, W: Write, P: Watch>(
     alloc: Global,
     in_order: bool,
-    most: u64,
+    wanted: sva_driver_reports::Wanted,
     reader: &mut Told<R>,
     writer: &mut Told<W>,
     watch: &mut P,
 ) -> Result<Option<Ruling>, DriveFault>
     requires reader { IsNew reader.old }
     requires writer { IsNew writer.old }
-    ensures ruled { WhereKnown (λ text. Rules in_order most text (W.contents writer.old.inner) (W.contents writer.new.inner) result)
+    ensures ruled { WhereKnown (λ text. Rules in_order wanted text (W.contents writer.old.inner) (W.contents writer.new.inner) result)
         (R.remaining reader.old.inner) (W.contents writer.old.inner) (W.contents writer.new.inner) result }
     ensures cause { HasCause reader.new writer.new result }
 {
     if in_order {
         run(alloc, reader, writer)
     } else {
-        judge(alloc, most, reader, writer, watch)
+        judge(alloc, wanted, reader, writer, watch)
     }
 }
 
@@ -290,6 +304,7 @@ fn finish<E: Write>(strict: bool, ended: Result<Ending, DriveFault>, errors: &mu
         Ok(Ending::Ruled(Ruling::Untried)) => untried(strict),
         Ok(Ending::Ruled(Ruling::Right)) => DONE,
         Ok(Ending::Ruled(Ruling::Unsafe)) => FAILED,
+        Ok(Ending::Ruled(Ruling::UnsafeSoFar)) => FAILED,
         Ok(Ending::Ruled(Ruling::Stuck)) => FAILED,
         Ok(Ending::Ruled(Ruling::CutOff)) => UNKNOWN,
         Err(fault) => faulted(fault, errors),

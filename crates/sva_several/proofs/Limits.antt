@@ -27,7 +27,7 @@ use Rattle.sva_driver_reports.specs.Judged.{IsTold}
 use Rattle.sva_several.specs.declared.searching.Said.{Said}
 use Rattle.sva_several.specs.declared.searching.Search.{Search}
 use Rattle.sva_several.specs.declared.searching.Search.TheVariants.{Drivers, Lines, Races}
-use Rattle.sva_several.specs.Searches.{IsExplored, IsFound, IsJudged, IsSaid, Tries, TriesDriver, TriesRace, is_ended, is_whole, line_of}
+use Rattle.sva_several.specs.Searches.{IsExplored, IsFound, IsJudged, IsSaid, Tries, TriesDriver, TriesRace, is_ended, is_whole, line_of, wanted_of}
 use Rattle.sva_several.specs.Sharing.{IsFoundBy, IsSaidBy, share_of, shared}
 
 module _ (share most : ℕ) (less : share ≤ most) where
@@ -92,26 +92,29 @@ module _ (share most : ℕ) (less : share ≤ most) where
   larger_verdict driver (verdict.Safe moments looked) ended h = (h.0, h.1, h.2, larger_count moments h.3, h.4)
   larger_verdict driver (verdict.SafeApart moments looked) ended h = (h.0, h.1, larger_moments driver moments h.2, h.3)
   larger_verdict driver (verdict.Unsafe witness) ended h = h
+  larger_verdict driver (verdict.Findings found moments None) ended h = (h.0, h.1, larger_count moments h.2, tt)
+  larger_verdict driver (verdict.Findings found moments (Some events)) ended h = absurd (cc ended)
   larger_verdict driver (verdict.Stuck witness moments) ended h = (h.0, h.1, h.2, h.3, larger_count moments h.4)
   larger_verdict driver (verdict.CutOff moments events) ended h = absurd (cc ended)
 
-  larger_told : (to : Begun) (wrongs : List ℕ) (found : Option Ruling) (out : List ℕ) → true ≡ is_ended found
-      → IsTold to share wrongs found out → IsTold to most wrongs found out
-  larger_told begun.Faulted wrongs found out ended h = h
-  larger_told (begun.Leaks number wrong) wrongs found out ended h = h
-  larger_told (begun.Stands text) wrongs None out ended h = absurd h
-  larger_told (begun.Stands text) wrongs (Some said) out ended h = record {
+  larger_told : (all : Bool) (to : Begun) (wrongs : List ℕ) (found : Option Ruling) (out : List ℕ) → true ≡ is_ended found
+      → IsTold to (wanted_of share all) wrongs found out → IsTold to (wanted_of most all) wrongs found out
+  larger_told all begun.Faulted wrongs found out ended h = h
+  larger_told all (begun.Leaks number wrong) wrongs found out ended h = h
+  larger_told all (begun.Stands text) wrongs None out ended h = absurd h
+  larger_told all (begun.Stands text) wrongs (Some said) out ended h = record {
     verdict = h.verdict;
+    asked = h.asked;
     holds = larger_verdict text.driver h.verdict (ended ∙ ap (λ said. is_ended (Some said)) h.ruling) h.holds;
     ruling = h.ruling;
     report = h.report;
   }
 
-  ended_driver : (text : List ℕ) (said : Said) → TriesDriver share text said true → IsJudged most text said
-  ended_driver text said (found, verdict, ended, h) = (
+  ended_driver : (all : Bool) (text : List ℕ) (said : Said) → TriesDriver share all text said true → IsJudged most all text said
+  ended_driver all text said (found, verdict, ended, h) = (
     found,
     verdict,
-    record { to = h.to; wrongs = h.wrongs; reads = h.reads; told = larger_told h.to h.wrongs found said.text.items ended h.told },
+    record { to = h.to; wrongs = h.wrongs; reads = h.reads; told = larger_told all h.to h.wrongs found said.text.items ended h.told },
   )
 
 -- ---- What a search says
@@ -127,7 +130,7 @@ explored_said most text said ended (found, verdict, whole, explores) = (
 
 pub tried_said : (search : Search) (text : List ℕ) (said : Said) (ended : Bool) → Tries search text said ended → IsSaid search text said
 tried_said (Races most) text said ended h = explored_said most text said ended h
-tried_said (Drivers most strict) text said ended (found, verdict, _, judged) = (found, verdict, judged)
+tried_said (Drivers most all strict) text said ended (found, verdict, _, judged) = (found, verdict, judged)
 tried_said Lines text said ended h = h.0
 
 -- ---- Shares
@@ -141,7 +144,7 @@ share_alone most = let all : most / 1 ≡ most = omega arith in omega (arith, al
 
 pub shared_alone : (search : Search) → shared search 1 ≡ search
 shared_alone (Races most) = ap Races (share_alone most)
-shared_alone (Drivers most strict) = ap (λ most. Drivers most strict) (share_alone most)
+shared_alone (Drivers most all strict) = ap (λ most. Drivers most all strict) (share_alone most)
 shared_alone Lines = refl
 
 -- ---- What is said of a text
@@ -160,7 +163,7 @@ first_alone search jobs text said false alone h =
 pub said_alone : (search : Search) (jobs : ℕ) (text : List ℕ) (said : Said) → IsSaidBy search jobs text said → IsSaid search text said
 said_alone search jobs text said (inr (cut, says)) = says
 said_alone (Races most) jobs text said (inl ended) = ended_race (share_of most jobs) most (share_within most jobs) text said ended
-said_alone (Drivers most strict) jobs text said (inl ended) = ended_driver (share_of most jobs) most (share_within most jobs) text said ended
+said_alone (Drivers most all strict) jobs text said (inl ended) = ended_driver (share_of most jobs) most (share_within most jobs) all text said ended
 said_alone Lines jobs text said (inl ended) = ended.0
 
 found_alone : (search : Search) (jobs : ℕ) (text : Vec ℕ Global) (found : Result Said AllocError) → IsFoundBy search jobs text found

@@ -6,6 +6,7 @@ use Rattle.std.specs.Global.{Global}
 use Rattle.std.specs.Prelude.{Result, String, string_bytes}
 use Rattle.std.specs.declared.alloc.AllocError.{AllocError}
 use Rattle.sva_several.specs.declared.searching.Said.{Said}
+use Rattle.sva_several.specs.declared.searching.Search.{Search}
 use Rattle.sva_several.specs.declared.verdicts.Verdict.{Verdict}
 use Rattle.sva_several.specs.Lines.{lines_of, name_if, named, said_of}
 use Rattle.sva_several.specs.Verdicts.{count, is_same, one_if, verdict_of}
@@ -48,29 +49,29 @@ module _ (name text : List ℕ) (place : ℕ) where
   named_end begins out whole past before =
       sym (append-nil out) ∙ sym (ap (λ l. out ++ named name begins l) (drop_all place text past)) ∙ before
 
-module _ (names : List (String Global)) (all : List (Result Said AllocError)) (place : ℕ) where
+module _ (search : Search) (names : List (String Global)) (all : List (Result Said AllocError)) (place : ℕ) where
   pub told_next : (name : String Global) (found : Result Said AllocError) (out new whole : List ℕ) → place < length names → place < length all
-      → name ≡ get_or names place name → found ≡ get_or all place found → new ≡ out ++ named (string_bytes name) true (said_of found)
-      → out ++ lines_of (drop place names) (drop place all) ≡ whole → new ++ lines_of (drop (place + 1) names) (drop (place + 1) all) ≡ whole
+      → name ≡ get_or names place name → found ≡ get_or all place found → new ≡ out ++ named (string_bytes name) true (said_of search found)
+      → out ++ lines_of search (drop place names) (drop place all) ≡ whole → new ++ lines_of search (drop (place + 1) names) (drop (place + 1) all) ≡ whole
   unfolding lines_of
   told_next name found out new whole within inside is it puts before =
-      ap (λ l. l ++ lines_of (drop (place + 1) names) (drop (place + 1) all)) puts
-      ∙ append_assoc out (named (string_bytes name) true (said_of found)) (lines_of (drop (place + 1) names) (drop (place + 1) all))
-      ∙ sym (λ i. out ++ lines_of (next names place name name within is i) (next all place found found inside it i)) ∙ before
+      ap (λ l. l ++ lines_of search (drop (place + 1) names) (drop (place + 1) all)) puts
+      ∙ append_assoc out (named (string_bytes name) true (said_of search found)) (lines_of search (drop (place + 1) names) (drop (place + 1) all))
+      ∙ sym (λ i. out ++ lines_of search (next names place name name within is i) (next all place found found inside it i)) ∙ before
 
-  no_lines : (names : List (String Global)) → lines_of names [] ≡ []
+  no_lines : (names : List (String Global)) → lines_of search names [] ≡ []
   unfolding lines_of
   no_lines [] = refl
   no_lines (name ∷ names) = refl
 
-  pub told_end : (out whole : List ℕ) → length all ≤ place → out ++ lines_of (drop place names) (drop place all) ≡ whole → out ≡ whole
+  pub told_end : (out whole : List ℕ) → length all ≤ place → out ++ lines_of search (drop place names) (drop place all) ≡ whole → out ≡ whole
   told_end out whole past before =
-      sym (append-nil out) ∙ sym (ap (λ l. out ++ l) (ap (lines_of (drop place names)) (drop_all place all past) ∙ no_lines (drop place names))) ∙ before
+      sym (append-nil out) ∙ sym (ap (λ l. out ++ l) (ap (lines_of search (drop place names)) (drop_all place all past) ∙ no_lines (drop place names))) ∙ before
 
-  pub names_end : (out whole : List ℕ) → length names ≤ place → out ++ lines_of (drop place names) (drop place all) ≡ whole → out ≡ whole
+  pub names_end : (out whole : List ℕ) → length names ≤ place → out ++ lines_of search (drop place names) (drop place all) ≡ whole → out ≡ whole
   unfolding lines_of
   names_end out whole past before =
-      sym (append-nil out) ∙ sym (ap (λ l. out ++ lines_of l (drop place all)) (drop_all place names past)) ∙ before
+      sym (append-nil out) ∙ sym (ap (λ l. out ++ lines_of search l (drop place all)) (drop_all place names past)) ∙ before
 
 pub one_at_most : (n : ℕ) (so : Bool) → n ≡ one_if so → n ≤ 1
 one_at_most n true is = omega (arith, is)

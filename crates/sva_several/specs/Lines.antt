@@ -32,23 +32,30 @@ unfoldable pub named : (name : List ℕ) → (begins : Bool) → List ℕ → Li
 named name begins [] = []
 named name begins (byte ∷ rest) = (name_if name begins ++ byte ∷ []) ++ named name (byte == 10) rest
 
--- ---- What is told of a text: where it was searched its first line, where it is wrong all that is
+-- ---- What is told of a text: where it was searched its first line, or those of all findings, where it is wrong all that is
 
-abbrev pub told : Verdict → List ℕ → List ℕ
-told Wrong text = text
-told verdict text = first_line text
+abbrev pub tells_all : Search → Verdict → Bool
+tells_all (Drivers most all strict) (Ruled ruling.Unsafe) = all
+tells_all search verdict = false
+
+abbrev pub told_of : List ℕ → (all : Bool) → List ℕ
+told_of text all = if all then text else first_line text
+
+abbrev pub told : Search → Verdict → List ℕ → List ℕ
+told search Wrong text = text
+told search verdict text = told_of text (tells_all search verdict)
 
 abbrev pub no_memory : List ℕ
 no_memory = codes "out of memory\n"
 
-abbrev pub said_of : Result Said AllocError → List ℕ
-said_of (Ok said) = told said.verdict said.text.items
-said_of (Err fault) = no_memory
+abbrev pub said_of : Search → Result Said AllocError → List ℕ
+said_of search (Ok said) = told search said.verdict said.text.items
+said_of search (Err fault) = no_memory
 
-unfoldable pub lines_of : (names : List (String Global)) → List (Result Said AllocError) → List ℕ
-lines_of (name ∷ names) (found ∷ all) = named (string_bytes name) true (said_of found) ++ lines_of names all
-lines_of [] all = []
-lines_of (name ∷ names) [] = []
+unfoldable pub lines_of : Search → (names : List (String Global)) → List (Result Said AllocError) → List ℕ
+lines_of search (name ∷ names) (found ∷ all) = named (string_bytes name) true (said_of search found) ++ lines_of search names all
+lines_of search [] all = []
+lines_of search (name ∷ names) [] = []
 
 -- ---- Last, how many there are
 
@@ -81,7 +88,7 @@ runs_text all =
 
 abbrev pub kinds_text : Search → List (Result Said AllocError) → List ℕ
 kinds_text (Races most) all = races_text all
-kinds_text (Drivers most strict) all = drivers_text all
+kinds_text (Drivers most each strict) all = drivers_text all
 kinds_text Lines all = runs_text all
 
 abbrev pub totals_text : Search → List (Result Said AllocError) → List ℕ
@@ -92,4 +99,4 @@ abbrev pub totals_if : Search → (is_part : Bool) → List (Result Said AllocEr
 totals_if search is_part all = if is_part then [] else totals_text search all
 
 abbrev pub report_text : Search → (is_part : Bool) → (names : List (String Global)) → List (Result Said AllocError) → List ℕ
-report_text search is_part names all = lines_of names all ++ totals_if search is_part all
+report_text search is_part names all = lines_of search names all ++ totals_if search is_part all

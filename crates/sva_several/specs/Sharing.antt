@@ -23,7 +23,7 @@ share_of most jobs = min most (max 1 (most / jobs))
 
 abbrev pub shared : Search → (jobs : ℕ) → Search
 shared (Races most) jobs = Races (share_of most jobs)
-shared (Drivers most strict) jobs = Drivers (share_of most jobs) strict
+shared (Drivers most all strict) jobs = Drivers (share_of most jobs) all strict
 shared Lines jobs = Lines
 
 -- ---- What is said of a text

@@ -46,7 +46,7 @@ is_one_open all = is_there (Judged judged.Unknown) all || is_there (Ruled ruling
 
 -- a verdict that says nothing has a status of its own
 abbrev pub is_strict : Search → Bool
-is_strict (Drivers most strict) = strict
+is_strict (Drivers most all strict) = strict
 is_strict (Races most) = false
 is_strict Lines = false
 

@@ -11,22 +11,39 @@ use sva_driver_reports::Ruling;
 use sva_race_reports::Judged;
 use sva_script_reading::put_number;
 
+/// Whether the lines of all findings are told.
+fn tells_all(search: Search, verdict: Verdict) -> bool
+    ensures { result ≡ lines.tells_all search verdict }
+{
+    match (search, verdict) {
+        (Search::Drivers { all, .. }, Verdict::Ruled(Ruling::Unsafe)) => all,
+        _ => false,
+    }
+}
+
+/// What of a text is told that was searched.
+fn told_of(text: &[u8], all: bool) -> &[u8]
+    ensures { result.now ≡ lines.told_of text.entry.now all }
+{
+    if all { text } else { first_line(text) }
+}
+
 /// What of a text is told.
-fn told(verdict: Verdict, text: &[u8]) -> &[u8]
-    ensures { result.now ≡ lines.told verdict text.entry.now }
+fn told(search: Search, verdict: Verdict, text: &[u8]) -> &[u8]
+    ensures { result.now ≡ lines.told search verdict text.entry.now }
 {
     match verdict {
         Verdict::Wrong => text,
-        Verdict::Judged(_) | Verdict::Ruled(_) => first_line(text),
+        Verdict::Judged(_) | Verdict::Ruled(_) => told_of(text, tells_all(search, verdict)),
     }
 }
 
 /// What is told of a text that was searched, or for whose search memory lacked.
-fn said_of(found: &Result<Said, AllocError>) -> &[u8]
-    ensures { result.now ≡ lines.said_of found.entry.now }
+fn said_of(search: Search, found: &Result<Said, AllocError>) -> &[u8]
+    ensures { result.now ≡ lines.said_of search found.entry.now }
 {
     match found {
-        Ok(said) => told(said.verdict, said.text.as_slice()),
+        Ok(said) => told(search, said.verdict, said.text.as_slice()),
         Err(_) => b"out of memory\n",
     }
 }
@@ -34,16 +51,17 @@ fn said_of(found: &Result<Said, AllocError>) -> &[u8]
 /// Appends what is told of each text, behind its name.
 fn put_lines(
     out: &mut Vec<u8>,
+    search: Search,
     names: &[String],
     all: &[Result<Said, AllocError>],
 ) -> Result<(), AllocError>
-    ensures { OnOk result (out.new.items ≡ out.old.items ++ lines.lines_of names.now all.now) }
+    ensures { OnOk result (out.new.items ≡ out.old.items ++ lines.lines_of search names.now all.now) }
 {
     for place in 0..all.len() {
         if place >= names.len() {
             return Ok(());
         }
-        put_named(out, names[place].as_bytes(), said_of(&all[place]))?;
+        put_named(out, names[place].as_bytes(), said_of(search, &all[place]))?;
     }
     Ok(())
 }
@@ -158,7 +176,7 @@ pub(crate) fn report(
     ensures { IfOk result (λ out. out.items ≡ lines.report_text search is_part names.now all.now) }
 {
     let mut out = Vec::new(alloc);
-    put_lines(&mut out, names, all)?;
+    put_lines(&mut out, search, names, all)?;
     if !is_part {
         put_totals(&mut out, search, all)?;
     }

@@ -22,6 +22,8 @@ pub enum Search {
     Drivers {
         /// How many moments of each are looked at at most.
         most: u64,
+        /// Are all findings told, and not a nearest one alone?
+        all: bool,
         /// Does a verdict that says nothing, of a driver in which nothing was ever tried, have a status of its own?
         strict: bool,
     },
@@ -72,6 +74,7 @@ fn ruled(found: Option<Ruling>) -> Verdict
     ensures { result ≡ searches.ruled found }
 {
     match found {
+        Some(Ruling::UnsafeSoFar) => Verdict::Ruled(Ruling::Unsafe),
         Some(ruling) => Verdict::Ruled(ruling),
         None => Verdict::Wrong,
     }
@@ -83,6 +86,7 @@ fn is_ended(found: Option<Ruling>) -> bool
 {
     match found {
         Some(Ruling::CutOff) => false,
+        Some(Ruling::UnsafeSoFar) => false,
         _ => true,
     }
 }
@@ -120,12 +124,24 @@ fn explore_one(alloc: Global, most: u64, text: &[u8]) -> Result<Tried, AllocErro
     })
 }
 
+/// What is wanted of a driver: its line, or those of all its findings.
+fn wanted_of(most: u64, all: bool) -> sva_driver_reports::Wanted
+    ensures { result ≡ searches.wanted_of most all }
+{
+    sva_driver_reports::Wanted {
+        most,
+        all,
+        lines_alone: true,
+    }
+}
+
 /// Judges a driver.
-fn judge_one(alloc: Global, most: u64, text: &[u8]) -> Result<Tried, AllocError>
-    ensures { IfOk result (λ tried. searches.TriesDriver most text.now tried.said tried.is_whole) }
+fn judge_one(alloc: Global, most: u64, all: bool, text: &[u8]) -> Result<Tried, AllocError>
+    ensures { IfOk result (λ tried. searches.TriesDriver most all text.now tried.said tried.is_whole) }
 {
     let mut out = Vec::new(alloc);
-    let found = judge_text(alloc, most, text, &mut out, &mut Unwatched)?;
+    let wanted = wanted_of(most, all);
+    let found = judge_text(alloc, wanted, text, &mut out, &mut Unwatched)?;
     Ok(Tried {
         said: Said {
             verdict: ruled(found),
@@ -156,7 +172,7 @@ pub(crate) fn search_one(alloc: Global, search: Search, text: &[u8]) -> Result<T
 {
     match search {
         Search::Races { most } => explore_one(alloc, most, text),
-        Search::Drivers { most, .. } => judge_one(alloc, most, text),
+        Search::Drivers { most, all, .. } => judge_one(alloc, most, all, text),
         Search::Lines => run_one(alloc, text),
     }
 }

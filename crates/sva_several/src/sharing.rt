@@ -23,8 +23,9 @@ fn shared(search: Search, jobs: u64) -> Search
         Search::Races { most } => Search::Races {
             most: share_of(most, jobs),
         },
-        Search::Drivers { most, strict } => Search::Drivers {
+        Search::Drivers { most, all, strict } => Search::Drivers {
             most: share_of(most, jobs),
+            all,
             strict,
         },
         Search::Lines => Search::Lines,

@@ -38,12 +38,13 @@ def of_two(m, e):
 
 
 def of_answers(m, e):
-    """A barrier that has come, or is passed, before the race."""
+    """A barrier that has come, or is passed, before the race; also where something came behind it."""
     sent = [f'barrier {e} 1']
     come = sent + [f'deliver barrier {e}']
-    passed = come + [f'pass {e}']
+    passes = [f'pass {e}']
     its, budget = m.one(of_uses, of_asks, of_groups)(m, e)
-    return m.one((sent, budget), (come, budget), (passed, budget), (come + its, budget), (its + come, budget))
+    return m.one((sent, budget), (come, budget), (come + passes, budget), (come + its, budget), (its + come, budget),
+                 (come + its + passes, budget))
 
 
 def end(m, e):

@@ -58,18 +58,23 @@ def requests(m):
     return m.one(drained, ended, ended, [of_requests(m) for _ in range(m.one(2, 3, 4, 5))])
 
 
-THEMES = {'flush': unmapped, 'time-outs': timed, 'requests': requests}
+def given_away(m):
+    return [m.one('free 0', 'free 0', 'freeze 0')]
+
+
+THEMES = {'flush': unmapped, 'kept': given_away, 'time-outs': timed, 'requests': requests}
 
 
 def settings(m, theme):
     chances = (('link posted', .3), ('waits plain', .4), ('drain arrived', .3 if theme == 'requests' else .05),
-               ('caches on', .4 if theme == 'flush' else .05), ('stopped known', .2), ('refuses drain', .05),
+               ('caches on', {'flush': .4, 'kept': .95}.get(theme, .05)), ('stopped known', .2), ('refuses drain', .05),
                (f'timeouts {m.one("on", "stop")}', .95 if theme == 'time-outs' else .05))
     return [setting for setting, p in chances if m.chance(p)]
 
 
 def device(m, e, theme):
-    parts = {'flush': m.one('1 asks', '', ''), 'time-outs': m.one('silent', 'silent', '1 asks', '', 'leaves'),
+    parts = {'flush': m.one('1 asks', '', ''), 'kept': m.one('1 asks', '1 asks', ''),
+             'time-outs': m.one('silent', 'silent', '1 asks', '', 'leaves'),
              'requests': m.one('', '', 'awaits', '1 faults pages 16')}[theme]
     return [f'device {e} {parts}'] if parts else []
 
@@ -82,8 +87,19 @@ def begun(m, e, theme):
         sent = [f'fault {e} 1 16 r new {last}'] + [f'deliver page-request {e}'] * m.chance(0.8)
         return lines + m.one([], sent, sent)
     held = [f'ask {e} 1 16', f'deliver request {e}', f'deliver completion {e}']
+    if theme == 'kept':
+        return lines + held
     out = [f'submit {e} range 1 17 0 + wait', f'pump {e}'] if theme == 'time-outs' else []
     return lines + m.one([], held, held) + m.one([], [], out)
+
+
+def struck(m):
+    """Nothing is held any more, the page is gone, and some of what the unit keeps goes."""
+    e = m.e()
+    its = m.one('iotlb 1 16 0', 'iotlb 1', 'entry 1') + of_other(m, e)
+    off = [f'ats {f} {on}' for f in range(m.ends) for on in ('off', 'on')]
+    none = [f'entry {f} 1 none' for f in range(m.ends) if m.chance(0.3)]
+    return off + ['pte 0 16 none'] + none + [f'submit {e} {its}', f'pump {e}']
 
 
 def make_units(m, theme=None):
@@ -92,7 +108,8 @@ def make_units(m, theme=None):
     text = [f'config {m.ends} 4 1'] + settings(m, theme) + [unit]
     text += [x for e in range(m.ends) for x in device(m, e, theme)]
     text += ['workers success'] * (theme == 'requests' and m.chance(0.4))
-    text += ['pte 0 16 0 w'] + [x for e in range(m.ends) for x in begun(m, e, theme)] + ['race']
+    text += ['pte 0 16 0 w'] + [x for e in range(m.ends) for x in begun(m, e, theme)]
+    text += (struck(m) if theme == 'kept' else []) + ['race']
     for name in 'ab'[:m.one(1, 1, 1, 2)]:
         lines = [x for x in THEMES[theme](m) if m.chance(0.96) or x.split()[0] in ('if', 'else', 'end')]
         if theme == 'requests':

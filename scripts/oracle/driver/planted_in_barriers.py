@@ -127,7 +127,7 @@ OF_BARRIERS = [
     Reading('a use holds no barrier up', barriers, 'may_pass', not_held_up(barriers.SLOTS), USES),
     Reading('a request holds no barrier up', barriers, 'may_pass', not_held_up(barriers.TAGS), ASKS),
     Reading('a group holds no barrier up', barriers, 'may_pass', not_held_up(barriers.INDICES), GROUPS),
-    Reading('what came behind it holds a barrier up', barriers, 'may_pass', of_all, ASKS),
+    Reading('what came behind it holds a barrier up', barriers, 'may_pass', of_all, ANSWERS),
     Reading('an answered group alone has ended', barriers, 'unended', always, GROUPS),
     Reading('a group has ended with its last request', barriers, 'unended', of_the_last, GROUPS),
     Reading('what is of another PASID holds it up', world, 'ARRIVES', of_any_pasid, TWO),

@@ -63,15 +63,15 @@ def never(old):
     return lambda *words: False
 
 
-FLUSH, TIMED, REQUESTS = (together(theme) for theme in ('flush', 'time-outs', 'requests'))
+FLUSH, KEPT, TIMED, REQUESTS = (together(theme) for theme in ('flush', 'kept', 'time-outs', 'requests'))
 
 OF_UNITS = [
     Reading('each endpoint has a unit of its own', world, 'share', nothing, FLUSH),
     Reading('a page request of another endpoint isn\'t in the queue', world, 'share', nothing, REQUESTS),
     Reading('another endpoint\'s time-out aborts no wait', world, 'share', nothing, TIMED),
     Reading('`of F` is ignored', reading, 'of_other', is_ignored, FLUSH),
-    Reading('what the unit keeps of another endpoint stays', world, 'struck', its_alone, FLUSH),
-    Reading('what the unit keeps of each goes, where one is named', world, 'struck', each_below, FLUSH),
+    Reading('what the unit keeps of another endpoint stays', world, 'struck', its_alone, KEPT),
+    Reading('what the unit keeps of each goes, where one is named', world, 'struck', each_below, KEPT),
     Reading('`await groups E` and `close E` are of E\'s groups alone', world, 'below', itself, REQUESTS),
     Reading('`await wait E` is of what was submitted at E', reading.Driver, 'are_below_one', own_waits, FLUSH),
     Reading('a page request of another endpoint is its own', world, 'own', all_of_unit, REQUESTS),

@@ -10,6 +10,7 @@ import subprocess
 import sys
 
 sys.path.insert(1, str(pathlib.Path(__file__).parents[1]))
+import all_findings
 import apart
 import branches
 import planted_in_apart
@@ -17,6 +18,7 @@ import planted_in_barriers
 import planted_in_branches
 import planted_in_controls
 import planted_in_drivers
+import planted_in_findings
 import planted_in_timeouts
 import planted_in_units
 import reading
@@ -274,7 +276,17 @@ def tried(program, text, is_list, by_lists=True):
     if is_list:
         fault, kind = compare_run(text, ask_program(program, text, '--run'))
         return fault, 'run ' + kind
-    return compare(text, ask_program(program, text, '--most', str(most_of(text))), by_lists)
+    fault, kind = compare(text, ask_program(program, text, '--most', str(most_of(text))), by_lists)
+    return fault or compare_all(program, text) if kind == 'unsafe' else fault, kind
+
+
+def compare_all(program, text):
+    """The same of all findings, of one driver in three."""
+    if len(text) % 3:
+        return None
+    driver = Driver(text)
+    report = ask_program(program, text, '--all', '--most', str(most_of(text)))
+    return all_findings.compare(driver, search.before_race(driver)[0], report, 2 * most_of(text), replay)
 
 
 def smallest(program, text, is_list):
@@ -305,8 +317,8 @@ def trial(program, seed, is_short=True, maker=None):
 
 
 if __name__ == '__main__':
-    sys.exit(trying.main('drivers', trial, planted_in_apart.OF_APART + planted_in_barriers.OF_BARRIERS
-                         + planted_in_controls.OF_CONTROLS
+    sys.exit(trying.main('drivers', trial, planted_in_apart.OF_APART + planted_in_findings.OF_FINDINGS
+                         + planted_in_barriers.OF_BARRIERS + planted_in_controls.OF_CONTROLS
                          + planted_in_branches.OF_BRANCHES + planted_in_timeouts.OF_TIMEOUTS
                          + planted_in_units.OF_UNITS
                          + planted_in_drivers.OF_DRIVERS))

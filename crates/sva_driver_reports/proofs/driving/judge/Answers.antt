@@ -4,7 +4,7 @@ use Rattle.sva_driver_reports.proofs.driving.judge.Goals as goal
 
 pub returns-clause-judged : goal.returns-clause-judged
 returns-clause-judged g c =
-    kept_judged _ _ _ c.args.most c.in_ok-text.text.items c.as_slice.result.now c.tell_judged.result c.as_slice.ensures.value c.in_ok-text.ensures.ok
+    kept_judged _ _ _ c.args.wanted c.in_ok-text.text.items c.as_slice.result.now c.tell_judged.result c.as_slice.ensures.value c.in_ok-text.ensures.ok
     c.tell_judged.ensures.judged
 
 pub returns-clause-end : goal.returns-clause-end

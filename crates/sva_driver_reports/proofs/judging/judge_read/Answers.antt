@@ -6,6 +6,7 @@ use Rattle.sva_driver_reports.proofs.judging.judge_read.Goals as goal
 
 pub returns : goal.returns
 returns g c =
-    told_by c.args.text c.args.most c.in_ok-text.verdict c.args.out.now.items c.put_report.new.out.items _ c.in_ok-text.ensures.verdict c.requires
-    (c.in_ok-put_report.ensures ∙ ap (λ (text : Text). c.args.out.now.items ++ report_text text c.in_ok-text.verdict) c.in_ok-text.ensures.text)
+    told_by c.args.text c.args.wanted c.in_ok-text.verdict c.args.out.now.items c.put_report.new.out.items _ c.in_ok-text.ensures.verdict
+    c.in_ok-text.ensures.asked c.requires
+    (c.in_ok-put_report.ensures ∙ ap (λ (text : Text). c.args.out.now.items ++ report_text text c.args.wanted.lines_alone c.in_ok-text.verdict) c.in_ok-text.ensures.text)
     c.ruling_of.ensures

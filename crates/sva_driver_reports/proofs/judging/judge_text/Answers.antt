@@ -8,13 +8,13 @@ use Rattle.sva_driver_reports.proofs.judging.judge_text.Goals as goal
 pub returns-in-Faulted : goal.returns-in-Faulted
 returns-in-Faulted g c =
     let out = c.read_driver.new.out.items in
-    unread_judged c.args.text.now c.args.most out
+    unread_judged c.args.text.now c.args.wanted out
     (subst (λ (to : Begun). ReadsDriver (driver_of c.args.text.now) to out) c.in-Faulted.is c.in_ok-read_driver.ensures)
 
 pub returns-in-Leaks : goal.returns-in-Leaks
 returns-in-Leaks g c =
     let out = c.read_driver.new.out.items in
-    leak_judged c.args.text.now c.args.most c.in-Leaks.number c.in-Leaks.wrong out c.tell_leak.new.out.items c.tell_leak.result
+    leak_judged c.args.text.now c.args.wanted c.in-Leaks.number c.in-Leaks.wrong out c.tell_leak.new.out.items c.tell_leak.result
     (subst (λ (to : Begun). ReadsDriver (driver_of c.args.text.now) to out) c.in-Leaks.is c.in_ok-read_driver.ensures)
     c.tell_leak.ensures.said c.tell_leak.ensures.text
 
@@ -27,5 +27,5 @@ judge_read-requires g c =
 pub returns-in_ok-said-in-Stands : goal.returns-in_ok-said-in-Stands
 returns-in_ok-said-in-Stands g c =
     let out = c.read_driver.new.out.items in
-    read_judged c.args.text.now c.args.most c.in-Stands.text out c.judge_read.new.out.items c.in_ok-said-in-Stands.said
+    read_judged c.args.text.now c.args.wanted c.in-Stands.text out c.judge_read.new.out.items c.in_ok-said-in-Stands.said
     (subst (λ (to : Begun). ReadsDriver (driver_of c.args.text.now) to out) c.in-Stands.is c.in_ok-read_driver.ensures) c.in_ok-said-in-Stands.ensures

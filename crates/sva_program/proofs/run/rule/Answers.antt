@@ -11,7 +11,7 @@ returns-then-in_order-clause-ruled g c =
     let old = g.W.Write.contents c.args.writer.now.inner in
     let new = g.W.Write.contents c.run.new.writer.inner in
     let in_order : c.args.in_order ≡ true = search rules in
-    subst (λ b. WhereKnown (λ text. Rules b c.args.most text old new c.run.result) input old new c.run.result) (sym in_order)
+    subst (λ b. WhereKnown (λ text. Rules b c.args.wanted text old new c.run.result) input old new c.run.result) (sym in_order)
     (reported (λ text. Runs text old new c.run.result) input old new c.run.result c.run.ensures.run
     (λ read. ap (λ told. g.W.Write.contents told.inner) (c.run.ensures.read read).0))
 
@@ -26,8 +26,8 @@ returns-else-in_order-clause-ruled g c =
     let old = g.W.Write.contents c.args.writer.now.inner in
     let new = g.W.Write.contents c.judge.new.writer.inner in
     let in_order : c.args.in_order ≡ false = search rules in
-    subst (λ b. WhereKnown (λ text. Rules b c.args.most text old new c.judge.result) input old new c.judge.result) (sym in_order)
-    (reported (λ text. Judges text c.args.most old new c.judge.result) input old new c.judge.result c.judge.ensures.judged
+    subst (λ b. WhereKnown (λ text. Rules b c.args.wanted text old new c.judge.result) input old new c.judge.result) (sym in_order)
+    (reported (λ text. Judges text c.args.wanted old new c.judge.result) input old new c.judge.result c.judge.ensures.judged
     (λ read. ap (λ told. g.W.Write.contents told.inner) (c.judge.ensures.read read).0))
 
 pub returns-else-in_order-clause-cause : goal.returns-else-in_order-clause-cause

@@ -5,4 +5,5 @@ use Rattle.sva_several.proofs.reporting.put_lines.Given as goal
 -- the lines so far, with those of the texts that are left
 abbrev pub invariant-loop-place : goal.invariant-loop-place
 invariant-loop-place l =
-    l.out.items ++ lines_of (drop l.place l.names) (drop l.place l.all) ≡ l.initial.out.items ++ lines_of l.names l.all
+    l.out.items ++ lines_of l.search (drop l.place l.names) (drop l.place l.all)
+    ≡ l.initial.out.items ++ lines_of l.search l.names l.all

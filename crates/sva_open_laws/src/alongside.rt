@@ -31,7 +31,8 @@ pub fn scopes_are_one()
 
 /// After every list of steps, at each unit: at the head of the open world's invalidation queue stands the oldest
 /// descriptor that is queued by names; an ITag is busy there where an invalidation bears it, and the lowest that isn't
-/// is given next; and a wait may leave the queue, draining or not, where it may by the rules of the host.
+/// is given next; a wait may leave the queue, draining or not, where it may by the rules of the host; and there is room
+/// for so many descriptors where there is by these.
 pub fn units_are_one()
     ensures { UnitsAreOne }
 {}

@@ -12,8 +12,10 @@ ghost use Rattle.sva_open_laws.specs.AsOpen.{ClosedIsSafe};
 ghost use Rattle.sva_open_laws.specs.Beside.{RunsBeside};
 ghost use Rattle.sva_open_laws.specs.Shown.{ClosedIsShown, SafeSaysEnough};
 
-pub use alongside::{completions_are_one, orders_are_one, pumps_are_one, resets_are_one, scopes_are_one, steps_are_acts};
-pub use alongside::{strikes_are_one, units_are_one};
+pub use alongside::{
+    completions_are_one, orders_are_one, pumps_are_one, resets_are_one, scopes_are_one,
+    steps_are_acts, strikes_are_one, units_are_one,
+};
 pub use ends::{each_act_is_paid, each_driver_ends, texts_go_forward};
 pub use fresh::numbers_are_fresh;
 pub use pages::{pages_stand_alone, rows_of_pages};

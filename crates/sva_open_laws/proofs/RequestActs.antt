@@ -58,8 +58,7 @@ module _ (ms : Mappings) (fi : FindsMappings ms) (unmade : (m : ℕ) → ms.stat
   -- only the mapping that is there is of the page
   is_there : (m : ℕ) → is_present (ms.state m) ≡ true → is_page s q (mapping_of ms m) ≡ true → ms.at s q ≡ Some m
   is_there m present passes =
-      (fi.at s q m).1
-      (
+      (fi.at s q m).1 (
         present_is (ms.state m) present,
         eqb-true (ms.space m) s (first_holds (ms.space m == s) (ms.page m == q) passes),
         eqb-true (ms.page m) q (second_holds (ms.space m == s) (ms.page m == q) passes),

@@ -11,15 +11,16 @@ use Rattle.sva_step.specs.declared.steps.Step.TheVariants as step
 use Rattle.sva_model.specs.Words.{any_below, is_some, the}
 use Rattle.sva_model.specs.State.{PasidRule, PasidState, RequestState, Subject, UseState, World}
 use Rattle.sva_model.specs.State.RequestState.{Out, Doomed, Over}
-use Rattle.sva_model.specs.State.Subject.{CompletionOf, InvalidateOf, ResponseOf, StartOf}
+use Rattle.sva_model.specs.State.Subject.{CompletionOf, InvalidateOf, PageRequestOf, RequestOf, ResponseOf, StartOf}
 use Rattle.sva_model.specs.State.PasidState.{On}
 use Rattle.sva_model.specs.State.UseState.{Running, Dead, Ended}
-use Rattle.sva_model.specs.States.{is_free, is_on, is_out, is_running, is_taken}
+use Rattle.sva_model.specs.States.{is_free, is_on, is_open, is_out, is_running, is_taken}
 use Rattle.sva_model.specs.Acts.{Act, LocalAct, act}
 use Rattle.sva_model.specs.Acts.Act.{AtEndpoint, Map, NewSpace}
 use Rattle.sva_model.specs.Labels
 use Rattle.sva_model.specs.Refusals.{refusals}
-use Rattle.sva_model.specs.Outcomes.{completion_outcome, deliver_outcome, is_full, keep_outcome, outcome}
+use Rattle.sva_model.specs.Outcomes.{completion_message, completion_outcome, deliver_outcome, found_for, is_full, keep_outcome, outcome}
+use Rattle.sva_model.specs.Outcomes.{page_request_outcome, request_outcome}
 use Rattle.sva_model.specs.Steps.{after_acts, decide, next, reply, world_after}
 use Rattle.sva_labels.proofs.Tests.{first_fails, is_less, second_fails}
 use Rattle.sva_labels.proofs.Words.{any_below-false, lowest_passes, none_is}
@@ -43,6 +44,7 @@ use Rattle.sva_open_laws.specs.AsActs.{has_taken, is_kept_late, is_left_open, pl
 use Rattle.sva_open_laws.specs.AsOpen.{is_doomed, open_of}
 use Rattle.sva_open_laws.specs.LinkOrders.{place_of_message}
 use Rattle.sva_open_laws.proofs.AnswerActs.{forgets, ignores}
+use Rattle.sva_open_laws.proofs.ArrivalActs.{arrives, misses}
 use Rattle.sva_open_laws.proofs.ArriveActs.{answers}
 use Rattle.sva_open_laws.proofs.AskActs.{asks, ends, ends_none}
 use Rattle.sva_open_laws.proofs.BindActs.{binds_open}
@@ -51,6 +53,7 @@ use Rattle.sva_open_laws.proofs.KeepActs.{keeps}
 use Rattle.sva_open_laws.proofs.MapActs.{makes_space, maps}
 use Rattle.sva_open_laws.proofs.PumpSteps.{pumps_acted}
 use Rattle.sva_open_laws.proofs.QueueOrder.{InOrder, always_in_order}
+use Rattle.sva_open_laws.proofs.RequestActs.{drops, requests_answered}
 use Rattle.sva_open_laws.proofs.StartActs.{starts}
 use Rattle.sva_open_laws.proofs.TakeActs.{takes}
 
@@ -186,7 +189,7 @@ answered w n r acts i o s state speaks permitted does is =
         by (LocalAct.Ignore c) (same_Some (its ∷ []) acts is) does (ignores w e c r None i (low None sp) sp pe h)
 
 -- a delivery, by what the message speaks of
-delivers : (w : World) (n : ℕ) (acts : List Doing) → Invariant w → (o : Option Subject)
+delivers : (w : World) (n : ℕ) (acts : List Doing) → Invariant w → FindsMappings w.mappings → (o : Option Subject)
     → (w.part (w.link_of (Labels.name w n))).message (Labels.name w n) ≡ o
     → Labels.is_permitted_now (w.part (w.link_of (Labels.name w n))) (Labels.name w n) o ≡ true
     → (decide w (step.Deliver n)).acts
@@ -195,7 +198,7 @@ delivers : (w : World) (n : ℕ) (acts : List Doing) → Invariant w → (o : Op
     → deliver_acts (w.part (w.link_of (Labels.name w n))) (w.link_of (Labels.name w n))
     (place_of_message w.mappings (w.part (w.link_of (Labels.name w n))) (Labels.name w n)) o ≡ Some acts
     → IsActed w (step.Deliver n) acts
-delivers w n acts i (Some (StartOf b)) speaks permitted does is =
+delivers w n acts i fi (Some (StartOf b)) speaks permitted does is =
     let c = Labels.name w n in
     let e = w.link_of c in
     let its = doing.At e (local.Deliver (place_of_message w.mappings (w.part e) c)) in
@@ -203,7 +206,7 @@ delivers w n acts i (Some (StartOf b)) speaks permitted does is =
     subst (IsActed w (step.Deliver n)) (same_Some (its ∷ []) acts is)
     (by_act w (step.Deliver n) a (its ∷ []) (does ∙ ap (λ z. (deliver_outcome w (w.part e) e c z).acts) speaks)
     (one_acted its (open_of w) (open_of (act w a)) (starts w e c b i ((i.parts e).near c (ap is_some speaks)) speaks permitted)))
-delivers w n acts i (Some (ResponseOf g code)) speaks permitted does is =
+delivers w n acts i fi (Some (ResponseOf g code)) speaks permitted does is =
     let c = Labels.name w n in
     let e = w.link_of c in
     let its = doing.At e (local.Deliver (place_of_message w.mappings (w.part e) c)) in
@@ -212,7 +215,7 @@ delivers w n acts i (Some (ResponseOf g code)) speaks permitted does is =
     (by_act w (step.Deliver n) a (its ∷ []) (does ∙ ap (λ z. (deliver_outcome w (w.part e) e c z).acts) speaks)
     (one_acted its (open_of w) (open_of (act w a))
     (answers w e c g code i ((i.parts e).near c (ap is_some speaks)) speaks permitted)))
-delivers w n acts i (Some (InvalidateOf k)) speaks permitted does is =
+delivers w n acts i fi (Some (InvalidateOf k)) speaks permitted does is =
     let c = Labels.name w n in
     let e = w.link_of c in
     let its = doing.At e (local.Deliver (place_of_message w.mappings (w.part e) c)) in
@@ -223,12 +226,65 @@ delivers w n acts i (Some (InvalidateOf k)) speaks permitted does is =
     (one_acted its (open_of w) (open_of (act w a))
     (takes w e c k i ((i.parts e).near c (ap is_some speaks)) speaks permitted
     (none_newer k (w.part e).orders (λ x. is_taken ((w.part e).order_state x)) early.0))))
-delivers w n acts i (Some (CompletionOf r found)) speaks permitted does is =
+delivers w n acts i fi (Some (RequestOf r)) speaks permitted does is =
+    by_unit (is_open (w.part e).phase) refl (does ∙ ap (λ z. (deliver_outcome w (w.part e) e c z).acts) speaks)
+  where
+    c : ℕ
+    c = Labels.name w n
+
+    e : ℕ
+    e = w.link_of (Labels.name w n)
+
+    its : Doing
+    its = doing.At e (local.Deliver (place_of_message w.mappings (w.part e) c))
+
+    by : (a : LocalAct) → (decide w (step.Deliver n)).acts ≡ AtEndpoint e a ∷ []
+        → next_open (open_of w) its ≡ Some (open_of (act w (AtEndpoint e a))) → IsActed w (step.Deliver n) acts
+    by a does leads =
+        subst (IsActed w (step.Deliver n)) (same_Some (its ∷ []) acts is)
+        (by_act w (step.Deliver n) (AtEndpoint e a) (its ∷ []) does (one_acted its (open_of w) (open_of (act w (AtEndpoint e a))) leads))
+
+    by_unit : (x : Bool) → is_open (w.part e).phase ≡ x
+        → (decide w (step.Deliver n)).acts ≡ (request_outcome w (w.part e) e c r (is_open (w.part e).phase)).acts → IsActed w (step.Deliver n) acts
+    by_unit true h does =
+        let answer = completion_message w ((w.part e).request_tag r) (found_for w (w.part e) r) in
+        by (LocalAct.Complete c r (found_for w (w.part e) r) answer) (does ∙ ap (λ x. (request_outcome w (w.part e) e c r x).acts) h)
+        (requests_answered w e c r i ((i.parts e).near c (ap is_some speaks)) speaks permitted fi h answer)
+    by_unit false h does =
+        by (LocalAct.Ignore c) (does ∙ ap (λ x. (request_outcome w (w.part e) e c r x).acts) h)
+        (drops w e c r i ((i.parts e).near c (ap is_some speaks)) speaks permitted h)
+delivers w n acts i fi (Some (PageRequestOf r)) speaks permitted does is =
+    by_unit (is_open (w.part e).phase) refl (does ∙ ap (λ z. (deliver_outcome w (w.part e) e c z).acts) speaks)
+  where
+    c : ℕ
+    c = Labels.name w n
+
+    e : ℕ
+    e = w.link_of (Labels.name w n)
+
+    its : Doing
+    its = doing.At e (local.Deliver (place_of_message w.mappings (w.part e) c))
+
+    by : (a : LocalAct) → (decide w (step.Deliver n)).acts ≡ AtEndpoint e a ∷ []
+        → next_open (open_of w) its ≡ Some (open_of (act w (AtEndpoint e a))) → IsActed w (step.Deliver n) acts
+    by a does leads =
+        subst (IsActed w (step.Deliver n)) (same_Some (its ∷ []) acts is)
+        (by_act w (step.Deliver n) (AtEndpoint e a) (its ∷ []) does (one_acted its (open_of w) (open_of (act w (AtEndpoint e a))) leads))
+
+    by_unit : (x : Bool) → is_open (w.part e).phase ≡ x
+        → (decide w (step.Deliver n)).acts ≡ (page_request_outcome e c r (is_open (w.part e).phase)).acts → IsActed w (step.Deliver n) acts
+    by_unit true h does =
+        by (LocalAct.Arrive c r) (does ∙ ap (λ x. (page_request_outcome e c r x).acts) h)
+        (arrives w e c r i ((i.parts e).near c (ap is_some speaks)) speaks permitted h)
+    by_unit false h does =
+        by (LocalAct.Miss c r) (does ∙ ap (λ x. (page_request_outcome e c r x).acts) h)
+        (misses w e c r i ((i.parts e).near c (ap is_some speaks)) speaks permitted h)
+delivers w n acts i fi (Some (CompletionOf r found)) speaks permitted does is =
     let c = Labels.name w n in
     let e = w.link_of c in
     answered w n r acts i found ((w.part e).request r) refl speaks permitted
     (does ∙ ap (λ z. (deliver_outcome w (w.part e) e c z).acts) speaks) is
-delivers w n acts i o speaks permitted does is = absurd (grind arith)
+delivers w n acts i fi o speaks permitted does is = absurd (grind arith)
 
 -- what holds after every list of steps
 record Stands (w : World) : Type 0 where
@@ -292,7 +348,7 @@ steps w (step.Evict e t q) said acts i fi st h is =
 steps w (step.Deliver n) said acts i fi st h is =
     let yes = accepted (refusals w (step.Deliver n)) (outcome w (step.Deliver n)) said h in
     let p = w.part (w.link_of (Labels.name w n)) in
-    delivers w n acts i (p.message (Labels.name w n)) refl (not-false (Labels.is_permitted_now p (Labels.name w n) (p.message (Labels.name w n))) yes.0.1.0)
+    delivers w n acts i fi (p.message (Labels.name w n)) refl (not-false (Labels.is_permitted_now p (Labels.name w n) (p.message (Labels.name w n))) yes.0.1.0)
     yes.2 is
 steps w (step.Pump e) said acts i fi st h is =
     let yes = accepted (refusals w (step.Pump e)) (outcome w (step.Pump e)) said h in

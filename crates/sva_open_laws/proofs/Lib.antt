@@ -1,5 +1,6 @@
 pub mod ActParts
 pub mod AnswerActs
+pub mod ArrivalActs
 pub mod ArriveActs
 pub mod AsActs
 pub mod AskActs
@@ -41,6 +42,7 @@ pub mod PumpActs
 pub mod PumpSteps
 pub mod QueueOrder
 pub mod QueueSteps
+pub mod RequestActs
 pub mod Safety
 pub mod Shown
 pub mod StartActs

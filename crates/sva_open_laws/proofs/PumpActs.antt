@@ -1,7 +1,8 @@
 -- What a unit takes from its queue is taken so in the open world.
 use Rattle.std.proofs.Common.{◌≡◌, ◌≢◌, ◌⊎◌, inl, inr, refl, ap, ap₂, sym, subst, ◌∙◌, ℕ, ◌+◌, ◌<◌, ◌≤◌, Bool, true, false, arith}
-use Rattle.std.specs.Prelude.{◌==◌, ◌&&◌, ◌||◌, not, if◌then◌else◌, List, [], ◌∷◌, ◌++◌, Option, Some, None, length, remove, slice_get}
+use Rattle.std.specs.Prelude.{◌==◌, ◌&&◌, ◌||◌, not, if◌then◌else◌, List, [], ◌∷◌, ◌++◌, Option, Some, None, length, nat_le, nat_lt, remove, slice_get}
 use Rattle.std.proofs.lemmas.Bool.{cases_lt, not-true}
+use Rattle.std.proofs.lemmas.Bool.Decides.{nat_tests}
 use Rattle.sva_model.specs.Words.{any_below, put}
 use Rattle.sva_model.specs.State.{Endpoint, Order, OrderState, Subject, World}
 use Rattle.sva_model.specs.State.Order.{RangeOf, PasidOf, Wait}
@@ -14,6 +15,7 @@ use Rattle.sva_model.specs.Acts.{LocalAct, act, act_alone}
 use Rattle.sva_model.specs.Acts.Act.{AtEndpoint}
 use Rattle.sva_model.specs.Labels
 use Rattle.sva_model.specs.Outcomes as model
+use Rattle.sva_model.specs.Refusals.{is_queue_short}
 use Rattle.sva_laws.specs.UnderWay.{completions, left_of, names_order}
 use Rattle.sva_labels.proofs.Words.{ℕ_cases, any_below-false, put-same, put-other}
 use Rattle.sva_labels.proofs.Tests.{first_holds}
@@ -25,6 +27,7 @@ use Rattle.sva_open.specs.declared.descriptors.Descriptor.TheVariants as descrip
 use Rattle.sva_open.specs.declared.descriptors.Issued.{Issued}
 use Rattle.sva_open.specs.declared.descriptors.Issued.TheVariants as issued
 use Rattle.sva_open.specs.declared.messages.Message.TheVariants as message
+use Rattle.sva_open.specs.Host.{may_submit}
 use Rattle.sva_open.specs.World.{Part, if_so}
 use Rattle.sva_open.specs.Units.{free_itag, is_out_before, issue, may_pass, pass, pump, pump_head, shifted, waited}
 use Rattle.sva_open_laws.specs.AsOpen.{arrived_of, descriptor_of, flying_of, gather, one, open_of, part_of, scope_of, taken_of, time_by}
@@ -100,6 +103,18 @@ may_alike w e drain fence =
   where
     p : Endpoint
     p = w.part e
+
+-- whether there is room for more
+pub room_alike : (w : World) (e : ℕ) (descriptors : List Descriptor)
+    → may_submit (shown w e) descriptors ≡ (is_open (w.part e).phase && not (is_queue_short (w.part e) (length descriptors)))
+room_alike w e descriptors =
+    ap (λ b. is_open (w.part e).phase && b)
+    (ap (λ n. nat_le (n + length descriptors) 64)
+    (length_so (w.part e).orders (λ j. is_queued ((w.part e).order_state j)) (λ j. descriptor_of e (w.part e) ((w.part e).order j)))
+    ∙ turned (Labels.queue_length (w.part e)) (length descriptors))
+  where
+    turned : (n m : ℕ) → nat_le (n + m) 64 ≡ not (nat_lt 64 (n + m))
+    turned n m = grind (arith, nat_tests)
 
 -- the head of an open unit's queue
 pub by_head : (w : World) (e : ℕ) → (w.part e).phase ≡ Open

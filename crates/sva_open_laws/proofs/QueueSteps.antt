@@ -34,7 +34,7 @@ use Rattle.sva_open_laws.specs.Queues.{IsPumpedAlike, IsUnitAlike, PumpsAreOne, 
 use Rattle.sva_open_laws.proofs.Gathered.{first_gathered}
 use Rattle.sva_open_laws.proofs.GatherLists.{gather_none}
 use Rattle.sva_open_laws.proofs.LinkLists.{any_gathered, or_false}
-use Rattle.sva_open_laws.proofs.PumpActs.{busy_at, by_head, may_alike, passed_seen, passes, passes_none, queued_at, sends, sends_none, sent_seen}
+use Rattle.sva_open_laws.proofs.PumpActs.{busy_at, by_head, may_alike, passed_seen, passes, passes_none, queued_at, room_alike, sends, sends_none, sent_seen}
 use Rattle.sva_open_laws.proofs.QueueOrder.{InOrder, always_in_order}
 use Rattle.sva_open_laws.proofs.UnitLists.{lowest_free_itag}
 
@@ -111,6 +111,7 @@ unit_alike w e i =
       busy = busy_alike w e i;
       free = lowest_free_itag (shown w e).issued 32 (w.part e).at_itag (busy_alike w e i);
       passes = may_alike w e;
+      room = room_alike w e;
     }
 
 pub units_are_one : UnitsAreOne

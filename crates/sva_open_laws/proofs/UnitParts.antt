@@ -9,18 +9,18 @@ use Rattle.sva_model.specs.State.OrderState.{Queued, Sent, Taken, Lapsed, Comple
 use Rattle.sva_model.specs.State.Owed.{Nothing, Ranges, Pasid, NextReset}
 use Rattle.sva_model.specs.State.Subject.{StartOf, StopOf, FunctionReset, CompletionOf, InvalidateOf, ResponseOf, RequestOf, InvalidatedOf}
 use Rattle.sva_model.specs.State.Subject.{PageRequestOf, MarkerOf, ResetDone}
-use Rattle.sva_model.specs.States.{answered, is_busy, is_done, is_queued, is_running}
+use Rattle.sva_model.specs.States.{answered, is_arrived, is_busy, is_done, is_queued, is_running}
 use Rattle.sva_labels.proofs.Lists.{all_same, tabulate_same}
 use Rattle.sva_open.specs.declared.descriptors.Issued.TheVariants as issued
 use Rattle.sva_open.specs.declared.messages.Message.TheVariants as message
 use Rattle.sva_open.specs.declared.scopes.Scope.{Scope}
 use Rattle.sva_open.specs.declared.works.Work.{Work}
 use Rattle.sva_open.specs.declared.works.Work.TheVariants.{Taken as Busy}
-use Rattle.sva_open_laws.specs.AsOpen.{descriptor_of, ended_of, flying_of, gather, held_of, if_there, one, owner_by, part_of}
+use Rattle.sva_open_laws.specs.AsOpen.{arrived_of, descriptor_of, ended_of, flying_of, gather, held_of, if_there, one, owner_by, part_of}
 use Rattle.sva_open_laws.specs.AsOpen.{request_of, row_at, scope_of, state_of, taken_of, use_of, user_by, user_of, where_so}
 use Rattle.sva_open_laws.proofs.GatherLists.{gather_same}
 
--- an endpoint with the orders of another one, and what it has asked for and holds
+-- an endpoint with the orders of another one, what it has asked for and holds, and what stands in its page request queue
 abbrev pub ordering : Endpoint → Endpoint → Endpoint
 ordering p q =
     record p {
@@ -32,6 +32,10 @@ ordering p q =
       invalidate_message = q.invalidate_message;
       itag = q.itag;
       at_itag = q.at_itag;
+      page_request = q.page_request;
+      arrivals = q.arrivals;
+      arrival = q.arrival;
+      arrived_as = q.arrived_as;
       message = q.message;
       carried = q.carried;
     }
@@ -85,6 +89,7 @@ pub seen : (w : World) (e m : ℕ) (p q : Endpoint)
           ++ gather p.orders (λ k. taken_of (ordering p q) (q.order_state k) k);
       queue = gather p.orders (λ k. where_so (is_queued (q.order_state k)) (descriptor_of e p (p.order k)));
       issued = gather p.orders (λ k. where_so (is_busy (q.order_state k)) (issued.Sent e (q.itag k)));
+      arrived = gather q.arrivals (λ k. where_so (is_arrived (q.page_request (q.arrival k))) (arrived_of e p (q.arrival k)));
       flight = gather m (λ c. flying_of w.mappings (ordering p q) (q.message c));
     }
 seen w e m p q =

@@ -9,7 +9,7 @@ use Rattle.sva_step.specs.declared.steps.Step.TheVariants as step
 use Rattle.sva_model.specs.Words.{any_below, count_below, is_some, select, the}
 use Rattle.sva_model.specs.State.{Endpoint, PasidRule, RequestState, Subject, UseState, World}
 use Rattle.sva_model.specs.State.RequestState.{Out}
-use Rattle.sva_model.specs.State.Subject.{CompletionOf, InvalidateOf, ResponseOf, StartOf}
+use Rattle.sva_model.specs.State.Subject.{CompletionOf, InvalidateOf, PageRequestOf, RequestOf, ResponseOf, StartOf}
 use Rattle.sva_model.specs.State.UseState.{Running}
 use Rattle.sva_model.specs.States.{is_free, is_running, is_taken}
 use Rattle.sva_model.specs.Labels.{lowest_frame, name, pasid_for}
@@ -77,11 +77,13 @@ abbrev pub is_left_open : Endpoint → (request : ℕ) → (found : Option ℕ) 
 is_left_open part request (Some mapping) Out = is_full part request || is_kept_late part request
 is_left_open part request found state = false
 
--- of deliveries it is said of a start, a response, an invalidation, and the answer to a translation request
+-- of deliveries it is said of a start, a response, an invalidation, a page request, a translation request, and the answer to one
 abbrev pub deliver_acts : Endpoint → (endpoint place : ℕ) → Option Subject → Option (List Act)
 deliver_acts part endpoint place (Some (StartOf binding)) = Some (act.At endpoint (local.Deliver place) ∷ [])
 deliver_acts part endpoint place (Some (ResponseOf group code)) = Some (act.At endpoint (local.Deliver place) ∷ [])
 deliver_acts part endpoint place (Some (InvalidateOf order)) = unless_so (comes_late part order) (act.At endpoint (local.Deliver place) ∷ [])
+deliver_acts part endpoint place (Some (RequestOf request)) = Some (act.At endpoint (local.Deliver place) ∷ [])
+deliver_acts part endpoint place (Some (PageRequestOf request)) = Some (act.At endpoint (local.Deliver place) ∷ [])
 deliver_acts part endpoint place (Some (CompletionOf request found)) =
     unless_so (is_left_open part request found (part.request request)) (act.At endpoint (local.Deliver place) ∷ [])
 deliver_acts part endpoint place _ = None

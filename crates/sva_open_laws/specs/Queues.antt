@@ -1,6 +1,6 @@
 -- A unit's invalidation queue with its waits and ITags, and what an invalidation strikes: of a world that is read off each rule of the
 -- open world comes to what MODEL's does.
-use Rattle.std.specs.Prelude.{◌≡◌, ℕ, ◌&&◌, not, Bool, true, false, List, [], ◌∷◌, map, Option, Some, None, option_map, Ok, slice_get}
+use Rattle.std.specs.Prelude.{◌≡◌, ℕ, ◌&&◌, not, Bool, true, false, List, [], ◌∷◌, length, map, Option, Some, None, option_map, Ok, slice_get}
 use Rattle.std.specs.List.{list_any}
 use Rattle.sva_step.specs.Limits
 use Rattle.sva_step.specs.declared.answers.Answer.{Answer}
@@ -14,12 +14,14 @@ use Rattle.sva_model.specs.State.Subject.{InvalidateOf, InvalidatedOf, ResetDone
 use Rattle.sva_model.specs.States.{is_open, is_queued}
 use Rattle.sva_model.specs.StateChanges.{is_last_left}
 use Rattle.sva_model.specs.Outcomes as model
+use Rattle.sva_model.specs.Refusals.{is_queue_short}
 use Rattle.sva_model.specs.Steps.{next, reply, world_after}
 use Rattle.sva_laws.specs.UnitSteps.{Delivers}
+use Rattle.sva_open.specs.declared.descriptors.Descriptor.{Descriptor}
 use Rattle.sva_open.specs.declared.scopes.Scope.{Scope}
 use Rattle.sva_open.specs.World.{Part}
 use Rattle.sva_open.specs.Devices.{invalidated}
-use Rattle.sva_open.specs.Host.{reopen}
+use Rattle.sva_open.specs.Host.{may_submit, reopen}
 use Rattle.sva_open.specs.Units.{complete_itag, free_itag, has_itag, may_pass, pump}
 use Rattle.sva_open_laws.specs.AsOpen.{descriptor_of, open_of, part_of, scope_of}
 
@@ -45,6 +47,11 @@ pub record IsUnitAlike (world : World) (endpoint : ℕ) : Type 0 where
   pub passes :
       (drain fence : Bool)
       → may_pass (open_of world).settings (shown world endpoint) drain fence ≡ model.may_pass (world.part endpoint) drain
+  -- whether an open unit has room for so many descriptors more
+  pub room :
+      (descriptors : List Descriptor)
+      → may_submit (shown world endpoint) descriptors
+      ≡ (is_open (world.part endpoint).phase && not (is_queue_short (world.part endpoint) (length descriptors)))
 
 abbrev pub UnitsAreOne : Type 0
 UnitsAreOne = (rule : PasidRule) (config : Config) (steps : List Step) (endpoint : ℕ) → IsUnitAlike (world_after rule config steps) endpoint

@@ -6,10 +6,11 @@ ghost use Rattle.sva_open_laws.specs.LinkOrders.{DeliveriesAreOne, OrdersAreOne}
 ghost use Rattle.sva_open_laws.specs.Queues.{CompletionsAreOne, PumpsAreOne, ResetsAreOne, StrikesAreOne, UnitsAreOne};
 
 /// After every list of steps, an accepted step that makes a space, maps a page, binds a space, pumps, asks for a
-/// translation, begins a use while no invalidation is taken, ends one, evicts a translation, looks, or delivers a start,
-/// a response, an invalidation behind which no newer one is taken, or the answer to a request, but one that comes to a
-/// full cache or behind a newer one that is held, is so many acts of the open world: each is permitted where it comes,
-/// in the world seen as an open one, and they leave all that the step leaves.
+/// translation, begins a use while no invalidation is taken, ends one, evicts a translation, looks, or delivers a
+/// start, a response, a page request, a translation request, an invalidation behind which no newer one is taken, or the
+/// answer to a translation request, but one that comes to a full cache or behind a newer one that is held, is so many
+/// acts of the open world: each is permitted where it comes, in the world seen as an open one, and they leave all that
+/// the step leaves.
 pub fn steps_are_acts()
     ensures { StepsAreActs }
 {}
@@ -29,8 +30,9 @@ pub fn scopes_are_one()
 {}
 
 /// After every list of steps, at each unit: at the head of the open world's invalidation queue stands the oldest
-/// descriptor that is queued by names; an ITag is busy there where an invalidation bears it, and the lowest that isn't is
-/// given next; and a wait may leave the queue, draining or not, where it may by the rules of the host.
+/// descriptor that is queued by names; an ITag is busy there where an invalidation bears it, and the lowest that isn't
+/// is given next; a wait may leave the queue, draining or not, where it may by the rules of the host; and there is room
+/// for so many descriptors where there is by these.
 pub fn units_are_one()
     ensures { UnitsAreOne }
 {}

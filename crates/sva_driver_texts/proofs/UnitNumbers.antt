@@ -1,5 +1,5 @@
 -- Endpoints below units of their own, and one more.
-use Rattle.std.proofs.Common.{◌≡◌, ℕ, zero, suc, List, [], ◌∷◌, ◌++◌, refl, ap, arith, ◌∙◌}
+use Rattle.std.proofs.Common.{◌≡◌, ℕ, suc, List, [], ◌∷◌, ◌++◌, refl, ap, arith, ◌∙◌}
 use Rattle.std.specs.Prelude.{◌+◌}
 use Rattle.sva_driver_texts.specs.Units.{numbers_below}
 

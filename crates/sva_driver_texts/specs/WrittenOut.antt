@@ -14,7 +14,6 @@ use Rattle.sva_race_texts.specs.Words.{word_at}
 use Rattle.sva_race_texts.specs.declared.faults.RaceWanted.TheVariants as race
 use Rattle.sva_driver_words.specs.Faults.{fault_text}
 use Rattle.sva_driver_words.specs.Fields.{has_word, says, times_at}
-use Rattle.sva_driver_words.specs.declared.faults.DriverWanted.{DriverWanted}
 use Rattle.sva_driver_words.specs.declared.faults.DriverWanted.TheVariants as wanted
 use Rattle.sva_driver_words.specs.declared.faults.DriverWrong.{DriverWrong}
 use Rattle.sva_driver_words.specs.declared.written.WrittenWanted.{WrittenWanted}

@@ -10,7 +10,7 @@ returns-in-Ok-set_units c =
     (c.in-Ok-set_units.ensures
     ∙ (λ i. record c.args.reading.now { units = c.in-Ok.units.items; set = c.args.reading.now.set ++ c.word_at.ensures i ∷ [] }))
 
-pub returns-in-Err-units_in : goal.returns-in-Err-units_in
-returns-in-Err-units_in c =
+pub returns-in-Err : goal.returns-in-Err
+returns-in-Err c =
     let words = map {A = Bor (List ℕ)} {B = List ℕ} (λ word. word.now) c.args.words.now in
-    unit_fails c.args.config.now c.args.reading.now words c.in-Err-units_in.why c.in-Err-units_in.ensures
+    unit_fails c.args.config.now c.args.reading.now words c.in-Err.why c.in-Err.ensures

@@ -31,7 +31,7 @@ use Rattle.sva_driver_reports.proofs.Witnesses.{IsFit, fits, leak_told, walked}
 -- what is told of a finding, with its lines
 abbrev found_by : Text → Finding → (count : ℕ) → (lines : List ℕ) → List ℕ
 found_by text one count lines =
-    (codes "unsafe in " ++ events_count count ++ codes ": " ++ wrong_text one.wrong ++ 10 ∷ []) ++ front_text text ++ lines
+    (codes "unsafe in " ++ events_count count ++ codes ": " ++ wrong_text one.wrong ++ 10 ∷ []) ++ (front_text text ++ lines)
 
 tells : (text : Text) (one : Finding) → IsFit text → Shows text.driver one.wrong one.witness.items → TellsFinding text one (found_text text false one)
 tells text one fit shows =

@@ -29,7 +29,8 @@ use Rattle.sva_driver_texts.specs.Blocks.{BlockSaid, branched}
 use Rattle.sva_driver_texts.specs.Readings.{Reading, act_line, begins_branch, behind, behind_lines, behind_words, branch_line, device_line, headed}
 use Rattle.sva_driver_texts.specs.Readings.{heading_line, is_misspelt, is_of_act}
 use Rattle.sva_driver_texts.specs.Readings.{line_by, nothing, other_before, other_behind, other_line, race_line, role_of, set_line}
-use Rattle.sva_driver_texts.specs.Readings.{is_of_endpoint, is_of_unit, is_told, is_word, thread_of, told_by, told_by_parts, with_wrong_block, workers_line}
+use Rattle.sva_driver_texts.specs.Readings.{is_of_endpoint, is_of_unit, is_told, is_word, thread_of, told_by, told_by_parts, unit_line, with_wrong_block, workers_line}
+use Rattle.sva_driver_texts.specs.Units.{units_of, units_or_own}
 use Rattle.sva_driver_texts.specs.Devices.{DeviceSaid, setting_line}
 use Rattle.sva_driver_texts.specs.WrittenOut.{Worded, written_out}
 use Rattle.sva_driver_texts.specs.Texts.{DriverRead, IsRead, LineTold, driver_behind, driver_of, driver_read, driver_written, if_right, told_of, told_seen}
@@ -101,19 +102,27 @@ act_good : (config : Config) (reading : Reading) (number : ℕ) (parts : Parts) 
 act_good config reading number parts thread good all one =
     bound _ _ (λ saying. right _ (tidy_more reading.lines _ good.0 one (joined_one parts.step all), good.1))
 
-set_good : (reading : Reading) (words : List (List ℕ)) → Good reading → IsGood (set_line reading words)
-set_good reading words good =
+unit_good : (config : Config) (reading : Reading) (words : List (List ℕ)) → Good reading → IsGood (unit_line config reading words)
+unit_good config reading words good =
+    bound (units_of config (units_or_own config reading.units) words)
+    (λ (units : List ℕ). Ok (record reading { units = units; set = reading.set ++ word_at 0 words ∷ [] }))
+    (λ (units : List ℕ). right (record reading { units = units; set = reading.set ++ word_at 0 words ∷ [] }) good)
+
+set_good : (config : Config) (reading : Reading) (words : List (List ℕ)) → Good reading → IsGood (set_line config reading words)
+set_good config reading words good =
     let read : Result Reading DriverWrong = setting_line reading.settings words
     >>= λ settings. Ok (record reading { settings = settings; set = reading.set ++ word_at 0 words ∷ [] }) in
     let ahead : Result Reading DriverWrong =
     if says 0 (codes "platform") words && nat_lt 0 (length reading.set) then wrong_at 0 wanted.Ahead else read in
     let once : Result Reading DriverWrong = if list_any (is_word (word_at 0 words)) reading.set then wrong_at 0 wanted.OneLine else ahead in
-    one_of (nat_lt 0 (length reading.lines)) (wrong_at 0 wanted.Earlier) once (wrong (record { at = 0; wanted = wanted.Earlier }))
+    let shares : Result Reading DriverWrong = if says 0 (codes "unit") words then unit_line config reading words else once in
+    one_of (nat_lt 0 (length reading.lines)) (wrong_at 0 wanted.Earlier) shares (wrong (record { at = 0; wanted = wanted.Earlier }))
+    (one_of (says 0 (codes "unit") words) (unit_line config reading words) once (unit_good config reading words good)
     (one_of (list_any (is_word (word_at 0 words)) reading.set) (wrong_at 0 wanted.OneLine) ahead (wrong (record { at = 0; wanted = wanted.OneLine }))
     (one_of (says 0 (codes "platform") words && nat_lt 0 (length reading.set)) (wrong_at 0 wanted.Ahead) read
     (wrong (record { at = 0; wanted = wanted.Ahead }))
     (bound (setting_line reading.settings words) (λ settings. Ok (record reading { settings = settings; set = reading.set ++ word_at 0 words ∷ [] }))
-    (λ settings. right (record reading { settings = settings; set = reading.set ++ word_at 0 words ∷ [] }) good))))
+    (λ settings. right (record reading { settings = settings; set = reading.set ++ word_at 0 words ∷ [] }) good)))))
 
 workers_good : (reading : Reading) (words : List (List ℕ)) → Good reading → IsGood (workers_line reading words)
 workers_good reading words good = one_of _ _ _ (wrong _) (bound _ _ (λ workers. right _ good))
@@ -146,8 +155,8 @@ branch_good reading words good =
     bound _ _ (λ done. bound (branched reading.blocks thread (word_at 0 words)) (λ (blocks : List BlockSaid). Ok (record reading { blocks = blocks }))
     (λ (blocks : List BlockSaid). right (record reading { blocks = blocks }) good))
 
-before_good : (reading : Reading) (words : List (List ℕ)) → Good reading → IsGood (other_before reading words)
-before_good reading words good = one_of _ _ _ (set_good reading words good) (wrong _)
+before_good : (config : Config) (reading : Reading) (words : List (List ℕ)) → Good reading → IsGood (other_before config reading words)
+before_good config reading words good = one_of _ _ _ (set_good config reading words good) (wrong _)
 
 behind_good : (reading : Reading) (words : List (List ℕ)) → Good reading → AreOneLines words → IsGood (other_behind reading words)
 behind_good reading words good all = one_of _ _ _ (heading_good reading words good all) (wrong _)
@@ -157,7 +166,7 @@ other_good config reading words good all =
     one_of (begins_branch (word_at 0 words)) _ _ (branch_good reading words good)
     (one_of _ _ _ (workers_good reading words good) (one_of _ _ _ (device_good config reading words good)
     (one_of _ _ _ (race_good reading words good)
-    (one_of _ _ _ (behind_good reading words good all) (before_good reading words good)))))
+    (one_of _ _ _ (behind_good reading words good all) (before_good config reading words good)))))
 
 line_good : (config : Config) (reading : Reading) (number : ℕ) (words : List (List ℕ)) → Good reading → AreOneLines words
     → IsGood (line_by config reading number words (parts_of words))

@@ -198,5 +198,6 @@ pub(crate) fn put_front(alloc: Global, out: &mut Vec<u8>, text: &Text) -> Result
     put_workers(out, text.driver.workers)?;
     put_conducts(out, text.driver.start.parts.as_slice())?;
     put_befores(alloc, out, text)?;
-    out.extend_from_slice(b"# race\n")
+    out.extend_from_slice(b"# race\n")?;
+    Ok(())
 }

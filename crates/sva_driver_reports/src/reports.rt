@@ -1,6 +1,6 @@
 //! The report of a driver that was judged.
 
-ghost use Rattle.std.specs.Prelude.{◌≡◌, ◌++◌, IfOk, OnOk, flat_map, length};
+ghost use Rattle.std.specs.Prelude.{◌≡◌, ◌++◌, IfOk, None, OnOk, Some, flat_map, length};
 ghost use Rattle.sva_open_safe.specs.Wrongs as wrongs;
 ghost use Rattle.sva_driver_reports.specs.Reports as reports;
 
@@ -207,22 +207,31 @@ fn put_each_found(
     Ok(())
 }
 
-/// Appends of which findings there are no more: of all, or of those in fewer events than those behind which the search
-/// was cut off.
+/// Appends that there are no more findings.
+fn put_all_told(out: &mut Vec<u8>, moments: usize) -> Result<(), AllocError>
+    ensures { OnOk result (out.new.items ≡ out.old.items ++ reports.no_more_text None moments) }
+{
+    out.extend_from_slice(b" in all ")?;
+    put_counted(out, moments as u64, "moment", "moments")
+}
+
+/// Appends that there are no more findings in fewer events than those behind which the search was cut off.
+fn put_not_all(out: &mut Vec<u8>, moments: usize, events: usize) -> Result<(), AllocError>
+    ensures { OnOk result (out.new.items ≡ out.old.items ++ reports.no_more_text (Some events) moments) }
+{
+    out.extend_from_slice(b", cut off at ")?;
+    put_counted(out, moments as u64, "moment", "moments")?;
+    out.extend_from_slice(b": no other in fewer than ")?;
+    put_event_count(out, events)
+}
+
+/// Appends of which findings there are no more.
 fn put_no_more(out: &mut Vec<u8>, cut: Option<usize>, moments: usize) -> Result<(), AllocError>
     ensures { OnOk result (out.new.items ≡ out.old.items ++ reports.no_more_text cut moments) }
 {
     match cut {
-        None => {
-            out.extend_from_slice(b" in all ")?;
-            put_counted(out, moments as u64, "moment", "moments")
-        }
-        Some(events) => {
-            out.extend_from_slice(b", cut off at ")?;
-            put_counted(out, moments as u64, "moment", "moments")?;
-            out.extend_from_slice(b": no other in fewer than ")?;
-            put_event_count(out, events)
-        }
+        None => put_all_told(out, moments),
+        Some(events) => put_not_all(out, moments, events),
     }
 }
 
@@ -236,7 +245,8 @@ fn put_last(
 {
     put_counted(out, count as u64, "finding", "findings")?;
     put_no_more(out, cut, moments)?;
-    out.extend_from_slice(b"; what is behind a finding was not searched\n")
+    out.extend_from_slice(b"; what is behind a finding was not searched\n")?;
+    Ok(())
 }
 
 /// Appends all findings, and how many there are.

@@ -1,6 +1,6 @@
 -- What is told of a driver of which all findings are wanted is so.
 use Rattle.std.proofs.Common.{◌≡◌, ◌∙◌, ◌⊎◌, ap, inl, inr, refl, subst, sym, ℕ, suc, List, [], ◌∷◌, ◌++◌, Bool, true, false, length}
-use Rattle.std.proofs.Common.{Option, Some, None, Result, Ok, Err}
+use Rattle.std.proofs.Common.{Some, Result, Ok, Err}
 use Rattle.std.specs.Prelude.{codes, flat_map, if◌then◌else◌, slice_get}
 use Rattle.sva_judge.specs.Findings.{Shows}
 use Rattle.sva_judge.specs.Spots.{Spot, start_of}

@@ -1,16 +1,16 @@
 -- Nor has a line of a text that was read, or its thread; so what is told of an event has none.
-use Rattle.std.proofs.Common.{◌≡◌, ◌∙◌, ap, refl, subst, sym, ℕ, zero, suc, ◌+◌, ◌==◌, ◌||◌, Bool, true, false, List, [], ◌∷◌, ◌++◌}
-use Rattle.std.proofs.Common.{codes, decimal, drop, take, Option, Some, None, Result, Ok, Err}
+use Rattle.std.proofs.Common.{◌≡◌, refl, subst, sym, ℕ, zero, suc, ◌==◌, Bool, true, false, List, [], ◌∷◌, ◌++◌}
+use Rattle.std.proofs.Common.{codes, decimal, Option, Some, None, Result, Ok, Err}
 use Rattle.std.proofs.lemmas.Option.{same_Some}
-use Rattle.std.specs.List.{enumerate_from, list_any, onto_first, position}
+use Rattle.std.specs.List.{list_any}
 use Rattle.std.specs.Str.{bytes_eq}
-use Rattle.std.specs.Prelude.{◌&&◌, flat_map, if◌then◌else◌, length, map, nat_lt, slice_get, slice_set}
+use Rattle.std.specs.Prelude.{◌&&◌, if◌then◌else◌, length, map, nat_lt, slice_get, slice_set}
 use Rattle.sva_step.specs.declared.limits.Config.{Config}
 use Rattle.sva_grammar.specs.Configs.{is_fit}
-use Rattle.sva_grammar.specs.Grammar.{◌>>=◌, is_too_large, lines_of, words_of}
-use Rattle.sva_script.specs.Lines.{Parts, begins_comment, is_arrow, name_before, parts_by, parts_of, said, said_alone, script_words, split_at}
+use Rattle.sva_grammar.specs.Grammar.{◌>>=◌, is_too_large, lines_of}
+use Rattle.sva_script.specs.Lines.{Parts, parts_of, said, script_words}
 use Rattle.sva_script.specs.Names.{Known}
-use Rattle.sva_script_reading.specs.Begins.{Line, config_at, config_in, config_with, joined_words, lines_from}
+use Rattle.sva_script_reading.specs.Begins.{Line, config_at, config_in, config_with, lines_from}
 use Rattle.sva_script_reading.specs.Faults.{Fault}
 use Rattle.sva_race_texts.specs.Limits.{limits_text}
 use Rattle.sva_race_texts.specs.Words.{word_at}
@@ -43,7 +43,7 @@ use Rattle.sva_driver_reports.specs.Witness.{EventSaid, act_event, answer_of, ev
 use Rattle.sva_driver_reports.specs.Witnesses.{IsOneLine}
 use Rattle.sva_driver_reports.proofs.TextLines.{AreOneLines, joined_one, lines_one, parts_one, word_one}
 use Rattle.sva_driver_reports.proofs.WrittenLines.{AreFound, AreLines, AreWorded, numbered_one, written_one}
-use Rattle.sva_driver_reports.proofs.OneLines.{act_one, answer_one, both, decimal_one, either, none_of, who_one}
+use Rattle.sva_driver_reports.proofs.OneLines.{act_one, answer_one, both, decimal_one, either, who_one}
 
 -- ---- Whose a line is
 

@@ -1,10 +1,10 @@
 -- What is told of a driver that is unsafe is so.
-use Rattle.std.proofs.Common.{◌≡◌, ◌∙◌, ◌⊎◌, ◌<◌, ◌≤◌, ap, arith, inl, inr, refl, subst, sym, ℕ, zero, suc, List, [], ◌∷◌, ◌++◌}
+use Rattle.std.proofs.Common.{◌≡◌, ◌∙◌, ◌⊎◌, ◌≤◌, ap, arith, inl, inr, refl, subst, sym, ℕ, zero, suc, List, [], ◌∷◌, ◌++◌}
 use Rattle.std.proofs.Common.{Bool, true, false, length, Option, Some, None, Result, Ok, Err}
 use Rattle.std.proofs.lemmas.List.{length-map}
 use Rattle.std.proofs.lemmas.Option.{same_Some}
 use Rattle.std.specs.Global.{Global}
-use Rattle.std.specs.Prelude.{Vec, ◌-◌, codes, flat_map, if◌then◌else◌, map, replicate, slice_get}
+use Rattle.std.specs.Prelude.{Vec, ◌-◌, codes, flat_map, if◌then◌else◌, replicate, slice_get}
 use Rattle.sva_grammar.specs.Grammar.{◌>>=◌}
 use Rattle.sva_grammar.specs.Replies.{ended}
 use Rattle.sva_search.specs.Rules.{run_from}

@@ -1,7 +1,7 @@
 -- Nor has a word of a line that is written out, since it stands in the text.
-use Rattle.std.proofs.Common.{◌≡◌, refl, ℕ, zero, suc, Bool, true, false, List, [], ◌∷◌, ◌++◌, drop, take, Option, Some, None, Result, Ok, Err}
-use Rattle.std.specs.List.{enumerate_from, find, list_any, position}
-use Rattle.std.specs.Prelude.{◌&&◌, ◌==◌, ◌+◌, ◌-◌, codes, if◌then◌else◌, length, map, slice_get, slice_index_or}
+use Rattle.std.proofs.Common.{ℕ, zero, suc, Bool, true, false, List, [], ◌∷◌, ◌++◌, drop, take, Option, Some, None, Result, Ok, Err}
+use Rattle.std.specs.List.{enumerate_from, position}
+use Rattle.std.specs.Prelude.{◌==◌, ◌+◌, ◌-◌, codes, if◌then◌else◌, length, map, slice_get, slice_index_or}
 use Rattle.std.specs.Str.{bytes_eq}
 use Rattle.sva_script.specs.Lines.{parts_of, script_words, step_begins}
 use Rattle.sva_script_reading.specs.Begins.{Line}

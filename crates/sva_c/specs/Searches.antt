@@ -1,6 +1,6 @@
 -- What a call comes to that judges a driver, takes its lines, or explores a race. A text may have several reports, since
 -- of several shortest witnesses one is told.
-use Rattle.std.specs.Prelude.{◌⊎◌, ℕ, Bool, false, List, Option, Some, None}
+use Rattle.std.specs.Prelude.{◌⊎◌, ℕ, false, List, Option, Some, None}
 use Rattle.sva_race_reports.specs.declared.judging.Judged.{Judged}
 use Rattle.sva_race_reports.specs.declared.judging.Judged.TheVariants.{Holds, Fails, Unknown}
 use Rattle.sva_race_reports.specs.declared.searching.Wanted.{Wanted}

@@ -1,8 +1,7 @@
 -- What is told of a driver of which all findings are wanted is so.
-use Rattle.std.proofs.Common.{◌≡◌, ◌∙◌, ◌⊎◌, ap, append_assoc, inl, inr, refl, subst, sym, ℕ, suc, List, [], ◌∷◌, ◌++◌, Bool, true, false, length}
+use Rattle.std.proofs.Common.{◌≡◌, ◌∙◌, ◌⊎◌, ap, inl, inr, refl, subst, sym, ℕ, suc, List, [], ◌∷◌, ◌++◌, Bool, true, false, length}
 use Rattle.std.proofs.Common.{Some, Result, Ok, Err}
 use Rattle.std.specs.Prelude.{codes, flat_map, if◌then◌else◌, slice_get}
-use Rattle.sva_grammar.specs.Replies.{ended}
 use Rattle.sva_judge.specs.Findings.{Shows}
 use Rattle.sva_judge.specs.Spots.{Spot, start_of}
 use Rattle.sva_judge.specs.Verdicts.{IsAsked, IsJudged}
@@ -29,12 +28,10 @@ use Rattle.sva_driver_reports.proofs.Witnesses.{IsFit, fits, leak_told, walked}
 
 -- ---- The report
 
--- the first line of what is told of a finding of so many events, and all of it
-abbrev line_by : Finding → (count : ℕ) → List ℕ
-line_by one count = codes "unsafe in " ++ events_count count ++ codes ": " ++ wrong_text one.wrong ++ 10 ∷ []
-
+-- what is told of a finding, with its lines
 abbrev found_by : Text → Finding → (count : ℕ) → (lines : List ℕ) → List ℕ
-found_by text one count lines = line_by one count ++ (front_text text ++ lines)
+found_by text one count lines =
+    (codes "unsafe in " ++ events_count count ++ codes ": " ++ wrong_text one.wrong ++ 10 ∷ []) ++ (front_text text ++ lines)
 
 tells : (text : Text) (one : Finding) → IsFit text → Shows text.driver one.wrong one.witness.items → TellsFinding text one (found_text text false one)
 tells text one fit shows =
@@ -46,8 +43,7 @@ tells text one fit shows =
       told = walk.told;
       wrong = shows.2;
       report = ap (λ n. found_by text one n (flat_map (event_line (width_from 0 (events_by text choices))) (events_by text choices))) (sym walk.many)
-          ∙ ap (λ lines. found_by text one (length walk.lines) lines) walk.says
-          ∙ sym (append_assoc (line_by one (length walk.lines)) (front_text text) (flat_map ended walk.lines));
+          ∙ ap (λ lines. found_by text one (length walk.lines) lines) walk.says;
     }
 
 tell_each : (text : Text) (found : List Finding) → IsFit text

@@ -29,8 +29,7 @@ use Rattle.sva_driver_texts.specs.Blocks.{BlockSaid, branched}
 use Rattle.sva_driver_texts.specs.Readings.{Reading, act_line, begins_branch, behind, behind_lines, behind_words, branch_line, device_line, headed}
 use Rattle.sva_driver_texts.specs.Readings.{heading_line, is_misspelt, is_of_act}
 use Rattle.sva_driver_texts.specs.Readings.{line_by, nothing, other_before, other_behind, other_line, race_line, role_of, set_line}
-use Rattle.sva_driver_texts.specs.Readings.{is_of_endpoint, is_of_unit, is_told, is_word, thread_of, told_by, told_by_parts, unit_line}
-use Rattle.sva_driver_texts.specs.Readings.{with_wrong_block, workers_line}
+use Rattle.sva_driver_texts.specs.Readings.{is_of_endpoint, is_of_unit, is_told, is_word, thread_of, told_by, told_by_parts, unit_line, with_wrong_block, workers_line}
 use Rattle.sva_driver_texts.specs.Units.{units_of, units_or_own}
 use Rattle.sva_driver_texts.specs.Devices.{DeviceSaid, setting_line}
 use Rattle.sva_driver_texts.specs.WrittenOut.{Worded, written_out}
@@ -106,8 +105,8 @@ act_good config reading number parts thread good all one =
 unit_good : (config : Config) (reading : Reading) (words : List (List ℕ)) → Good reading → IsGood (unit_line config reading words)
 unit_good config reading words good =
     bound (units_of config (units_or_own config reading.units) words)
-    (λ units. Ok (record reading { units = units; set = reading.set ++ word_at 0 words ∷ [] }))
-    (λ units. right (record reading { units = units; set = reading.set ++ word_at 0 words ∷ [] }) good)
+    (λ (units : List ℕ). Ok (record reading { units = units; set = reading.set ++ word_at 0 words ∷ [] }))
+    (λ (units : List ℕ). right (record reading { units = units; set = reading.set ++ word_at 0 words ∷ [] }) good)
 
 set_good : (config : Config) (reading : Reading) (words : List (List ℕ)) → Good reading → IsGood (set_line config reading words)
 set_good config reading words good =
@@ -116,8 +115,8 @@ set_good config reading words good =
     let ahead : Result Reading DriverWrong =
     if says 0 (codes "platform") words && nat_lt 0 (length reading.set) then wrong_at 0 wanted.Ahead else read in
     let once : Result Reading DriverWrong = if list_any (is_word (word_at 0 words)) reading.set then wrong_at 0 wanted.OneLine else ahead in
-    let units : Result Reading DriverWrong = if says 0 (codes "unit") words then unit_line config reading words else once in
-    one_of (nat_lt 0 (length reading.lines)) (wrong_at 0 wanted.Earlier) units (wrong (record { at = 0; wanted = wanted.Earlier }))
+    let shares : Result Reading DriverWrong = if says 0 (codes "unit") words then unit_line config reading words else once in
+    one_of (nat_lt 0 (length reading.lines)) (wrong_at 0 wanted.Earlier) shares (wrong (record { at = 0; wanted = wanted.Earlier }))
     (one_of (says 0 (codes "unit") words) (unit_line config reading words) once (unit_good config reading words good)
     (one_of (list_any (is_word (word_at 0 words)) reading.set) (wrong_at 0 wanted.OneLine) ahead (wrong (record { at = 0; wanted = wanted.OneLine }))
     (one_of (says 0 (codes "platform") words && nat_lt 0 (length reading.set)) (wrong_at 0 wanted.Ahead) read

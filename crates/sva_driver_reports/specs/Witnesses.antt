@@ -94,7 +94,7 @@ pub record TellsFinding (text : Text) (one : Finding) (out : List ℕ) : Type 0 
   pub wrong : first_wrong last.world ≡ Some one.wrong
   pub report : out
       ≡ (codes "unsafe in " ++ events_count (length lines) ++ codes ": " ++ wrong_text one.wrong ++ 10 ∷ [])
-      ++ front_text text ++ flat_map ended lines
+      ++ (front_text text ++ flat_map ended lines)
 
 -- one after another, and no more
 abbrev pub TellEach : Text → List Finding → (out : List ℕ) → Type 0

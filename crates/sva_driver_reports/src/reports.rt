@@ -235,12 +235,6 @@ fn put_no_more(out: &mut Vec<u8>, cut: Option<usize>, moments: usize) -> Result<
     }
 }
 
-fn put_finding_count(out: &mut Vec<u8>, count: usize) -> Result<(), AllocError>
-    ensures { OnOk result (out.new.items ≡ out.old.items ++ reports.findings_count count) }
-{
-    put_counted(out, count as u64, "finding", "findings")
-}
-
 fn put_last(
     out: &mut Vec<u8>,
     count: usize,
@@ -249,7 +243,7 @@ fn put_last(
 ) -> Result<(), AllocError>
     ensures { OnOk result (out.new.items ≡ out.old.items ++ reports.last_text count cut moments) }
 {
-    put_finding_count(out, count)?;
+    put_counted(out, count as u64, "finding", "findings")?;
     put_no_more(out, cut, moments)?;
     out.extend_from_slice(b"; what is behind a finding was not searched\n")?;
     Ok(())

@@ -1,6 +1,6 @@
 -- What is told of several texts: the lines of each behind the name of its file, and last how many there are of each verdict.
 use Rattle.std.specs.Global.{Global}
-use Rattle.std.specs.Prelude.{ℕ, ◌==◌, String, string_bytes, if◌then◌else◌, Bool, true, List, [], ◌∷◌, ◌++◌}
+use Rattle.std.specs.Prelude.{ℕ, ◌==◌, String, string_bytes, if◌then◌else◌, Bool, true, false, List, [], ◌∷◌, ◌++◌}
 use Rattle.std.specs.Prelude.{◌+◌, codes, decimal, take, Option, Some, None, Result, Ok, Err}
 use Rattle.std.specs.List.{position}
 use Rattle.std.specs.declared.alloc.AllocError.{AllocError}

@@ -1,5 +1,4 @@
-use Rattle.std.proofs.Common.{◌<◌, ◌≤◌, ◌∙◌, ◌++◌, ap, length, rules}
-use Rattle.sva_driver_reports.specs.Nevers.{never_text}
+use Rattle.std.proofs.Common.{◌<◌, ◌≤◌, length, rules}
 use Rattle.sva_driver_reports.proofs.Rests.{nevers_end, nevers_next}
 use Rattle.sva_driver_reports.proofs.nevers.put_each.Goals as goal
 

@@ -7,6 +7,6 @@ pub returns : goal.returns
 returns c =
     let out = c.args.out.now.items in
     let count = findings_count c.args.count in
-    let others = no_more_text c.args.cut c.args.moments in
-    let so_far = joined out _ _ count others c.in_ok-put_finding_count.ensures c.in_ok-put_no_more.ensures in
-    joined out _ _ (count ++ others) behind_text so_far c.in_ok-extend_from_slice.ensures.items
+    let rest = no_more_text c.args.cut c.args.moments in
+    joined out _ _ (count ++ rest) behind_text (joined out _ _ count rest c.in_ok-put_counted.ensures c.in_ok-put_no_more.ensures)
+    c.in_ok-extend_from_slice.ensures.items

@@ -1,4 +1,4 @@
-use Rattle.std.proofs.Common.{◌∙◌, ◌<◌, ◌≤◌, ap, length, rules, sym}
+use Rattle.std.proofs.Common.{◌∙◌, ◌<◌, ◌≤◌, length, rules, sym}
 use Rattle.sva_driver_reports.proofs.UntakenLines.{untaken_more, untaken_none}
 use Rattle.sva_driver_reports.proofs.untaken.untaken.Goals as goal
 

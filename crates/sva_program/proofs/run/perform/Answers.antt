@@ -10,7 +10,8 @@ use Rattle.sva_script_reports.specs.Whys.{whys_of}
 use Rattle.sva_script_reports.specs.Traces.{trace_of}
 use Rattle.sva_why.specs.Why.{why_of}
 use Rattle.sva_race_reports.specs.Explored.{Explores}
-use Rattle.sva_program.specs.Run.{Reports, wanted_of}
+use Rattle.sva_driver_reports.specs.declared.wanted.Wanted.{Wanted}
+use Rattle.sva_program.specs.Run.{Reports, Rules, WhereKnown, wanted_of}
 use Rattle.sva_program.proofs.RunLemmas.{caused, caused_exploring, caused_ruling, caused_run, printed, reported, run_reported}
 use Rattle.sva_program.proofs.run.perform.Goals as goal
 
@@ -221,7 +222,12 @@ returns-in-Judge-clause-report g c =
     let input = g.R.Read.remaining c.args.reader.now.inner in
     let old = g.W.Write.contents c.args.writer.now.inner in
     let new = g.W.Write.contents found.new.writer.inner in
-    subst (λ a. Reports a input old new c.ruled.result) (sym c.in-Judge.is) (found.result, c.ruled.ensures, found.ensures.ruled)
+    subst (λ a. Reports a input old new c.ruled.result) (sym c.in-Judge.is) (
+      found.result,
+      c.ruled.ensures,
+      subst (λ (wanted : Wanted). WhereKnown (λ text. Rules c.in-Judge.run' wanted text old new found.result) input old new found.result)
+          c.wanted_of_driver-wanted.ensures found.ensures.ruled,
+    )
 
 pub returns-in-Judge-clause-cause : goal.returns-in-Judge-clause-cause
 returns-in-Judge-clause-cause g c =

@@ -1,4 +1,4 @@
-use Rattle.std.proofs.Common.{false, subst}
+use Rattle.std.proofs.Common.{subst}
 use Rattle.sva_several.specs.Searches.{Tries}
 use Rattle.sva_several.specs.Sharing.{shared}
 use Rattle.sva_several.specs.declared.searching.Search.{Search}

@@ -14,6 +14,7 @@ use Rattle.sva_labels.proofs.Lists.{tabulate_set}
 use Rattle.sva_labels.proofs.Words.{put-same, put-other}
 use Rattle.sva_laws.proofs.Invariant.{Invariant}
 use Rattle.sva_laws.proofs.Requests.{is_cleared}
+use Rattle.sva_search.proofs.Once.{contains_at}
 use Rattle.sva_open.specs.declared.acts.Act.TheVariants as doing
 use Rattle.sva_open.specs.declared.acts.LocalAct.TheVariants as local
 use Rattle.sva_open.specs.declared.frames.Target.{Target}
@@ -30,7 +31,7 @@ use Rattle.sva_open_laws.specs.LinkOrders.{IsDeliveredAlike, place_of_message}
 use Rattle.sva_open_laws.specs.Queues.{shown}
 use Rattle.sva_open_laws.proofs.ActParts.{at_one_endpoint}
 use Rattle.sva_open_laws.proofs.DeviceActs.{calm}
-use Rattle.sva_open_laws.proofs.Gathered.{got_in, mapped_some, tabulate_get, tabulated}
+use Rattle.sva_open_laws.proofs.Gathered.{mapped_some, tabulate_get, tabulated}
 use Rattle.sva_open_laws.proofs.GatherLists.{gather_same}
 use Rattle.sva_open_laws.proofs.LinkLists.{delivered_alike}
 use Rattle.sva_open_laws.proofs.PumpActs.{its_itags}
@@ -172,6 +173,6 @@ module _ (w : World) (e c r : ℕ) (found_there : Option ℕ) (i : Invariant w) 
       none None h = refl
       none (Some None) h = refl
       none (Some (Some x)) h =
-          let at = tabulated 32 (λ t. option_map (request_of p) (p.at_tag t)) (Some x) (got_in (shown w e).requests tag (Some x) h) in
+          let at = tabulated 32 (λ t. option_map (request_of p) (p.at_tag t)) (Some x) (contains_at (shown w e).requests tag (Some x) h) in
           let y = mapped_some (request_of p) (p.at_tag at.0) x at.2 in
           absurd (cc (sym ((i.parts e).labels.tag_bears at.0 y.0 y.1).1 ∙ cleared_by p.phase refl (cleared (is_cleared p.phase) refl) y.0))

@@ -1,16 +1,16 @@
 -- A translation request that is sent, and a use that ends, are acts of the open world.
-use Rattle.std.proofs.Common.{◌≡◌, ◌≢◌, ◌⊎◌, inl, inr, refl, ap, ap₂, sym, subst, ◌∙◌, ℕ, suc, ◌+◌, ◌<◌, ◌≤◌, Bool, true, false, arith}
+use Rattle.std.proofs.Common.{◌≡◌, ◌≢◌, ◌⊎◌, inl, inr, refl, ap, ap₂, sym, subst, ◌∙◌, ℕ, suc, ◌+◌, ◌<◌, Bool, true, false, arith}
 use Rattle.std.specs.Prelude.{◌&&◌, List, [], ◌∷◌, ◌++◌, Option, Some, None, is_none, option_map, length, position, remove, slice_get, slice_set}
 use Rattle.std.proofs.lemmas.List.{append_assoc, append-nil}
 use Rattle.sva_model.specs.Words.{tabulate}
 use Rattle.sva_model.specs.State.{Subject, Phase, Endpoint, World}
 use Rattle.sva_model.specs.State.PasidState.{On}
 use Rattle.sva_model.specs.State.Phase.{Open, ResetSent, Cleared}
-use Rattle.sva_model.specs.State.RequestState.{Out, Over}
+use Rattle.sva_model.specs.State.RequestState.{Out}
 use Rattle.sva_model.specs.State.UseState.{Running, Ended}
 use Rattle.sva_model.specs.State.Subject.{StartOf, StopOf, FunctionReset, CompletionOf, InvalidateOf, ResponseOf, RequestOf, InvalidatedOf}
 use Rattle.sva_model.specs.State.Subject.{PageRequestOf, MarkerOf, ResetDone}
-use Rattle.sva_model.specs.States.{is_out, is_running}
+use Rattle.sva_model.specs.States.{is_running}
 use Rattle.sva_model.specs.Acts.{LocalAct, act, act_alone}
 use Rattle.sva_model.specs.Acts.Act.{AtEndpoint}
 use Rattle.sva_model.specs.Labels
@@ -32,7 +32,7 @@ use Rattle.sva_open_laws.specs.AsOpen.{translation_of, use_of, user_by, user_of,
 use Rattle.sva_open_laws.proofs.ActParts.{IsSameRequest, OfRequest, at_one_endpoint, flying_same, seen, unseen}
 use Rattle.sva_open_laws.proofs.DeviceActs.{all_taken, calm, held_at, quiet, row_there, state_is, user_is, uses_at}
 use Rattle.sva_open_laws.proofs.GatherLists.{Split, first_free, gather_next, gather_one_more, gather_same, get_at, length_so, remove_at, split}
-use Rattle.sva_open_laws.proofs.Usable.{run_low}
+use Rattle.sva_open_laws.proofs.Usable.{out_low, run_low}
 
 -- ---- To end a use
 
@@ -146,12 +146,6 @@ module _ (w : World) (e t q : ℕ) (i : Invariant w) (low : e < w.config.endpoin
       ∙ ap₂ (λ y x. asking (p.pasid (p.request_binding k)) y (owner_of p (p.request_binding k)) (is_doomed x))
       (put-other p.request_page p.requests q k (older k l)) (put-other p.request p.requests Out k (older k l))
 
-  out_low : (k : ℕ) → is_out (p.request k) ≡ true → k < p.requests
-  out_low k h = by ((i.parts e).bounds.request k)
-    where
-      by : (p.requests ≤ k → p.request k ≡ Over) → k < p.requests
-      by bound = grind (arith, h, bound)
-
   requests : tabulate 32 (λ x. option_map (request_of asked) (asked.at_tag x))
       ≡ slice_set (part_of w e p).requests tag (Some (asking t q (owner_of p b) false))
   requests =
@@ -162,7 +156,7 @@ module _ (w : World) (e t q : ℕ) (i : Invariant w) (low : e < w.config.endpoin
     where
       at : (k : ℕ) (o : Option ℕ) → p.at_tag k ≡ o → option_map (request_of asked) o ≡ option_map (request_of p) o
       at k None h = refl
-      at k (Some r) h = ap Some (old_request r (out_low r ((i.parts e).labels.tag_bears k r h).1))
+      at k (Some r) h = ap Some (old_request r (out_low p r ((i.parts e).bounds.request r) ((i.parts e).labels.tag_bears k r h).1))
 
   held : gather (suc p.requests) (held_at w.mappings asked) ≡ (part_of w e p).held
   held =

@@ -34,12 +34,13 @@ use Rattle.sva_open_laws.specs.AsActs.{acted}
 use Rattle.sva_open_laws.specs.AsOpen.{entry_of, flying_of, gather, had_before, is_bound, is_marked, one, open_of, owner_by, owner_of}
 use Rattle.sva_open_laws.specs.AsOpen.{part_of, row_at, state_of, tenure_of, time_by, user_by}
 use Rattle.sva_open_laws.proofs.ActParts.{frames_same, none_sent}
-use Rattle.sva_open_laws.proofs.BindParts.{arrived_old, filed_old, flight_old, group_old, had_same, held_old, made, owner_old, pasid_old, queued_old}
+use Rattle.sva_open_laws.proofs.BindParts.{arrived_old, filed_old, flight_old, group_old, had_same, held_old, owner_old, pasid_old, queued_old}
 use Rattle.sva_open_laws.proofs.BindParts.{request_old, space_old, taken_old, use_old}
 use Rattle.sva_open_laws.proofs.DeviceActs.{calm, never}
 use Rattle.sva_open_laws.proofs.Gathered.{tabulate_get}
 use Rattle.sva_open_laws.proofs.GatherLists.{gather_one_more, gather_same}
 use Rattle.sva_open_laws.proofs.Safety.{live_is, marked_is, started_is}
+use Rattle.sva_open_laws.proofs.Usable.{bound_low}
 
 -- ---- Searches with one number more
 
@@ -261,7 +262,7 @@ module _ (w : World) (i : Invariant w) where
     -- ---- The other rows
 
     low_bearer : (x b : ℕ) → p.at_pasid x ≡ Some b → b < g
-    low_bearer x b h = made w e s t i b (unreleased_bound p b ((i.parts e).labels.pasid_bears x b h).1)
+    low_bearer x b h = bound_low w e b i (unreleased_bound p b ((i.parts e).labels.pasid_bears x b h).1)
 
     not_its : (x : ℕ) → x ≢ t → (b : Bool) → (b && (bound.pasid g == x)) ≡ false
     not_its x ne b =

@@ -1,20 +1,17 @@
 -- What a binding more leaves of what else is at its endpoint: nothing of that is of it.
-use Rattle.std.proofs.Common.{◌≡◌, ◌≢◌, ◌⊎◌, inl, inr, refl, ap, ap₂, sym, subst, ◌∙◌, ℕ, ◌<◌, ◌≤◌, Bool, true, false, arith}
+use Rattle.std.proofs.Common.{◌≡◌, ◌≢◌, refl, ap, ap₂, sym, subst, ◌∙◌, ℕ, ◌<◌, ◌≤◌, Bool, true, false, arith}
 use Rattle.std.specs.Prelude.{◌==◌, ◌&&◌, List, [], ◌∷◌, Option, Some, None, option_map}
-use Rattle.std.proofs.lemmas.Bool.{cases_lt}
 use Rattle.sva_model.specs.Words.{put}
 use Rattle.sva_model.specs.Range.{pages_in}
-use Rattle.sva_model.specs.State.{Order, OrderState, PageRequestState, Stage, Subject, Endpoint, World}
+use Rattle.sva_model.specs.State.{Order, OrderState, Stage, Subject, Endpoint, World}
 use Rattle.sva_model.specs.State.Order.{RangeOf, PasidOf, Wait}
 use Rattle.sva_model.specs.State.OrderState.{Queued, Sent, Taken, Lapsed, Completing, Done, Void}
-use Rattle.sva_model.specs.State.PageRequestState.{Arrived}
-use Rattle.sva_model.specs.State.RequestState.{Over}
 use Rattle.sva_model.specs.State.GroupState.{Closed}
 use Rattle.sva_model.specs.State.Stage.{Unbound, Live}
 use Rattle.sva_model.specs.State.Subject.{StartOf, StopOf, FunctionReset, CompletionOf, InvalidateOf, ResponseOf, RequestOf, InvalidatedOf}
 use Rattle.sva_model.specs.State.Subject.{PageRequestOf, MarkerOf, ResetDone}
 use Rattle.sva_model.specs.StateChanges.{binding_of}
-use Rattle.sva_model.specs.States.{is_arrived, is_wait, is_open_group, is_out, is_outstanding, is_queued, is_running}
+use Rattle.sva_model.specs.States.{is_arrived, is_wait, is_open_group, is_outstanding, is_queued, is_running}
 use Rattle.sva_model.specs.Acts.{LocalAct, act_alone}
 use Rattle.sva_labels.proofs.Counting.{count_same}
 use Rattle.sva_labels.proofs.Words.{put-other}
@@ -22,7 +19,7 @@ use Rattle.sva_laws.proofs.Bindings.{is_unmarked}
 use Rattle.sva_laws.proofs.Groups.{filed_made, open_filed}
 use Rattle.sva_laws.proofs.Invariant.{Invariant}
 use Rattle.sva_laws.proofs.Orders.{is_active, is_undone}
-use Rattle.sva_laws.proofs.PageRequests.{arrived_made}
+use Rattle.sva_laws.proofs.PageRequests.{arrived_is, arrived_made}
 use Rattle.sva_open.specs.declared.descriptors.Descriptor.TheVariants as descriptor
 use Rattle.sva_open.specs.declared.frames.Translation.{Translation}
 use Rattle.sva_open.specs.declared.messages.Message.{Message}
@@ -36,6 +33,7 @@ use Rattle.sva_open_laws.specs.AsOpen.{is_bound, one, owner_of, request_of, scop
 use Rattle.sva_open_laws.proofs.DeviceActs.{held_at, uses_at}
 use Rattle.sva_open_laws.proofs.GatherLists.{gather_same}
 use Rattle.sva_open_laws.proofs.Safety.{running_is}
+use Rattle.sva_open_laws.proofs.Usable.{bound_low, out_low}
 
 -- of a stage that says more than that there is a binding
 active_bound : (x : Stage) → is_active x ≡ true → x ≢ Unbound
@@ -54,12 +52,8 @@ module _ (w : World) (e s t : ℕ) (i : Invariant w) where
   abbrev bound : Endpoint
   bound = act_alone (w.part e) w.messages (LocalAct.Bind w.bindings s t)
 
-  pub made : (b : ℕ) → (w.part e).stage b ≢ Unbound → b < w.bindings
-  made b h = go (cases_lt b g)
-    where
-      go : (b < w.bindings) ⊎ (w.bindings ≤ b) → b < w.bindings
-      go (inl l) = l
-      go (inr k) = absurd (h ((i.parts e).bounds.stage b k))
+  made : (b : ℕ) → (w.part e).stage b ≢ Unbound → b < w.bindings
+  made b h = bound_low w e b i h
 
   not_new : (b : ℕ) → b < g → b ≢ g
   not_new b l same = absurd (omega (arith, same, l))
@@ -164,12 +158,6 @@ module _ (w : World) (e s t : ℕ) (i : Invariant w) where
 
   -- ---- Requests and groups
 
-  out_low : (r : ℕ) → is_out (p.request r) ≡ true → r < p.requests
-  out_low r h = by ((i.parts e).bounds.request r)
-    where
-      by : (p.requests ≤ r → p.request r ≡ Over) → r < p.requests
-      by low = grind (arith, h, low)
-
   pub request_old : (tag : ℕ)
       → option_map (request_of (act_alone (w.part e) w.messages (LocalAct.Bind w.bindings s t))) ((w.part e).at_tag tag)
       ≡ option_map (request_of (w.part e)) ((w.part e).at_tag tag)
@@ -179,7 +167,7 @@ module _ (w : World) (e s t : ℕ) (i : Invariant w) where
       go None h = refl
       go (Some r) h =
           let b = p.request_binding r in
-          let low = made b ((i.parts e).requests.bound r (out_low r ((i.parts e).labels.tag_bears tag r h).1)) in
+          let low = made b ((i.parts e).requests.bound r (out_low p r ((i.parts e).bounds.request r) ((i.parts e).labels.tag_bears tag r h).1)) in
           ap₂ (λ d o. Some (record (request_of p r) { pasid = d; owner = o })) (pasid_old b low) (owner_old b low)
 
   outstanding_low : (x : ℕ) → is_outstanding (p.group x) ≡ true → x < p.groups
@@ -211,9 +199,6 @@ module _ (w : World) (e s t : ℕ) (i : Invariant w) where
     where
       r : ℕ
       r = (w.part e).arrival k
-
-      arrived_is : (x : PageRequestState) → is_arrived x ≡ true → x ≡ Arrived
-      arrived_is x h = grind arith
 
       go : (b : Bool) → is_arrived (p.page_request r) ≡ b → where_so b (arrived_of e bound r) ≡ where_so b (arrived_of e p r)
       go false h = refl

@@ -16,6 +16,7 @@ use Rattle.sva_model.specs.States.{is_unreleased, is_out, is_open, is_collecting
 use Rattle.sva_model.specs.Labels.{oldest_arrived}
 use Rattle.sva_model.specs.Claims.{Usable, IsBearer, asker_of}
 use Rattle.sva_labels.proofs.Lists.{tabulate_length}
+use Rattle.sva_search.proofs.Once.{contains_at}
 use Rattle.sva_open.specs.declared.frames.Tenure.{Tenure}
 use Rattle.sva_open.specs.declared.frames.Translation.{Translation}
 use Rattle.sva_open.specs.declared.works.Request.{Request}
@@ -28,7 +29,7 @@ use Rattle.sva_open_laws.specs.AsOpen.{open_of, part_of, translation_of, owner_o
 use Rattle.sva_open_laws.specs.AsOpen.{is_doomed, is_filed, entry_of, entered_of, state_of, state_by, user_by, time_by, is_part_filed}
 use Rattle.sva_open_laws.specs.Shown.{IsShown, IsOfOne, IsInRow, ShowsAll, SafeSaysEnough}
 use Rattle.sva_open_laws.specs.Shown.IsShown.{held as shows_held, in_use as shows_used, under_way as shows_coming}
-use Rattle.sva_open_laws.proofs.Gathered.{got_in, in_one, in_select, inside, mapped_some, tabulate_get}
+use Rattle.sva_open_laws.proofs.Gathered.{in_one, in_select, inside, mapped_some, tabulate_get}
 
 -- ---- what is usable
 
@@ -40,14 +41,14 @@ current_of settings frames part freed domains t s (shows_coming q tag one h is a
     let own = subst (λ z. IsRight settings frames part one z) is (s.flight one h) in
     let good = ap (λ (z : Request). z.is_doomed) same in (
       (own q at).frame good,
-      subst (λ (z : Request). IsPresent part z.pasid z.owner) same (s.asked q (got_in part.requests tag (Some q) at) good),
+      subst (λ (z : Request). IsPresent part z.pasid z.owner) same (s.asked q (contains_at part.requests tag (Some q) at) good),
     )
 
 -- ---- one endpoint
 
 safe_at : (w : World) (e : ℕ) → ShowsAll w → IsSafe (open_of w) → e < w.config.endpoints
     → IsSafePart (open_of w).settings (open_of w).frames (open_of w).freed (open_of w).domains (part_of w e (w.part e))
-safe_at w e sh s l = s.parts (part_of w e (w.part e)) (got_in (open_of w).parts e (part_of w e (w.part e)) (sh.part e l))
+safe_at w e sh s l = s.parts (part_of w e (w.part e)) (contains_at (open_of w).parts e (part_of w e (w.part e)) (sh.part e l))
 
 bears : (w : World) (e b : ℕ) → ShowsAll w → IsOfOne w e b → IsPresent (part_of w e (w.part e)) ((w.part e).pasid b) (owner_of (w.part e) b)
     → IsBearer (w.part e) b
@@ -68,7 +69,7 @@ asked_well w e r sh s h =
     let p = w.part e in
     let x = sh.out e r (ap is_out h) in
     bears w e (p.request_binding r) sh x.0
-    ((safe_at w e sh s x.0.0).asked (request_of p r) (got_in (part_of w e p).requests (p.request_tag r) (Some (request_of p r)) x.1) (ap is_doomed h))
+    ((safe_at w e sh s x.0.0).asked (request_of p r) (contains_at (part_of w e p).requests (p.request_tag r) (Some (request_of p r)) x.1) (ap is_doomed h))
 
 -- ---- rows
 
@@ -76,7 +77,7 @@ row_safe : (w : World) (e t : ℕ) → ShowsAll w → IsSafe (open_of w) → e <
     → IsOwned (open_of w).freed (row_at w.bindings (w.part e) t)
 row_safe w e t sh s l low =
     (safe_at w e sh s l).rows (row_at w.bindings (w.part e) t)
-    (got_in (part_of w e (w.part e)).rows t (row_at w.bindings (w.part e) t) (tabulate_get 33 (row_at w.bindings (w.part e)) t (omega (arith, low))))
+    (contains_at (part_of w e (w.part e)).rows t (row_at w.bindings (w.part e) t) (tabulate_get 33 (row_at w.bindings (w.part e)) t (omega (arith, low))))
 
 row_bears : (w : World) (e b : ℕ) → ShowsAll w → IsOfOne w e b → (w.part e).pasid b ≤ 32
     → owner_of (w.part e) b ≡ (row_at w.bindings (w.part e) ((w.part e).pasid b)).owner → IsBearer (w.part e) b

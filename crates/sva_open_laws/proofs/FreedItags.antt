@@ -23,6 +23,7 @@ use Rattle.sva_laws.specs.UnitSteps.{Delivers}
 use Rattle.sva_laws.proofs.Invariant.{Invariant}
 use Rattle.sva_laws.proofs.Runs.{always}
 use Rattle.sva_laws.proofs.UnitSteps.{delivered}
+use Rattle.sva_search.proofs.Once.{contains_at}
 use Rattle.sva_open.specs.declared.descriptors.Issued.{Issued}
 use Rattle.sva_open.specs.declared.descriptors.Issued.TheVariants as issued
 use Rattle.sva_open.specs.World.{Part, if_so}
@@ -30,7 +31,7 @@ use Rattle.sva_open.specs.Units.{complete_itag, completed_at, has_itag, is_out_b
 use Rattle.sva_open_laws.specs.AsOpen.{descriptor_of, gather, part_of, where_so}
 use Rattle.sva_open_laws.specs.Queues.{CompletionsAreOne, IsFreedAlike, IsReopenedAlike, ResetsAreOne, completed, last_of, shown}
 use Rattle.sva_open_laws.proofs.DeviceActs.{never}
-use Rattle.sva_open_laws.proofs.Gathered.{gathered, got_in, so_in}
+use Rattle.sva_open_laws.proofs.Gathered.{gathered, so_in}
 use Rattle.sva_open_laws.proofs.GatherLists.{Split, gather_none, gather_same, place_at, remove_at, split}
 use Rattle.sva_open_laws.proofs.QueueSteps.{shown_after}
 
@@ -50,7 +51,7 @@ settled_none x place false (Some (issued.Waiting name drain)) none = absurd (non
 no_wait : (e n : ℕ) (itags : ℕ → ℕ) (busy : ℕ → Bool) (place name : ℕ) (drain : Bool)
     → slice_get (gather n (sent_at e itags busy)) place ≢ Some (issued.Waiting name drain)
 no_wait e n itags busy place name drain h =
-    let x = gathered n (sent_at e itags busy) (issued.Waiting name drain) (got_in (gather n (sent_at e itags busy)) place (issued.Waiting name drain) h) in
+    let x = gathered n (sent_at e itags busy) (issued.Waiting name drain) (contains_at (gather n (sent_at e itags busy)) place (issued.Waiting name drain) h) in
     let y = so_in (busy x.0) (issued.Sent e (itags x.0)) (issued.Waiting name drain) x.2 in
     absurd (cc (y.1))
 

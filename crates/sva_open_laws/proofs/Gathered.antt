@@ -72,11 +72,6 @@ selected (suc n) f x h = go (λ k. selected n f x k) (f n) refl (Contains-append
 pub inside : {A : Type 0} {a b : A} → Some a ≡ Some b → a ≡ b
 inside e = cc
 
-pub got_in : {A : Type 0} (xs : List A) (k : ℕ) (x : A) → slice_get xs k ≡ Some x → Contains xs x
-got_in [] k x h = absurd (cc)
-got_in (y ∷ ys) zero x h = (0, omega arith, inside h)
-got_in (y ∷ ys) (suc k) x h = let r = got_in ys k x h in (suc r.0, omega (arith, r.1), r.2)
-
 pub oldest_in : {A : Type 0} (xs : List A) (x : A) → slice_get xs 0 ≡ Some x → Contains xs x
 oldest_in [] x h = absurd (cc)
 oldest_in (y ∷ ys) x h = (0, omega arith, inside h)

@@ -22,6 +22,7 @@ use Rattle.sva_labels.proofs.Tests.{first_holds}
 use Rattle.sva_laws.proofs.Completions.{Owed}
 use Rattle.sva_laws.proofs.Invariant.{Invariant}
 use Rattle.sva_laws.proofs.LegalUnit.{Head}
+use Rattle.sva_laws.proofs.Orders.{not_queued}
 use Rattle.sva_open.specs.declared.descriptors.Descriptor.{Descriptor}
 use Rattle.sva_open.specs.declared.descriptors.Descriptor.TheVariants as descriptor
 use Rattle.sva_open.specs.declared.descriptors.Issued.{Issued}
@@ -49,12 +50,9 @@ queued_at e p states j = where_so (is_queued (states j)) (descriptor_of e p (p.o
 abbrev pub busy_at : (e : ℕ) → (itags : ℕ → ℕ) → (ℕ → OrderState) → ℕ → List Issued
 busy_at e itags states j = where_so (is_busy (states j)) (issued.Sent e (itags j))
 
-queued_not : (x : OrderState) → x ≢ Queued → is_queued x ≡ false
-queued_not x h = grind arith
-
 module _ (e : ℕ) (p : Endpoint) (made : Labels.head p < p.orders) (hd : Head p) where
   none_before : (j : ℕ) → j < Labels.head p → queued_at e p p.order_state j ≡ []
-  none_before j l = ap (λ b. where_so b (descriptor_of e p (p.order j))) (queued_not (p.order_state j) (hd.lowest j l))
+  none_before j l = ap (λ b. where_so b (descriptor_of e p (p.order j))) (not_queued (p.order_state j) (hd.lowest j l))
 
   its_own : queued_at e p p.order_state (Labels.head p) ≡ descriptor_of e p (p.order (Labels.head p)) ∷ []
   its_own = ap (λ x. where_so (is_queued x) (descriptor_of e p (p.order (Labels.head p)))) hd.queued

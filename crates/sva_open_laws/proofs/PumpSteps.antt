@@ -1,18 +1,17 @@
 -- A pump is an act of the open world, and what it frees are acts of its host.
-use Rattle.std.proofs.Common.{◌≡◌, ◌≢◌, ◌⊎◌, inl, inr, refl, ap, sym, subst, ◌∙◌, ℕ, ◌<◌, Bool, true, false}
-use Rattle.std.specs.Prelude.{◌==◌, not, [], ◌∷◌, map, Some, option_and_then, Ok}
+use Rattle.std.proofs.Common.{◌≡◌, ◌≢◌, ◌⊎◌, inl, inr, refl, ap, sym, subst, ◌∙◌, ℕ, ◌<◌, true, false}
+use Rattle.std.specs.Prelude.{[], ◌∷◌, map, Some, option_and_then, Ok}
 use Rattle.sva_step.specs.declared.answers.Answer.{Answer}
 use Rattle.sva_step.specs.declared.steps.Step.TheVariants as step
 use Rattle.sva_model.specs.Words.{put}
-use Rattle.sva_model.specs.State.{Order, World}
-use Rattle.sva_model.specs.State.Order.{RangeOf, PasidOf, Wait}
+use Rattle.sva_model.specs.State.{World}
 use Rattle.sva_model.specs.State.OrderState.{Sent}
 use Rattle.sva_model.specs.State.Phase.{Open}
-use Rattle.sva_model.specs.States.{is_done, is_wait}
+use Rattle.sva_model.specs.States.{is_done}
 use Rattle.sva_model.specs.Acts.{LocalAct, act, act_alone}
 use Rattle.sva_model.specs.Acts.Act.{AtEndpoint}
 use Rattle.sva_model.specs.Labels
-use Rattle.sva_model.specs.Outcomes.{head_outcome, may_pass, outcome, pump_outcome, send_outcome, wait_outcome}
+use Rattle.sva_model.specs.Outcomes.{outcome}
 use Rattle.sva_model.specs.Steps.{after_acts, decide, next}
 use Rattle.sva_labels.proofs.Words.{ℕ_cases, put-same, put-other}
 use Rattle.sva_laws.proofs.Completions.{Owed}
@@ -32,7 +31,7 @@ use Rattle.sva_open_laws.proofs.ActParts.{at_one_endpoint}
 use Rattle.sva_open_laws.proofs.FreeActs.{frees_all}
 use Rattle.sva_open_laws.proofs.PumpActs.{part_now, passed_seen, passes, sends, sent_seen}
 use Rattle.sva_open_laws.proofs.QueueOrder.{InOrder}
-use Rattle.sva_open_laws.proofs.QueueSteps.{free_itag_is, made}
+use Rattle.sva_open_laws.proofs.QueueSteps.{OfNone, OfSend, OfWait, free_itag_is, made, pump_ways}
 use Rattle.sva_open_laws.proofs.UnitParts.{answers_same}
 
 one_acted : (its : Doing) (now after : World_) → next_open now its ≡ Some after → acted (its ∷ []) now ≡ Some after
@@ -56,9 +55,7 @@ module _ (w : World) (e : ℕ) (i : Invariant w) (ordered : InOrder (w.part e)) 
   still : (decide w (step.Pump e)).acts ≡ [] → acted [] (open_of w) ≡ Some (open_of (next w (step.Pump e)))
   still is = none_acted (open_of w) ∙ ap (λ l. Some (open_of (after_acts w l))) (sym is)
 
-  by_wait : (cookie : ℕ) (drain may : Bool) → Labels.is_queue_empty (w.part e) ≡ false → (w.part e).order k ≡ Wait cookie drain
-      → may_pass (w.part e) drain ≡ may → (said : Answer) → (wait_outcome e k may).answer ≡ said
-      → (decide w (step.Pump e)).acts ≡ (wait_outcome e k may).acts → Pumped said
+  by_wait : OfWait w e Pumped
   by_wait cookie drain true some is may said answers acts =
       let hd = head_is (w.part e) some in
       let its = made w e i ordered owed phase some in
@@ -80,10 +77,7 @@ module _ (w : World) (e : ℕ) (i : Invariant w) (ordered : InOrder (w.part e)) 
           ∙ sym (ap is_done (ap (w.part e).order_state same ∙ (head_is (w.part e) some).queued))
       go (inr ne) = ap is_done (put-other (w.part e).order_state k Sent j ne)
 
-  by_send : (none : Bool) → Labels.is_queue_empty (w.part e) ≡ false → is_wait ((w.part e).order k) ≡ false
-      → (Labels.lowest_label 32 (w.part e).at_itag == 32) ≡ none → (said : Answer)
-      → (send_outcome e k (Labels.lowest_label 32 (w.part e).at_itag) (not none)).answer ≡ said
-      → (decide w (step.Pump e)).acts ≡ (send_outcome e k (Labels.lowest_label 32 (w.part e).at_itag) (not none)).acts → Pumped said
+  by_send : OfSend w e Pumped
   by_send false some no_wait free said answers acts =
       let t = Labels.lowest_label 32 (w.part e).at_itag in
       let hd = head_is (w.part e) some in
@@ -97,20 +91,10 @@ module _ (w : World) (e : ℕ) (i : Invariant w) (ordered : InOrder (w.part e)) 
       (sends w e t i ordered owed its hd phase no_wait (free_itag_is w e i free)))))
   by_send true some no_wait free said answers acts = subst Pumped answers (still acts)
 
-  by_order : Labels.is_queue_empty (w.part e) ≡ false → (x : Order) → (w.part e).order k ≡ x → (said : Answer)
-      → (head_outcome (w.part e) e k x).answer ≡ said → (decide w (step.Pump e)).acts ≡ (head_outcome (w.part e) e k x).acts → Pumped said
-  by_order some (Wait cookie drain) is said answers acts = by_wait cookie drain (may_pass (w.part e) drain) some is refl said answers acts
-  by_order some (RangeOf b range) is said answers acts =
-      by_send (Labels.lowest_label 32 (w.part e).at_itag == 32) some (ap is_wait is) refl said answers acts
-  by_order some (PasidOf b) is said answers acts =
-      by_send (Labels.lowest_label 32 (w.part e).at_itag == 32) some (ap is_wait is) refl said answers acts
-
-  by_queue : (b : Bool) → Labels.is_queue_empty (w.part e) ≡ b → (said : Answer) → (pump_outcome (w.part e) e b).answer ≡ said
-      → (decide w (step.Pump e)).acts ≡ (pump_outcome (w.part e) e b).acts → Pumped said
-  by_queue true none said answers acts = subst Pumped answers (still acts)
-  by_queue false some said answers acts = by_order some ((w.part e).order k) refl said answers acts
+  by_none : OfNone w e Pumped
+  by_none none said answers acts = subst Pumped answers (still acts)
 
   pub pumps_acted : (said : Answer) → (outcome w (step.Pump e)).answer ≡ said
       → (decide w (step.Pump e)).acts ≡ (outcome w (step.Pump e)).acts
       → acted (pump_acts e (freed_by w (next w (step.Pump e))) (Ok said)) (open_of w) ≡ Some (open_of (next w (step.Pump e)))
-  pumps_acted said answers acts = by_queue (Labels.is_queue_empty (w.part e)) refl said answers acts
+  pumps_acted said answers acts = pump_ways w e Pumped by_wait by_send by_none said answers acts

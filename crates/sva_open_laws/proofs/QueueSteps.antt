@@ -142,6 +142,46 @@ no_itag_is w e i none =
     lowest_free_itag (shown w e).issued 32 (w.part e).at_itag (busy_alike w e i)
     ∙ ap (λ z. if_found (nat_lt z 32) z) (eqb-true (Labels.lowest_label 32 (w.part e).at_itag) 32 none)
 
+-- ---- The ways of a pump: what holds on each of them holds of all that a pump says
+
+abbrev pub OfWait : World → ℕ → (Answer → Type 0) → Type 0
+OfWait w e Holds =
+    (cookie : ℕ) (drain may : Bool) → Labels.is_queue_empty (w.part e) ≡ false → (w.part e).order (Labels.head (w.part e)) ≡ Wait cookie drain
+    → may_pass (w.part e) drain ≡ may → (said : Answer) → (wait_outcome e (Labels.head (w.part e)) may).answer ≡ said
+    → (decide w (step.Pump e)).acts ≡ (wait_outcome e (Labels.head (w.part e)) may).acts → Holds said
+
+abbrev pub OfSend : World → ℕ → (Answer → Type 0) → Type 0
+OfSend w e Holds =
+    (none : Bool) → Labels.is_queue_empty (w.part e) ≡ false → is_wait ((w.part e).order (Labels.head (w.part e))) ≡ false
+    → (Labels.lowest_label 32 (w.part e).at_itag == 32) ≡ none → (said : Answer)
+    → (send_outcome e (Labels.head (w.part e)) (Labels.lowest_label 32 (w.part e).at_itag) (not none)).answer ≡ said
+    → (decide w (step.Pump e)).acts ≡ (send_outcome e (Labels.head (w.part e)) (Labels.lowest_label 32 (w.part e).at_itag) (not none)).acts
+    → Holds said
+
+abbrev pub OfNone : World → ℕ → (Answer → Type 0) → Type 0
+OfNone w e Holds =
+    Labels.is_queue_empty (w.part e) ≡ true → (said : Answer) → (pump_outcome (w.part e) e true).answer ≡ said
+    → (decide w (step.Pump e)).acts ≡ (pump_outcome (w.part e) e true).acts → Holds said
+
+module _ (w : World) (e : ℕ) (Holds : Answer → Type 0) (of_wait : OfWait w e Holds) (of_send : OfSend w e Holds) (of_none : OfNone w e Holds) where
+  by_order : Labels.is_queue_empty (w.part e) ≡ false → (x : Order) → (w.part e).order (Labels.head (w.part e)) ≡ x → (said : Answer)
+      → (head_outcome (w.part e) e (Labels.head (w.part e)) x).answer ≡ said
+      → (decide w (step.Pump e)).acts ≡ (head_outcome (w.part e) e (Labels.head (w.part e)) x).acts → Holds said
+  by_order some (Wait cookie drain) is said answers acts = of_wait cookie drain (may_pass (w.part e) drain) some is refl said answers acts
+  by_order some (RangeOf b range) is said answers acts =
+      of_send (Labels.lowest_label 32 (w.part e).at_itag == 32) some (ap is_wait is) refl said answers acts
+  by_order some (PasidOf b) is said answers acts =
+      of_send (Labels.lowest_label 32 (w.part e).at_itag == 32) some (ap is_wait is) refl said answers acts
+
+  by_queue : (b : Bool) → Labels.is_queue_empty (w.part e) ≡ b → (said : Answer) → (pump_outcome (w.part e) e b).answer ≡ said
+      → (decide w (step.Pump e)).acts ≡ (pump_outcome (w.part e) e b).acts → Holds said
+  by_queue true none said answers acts = of_none none said answers acts
+  by_queue false some said answers acts = by_order some ((w.part e).order (Labels.head (w.part e))) refl said answers acts
+
+  pub pump_ways : (said : Answer) → (outcome w (step.Pump e)).answer ≡ said
+      → (decide w (step.Pump e)).acts ≡ (outcome w (step.Pump e)).acts → Holds said
+  pump_ways said answers acts = by_queue (Labels.is_queue_empty (w.part e)) refl said answers acts
+
 module _ (w : World) (e : ℕ) (i : Invariant w) (ordered : InOrder (w.part e)) (owed : Owed w.messages (w.part e)) (phase : (w.part e).phase ≡ Open) where
   abbrev Pumped : Answer → Type 0
   Pumped said = pump (open_of w).settings (shown w e) ≡ if_taken said (shown (next w (step.Pump e)) e)
@@ -159,9 +199,7 @@ module _ (w : World) (e : ℕ) (i : Invariant w) (ordered : InOrder (w.part e)) 
       some true h = refl
       some false h = absurd (cc)
 
-  by_wait : (cookie : ℕ) (drain may : Bool) → Labels.is_queue_empty (w.part e) ≡ false → (w.part e).order k ≡ Wait cookie drain
-      → may_pass (w.part e) drain ≡ may → (said : Answer) → (wait_outcome e k may).answer ≡ said
-      → (decide w (step.Pump e)).acts ≡ (wait_outcome e k may).acts → Pumped said
+  by_wait : OfWait w e Pumped
   by_wait cookie drain true some is may said answers acts =
       subst Pumped answers
       (passes w e i (made some) (head_is (w.part e) some) phase cookie drain is may
@@ -170,10 +208,7 @@ module _ (w : World) (e : ℕ) (i : Invariant w) (ordered : InOrder (w.part e)) 
   by_wait cookie drain false some is may said answers acts =
       subst Pumped answers (passes_none w e i (made some) (head_is (w.part e) some) phase cookie drain is may)
 
-  by_send : (none : Bool) → Labels.is_queue_empty (w.part e) ≡ false → is_wait ((w.part e).order k) ≡ false
-      → (Labels.lowest_label 32 (w.part e).at_itag == 32) ≡ none → (said : Answer)
-      → (send_outcome e k (Labels.lowest_label 32 (w.part e).at_itag) (not none)).answer ≡ said
-      → (decide w (step.Pump e)).acts ≡ (send_outcome e k (Labels.lowest_label 32 (w.part e).at_itag) (not none)).acts → Pumped said
+  by_send : OfSend w e Pumped
   by_send false some no_wait free said answers acts =
       let t = Labels.lowest_label 32 (w.part e).at_itag in
       subst Pumped answers
@@ -184,17 +219,8 @@ module _ (w : World) (e : ℕ) (i : Invariant w) (ordered : InOrder (w.part e)) 
   by_send true some no_wait free said answers acts =
       subst Pumped answers (sends_none w e (made some) (head_is (w.part e) some) phase no_wait (no_itag_is w e i free))
 
-  by_order : Labels.is_queue_empty (w.part e) ≡ false → (x : Order) → (w.part e).order k ≡ x → (said : Answer)
-      → (head_outcome (w.part e) e k x).answer ≡ said → (decide w (step.Pump e)).acts ≡ (head_outcome (w.part e) e k x).acts → Pumped said
-  by_order some (Wait cookie drain) is said answers acts = by_wait cookie drain (may_pass (w.part e) drain) some is refl said answers acts
-  by_order some (RangeOf b range) is said answers acts =
-      by_send (Labels.lowest_label 32 (w.part e).at_itag == 32) some (ap is_wait is) refl said answers acts
-  by_order some (PasidOf b) is said answers acts =
-      by_send (Labels.lowest_label 32 (w.part e).at_itag == 32) some (ap is_wait is) refl said answers acts
-
-  by_queue : (b : Bool) → Labels.is_queue_empty (w.part e) ≡ b → (said : Answer) → (pump_outcome (w.part e) e b).answer ≡ said
-      → (decide w (step.Pump e)).acts ≡ (pump_outcome (w.part e) e b).acts → Pumped said
-  by_queue true none said answers acts =
+  by_none : OfNone w e Pumped
+  by_none none said answers acts =
       subst Pumped answers
       (by_head w e phase
       ∙ ap (λ xs. pump_head (open_of w).settings (shown w e) (slice_get xs 0))
@@ -202,12 +228,11 @@ module _ (w : World) (e : ℕ) (i : Invariant w) (ordered : InOrder (w.part e)) 
       (λ j l. ap (λ b. where_so b (descriptor_of e (w.part e) ((w.part e).order j)))
       (any_below-false (w.part e).orders (λ x. is_queued ((w.part e).order_state x))
       (not-true (any_below (w.part e).orders (λ x. is_queued ((w.part e).order_state x))) none) j l))))
-  by_queue false some said answers acts = by_order some ((w.part e).order k) refl said answers acts
 
   pub pumps : (said : Answer) → (outcome w (step.Pump e)).answer ≡ said
       → (decide w (step.Pump e)).acts ≡ (outcome w (step.Pump e)).acts
       → pump (open_of w).settings (shown w e) ≡ if_taken said (shown (next w (step.Pump e)) e)
-  pumps said answers acts = by_queue (Labels.is_queue_empty (w.part e)) refl said answers acts
+  pumps said answers acts = pump_ways w e Pumped by_wait by_send by_none said answers acts
 
 pumped_alike : (w : World) (e : ℕ) → Invariant w → InOrder (w.part e) → Owed w.messages (w.part e) → IsPumpedAlike w e
 pumped_alike w e i ordered owed =

@@ -6,7 +6,7 @@ use Rattle.std.proofs.lemmas.Option.{slice_get_within}
 use Rattle.sva_labels.proofs.Lists.{tabulate_length}
 use Rattle.sva_model.specs.Message.{Code}
 use Rattle.sva_model.specs.Words.{tabulate}
-use Rattle.sva_model.specs.State.{Stage, PasidState, RequestState, UseState, PageRequestState, GroupState, OrderState, Subject, Phase, Endpoint}
+use Rattle.sva_model.specs.State.{Stage, PasidState, RequestState, UseState, GroupState, OrderState, Subject, Phase, Endpoint}
 use Rattle.sva_model.specs.State.{World}
 use Rattle.sva_model.specs.State.PasidState.{Off}
 use Rattle.sva_model.specs.State.RequestState.{Out}
@@ -26,6 +26,7 @@ use Rattle.sva_laws.proofs.Invariant.{Invariant}
 use Rattle.sva_laws.proofs.Agreement.{usable, place_mapped, matched}
 use Rattle.sva_laws.proofs.Found.{labelled, found}
 use Rattle.sva_laws.proofs.Groups.{answerable_outstanding}
+use Rattle.sva_laws.proofs.PageRequests.{arrived_is}
 use Rattle.sva_laws.specs.UnderWay.{is_answerable}
 use Rattle.sva_laws.specs.InReset.{IsInReset}
 use Rattle.sva_open.specs.declared.frames.Translation.{Translation}
@@ -326,9 +327,6 @@ flight w e i one h =
     flies_right w e x.0 ((w.part e).message x.0) i refl one x.2
 
 -- ---- the page requests
-
-arrived_is : (s : PageRequestState) → is_arrived s ≡ true → s ≡ Arrived
-arrived_is s h = grind arith
 
 not_open : (f : Phase) → is_open f ≡ false → f ≡ Open → ⊥
 not_open f h k = absurd (cc (sym h ∙ ap is_open k))

@@ -1,7 +1,6 @@
 -- The open world shows all that its safety speaks of.
-use Rattle.std.proofs.Common.{◌≡◌, ◌≢◌, ◌⊎◌, inl, inr, refl, ap, sym, subst, ◌∙◌, ℕ, ◌<◌, ◌≤◌, Bool, true, arith}
+use Rattle.std.proofs.Common.{◌≡◌, ◌≢◌, refl, ap, sym, subst, ◌∙◌, ℕ, ◌<◌, Bool, true, arith}
 use Rattle.std.specs.Prelude.{not, List, Some, option_map, Contains, slice_get, IfSome}
-use Rattle.std.proofs.lemmas.Bool.{cases_lt}
 use Rattle.sva_model.specs.State.{Stage, PasidState, Subject, Endpoint, World}
 use Rattle.sva_model.specs.State.Stage.{Unbound, Live, Stopping}
 use Rattle.sva_model.specs.State.PasidState.{Off}
@@ -27,7 +26,7 @@ use Rattle.sva_open_laws.specs.AsOpen.{arrived_of, filed_of, part_of}
 use Rattle.sva_open_laws.specs.Shown.{IsOfOne, IsInRow, ShowsAll, named_in}
 use Rattle.sva_open_laws.proofs.Gathered.{in_gather, in_one, tabulate_get, first_gathered, first_there}
 use Rattle.sva_open_laws.proofs.Safety.{bearer_owned, live_is, marked_is, started_is}
-use Rattle.sva_open_laws.proofs.Usable.{last_of, current_by, near, made, bound_by, shown_at, sent_low, unreleased_of}
+use Rattle.sva_open_laws.proofs.Usable.{last_of, current_by, near, made, bound_by, bound_low, shown_at, sent_low, unreleased_of}
 
 -- ---- what else is of a binding
 
@@ -45,16 +44,12 @@ in_row : (w : World) (e b : ℕ) (f : ℕ → Bool) → Invariant w → is_unrel
     → ((d : ℕ) → f d ≡ true → is_unreleased ((w.part e).stage d) ≡ true)
     → IsInRow w e b (first_of w.bindings (w.part e) ((w.part e).pasid b) f)
 in_row w e b f i u h all =
-    let x = first_there w.bindings p (p.pasid b) f b (made_name (cases_lt b w.bindings)) h refl in
+    let x = first_there w.bindings p (p.pasid b) f b (bound_low w e b i (unreleased_bound p b u)) h refl in
     let same : x.0 ≡ b = distinct w e x.0 b i (all x.0 x.2) u x.3 in
     (unreleased_one w e b i u, ((labelled w e i).pasid_low b u).1, x.1 ∙ ap Some same)
   where
     p : Endpoint
     p = w.part e
-
-    made_name : (b < w.bindings) ⊎ (w.bindings ≤ b) → b < w.bindings
-    made_name (inl l) = l
-    made_name (inr k) = absurd (unreleased_bound p b u ((i.parts e).bounds.stage b k))
 
 live_true : (s : Stage) → s ≡ Live → is_live_stage s ≡ true
 live_true s h = ap is_live_stage h

@@ -31,13 +31,12 @@ use Rattle.sva_open_laws.specs.LinkOrders.{IsDeliveredAlike, place_of_message}
 use Rattle.sva_open_laws.proofs.ActParts.{at_one_endpoint}
 use Rattle.sva_open_laws.proofs.ArriveActs.{flying_same, light, seen}
 use Rattle.sva_open_laws.proofs.BindActs.{find_same}
-use Rattle.sva_open_laws.proofs.BindParts.{made}
 use Rattle.sva_open_laws.proofs.DeviceActs.{calm, never}
 use Rattle.sva_open_laws.proofs.Gathered.{tabulate_get}
 use Rattle.sva_open_laws.proofs.GatherLists.{Split, gather_more, remove_at, split}
 use Rattle.sva_open_laws.proofs.LinkLists.{delivered_alike}
 use Rattle.sva_open_laws.proofs.Safety.{started_is}
-use Rattle.sva_open_laws.proofs.Usable.{sent_low}
+use Rattle.sva_open_laws.proofs.Usable.{bound_low, sent_low}
 
 -- the one number that passes is found
 find_one : (n : ℕ) (q : ℕ → Bool) (k : ℕ) → k < n → q k ≡ true → ((j : ℕ) → j ≢ k → q j ≡ false) → find n q ≡ Some k
@@ -136,7 +135,7 @@ module _ (w : World) (e c b : ℕ) (i : Invariant w) (low : e < w.config.endpoin
 
   user_now : user_of w.bindings started t ≡ Some b
   user_now =
-      find_one w.bindings (used_under started t) b (made w e 0 0 i b (unreleased_bound p b bearer.unreleased))
+      find_one w.bindings (used_under started t) b (bound_low w e b i (unreleased_bound p b bearer.unreleased))
       (and_from (not (is_off (started.pasid_state b))) (p.pasid b == t) (ap (λ x. not (is_off x)) (put-same p.pasid_state b On)) (eq-eqb t t refl))
       used_alone
 

@@ -6,7 +6,7 @@ use Rattle.std.proofs.lemmas.List.Elements.{Contains-append_left}
 use Rattle.sva_model.specs.State.{Stage, Subject, Endpoint, World}
 use Rattle.sva_model.specs.State.Stage.{Unbound}
 use Rattle.sva_model.specs.Words.{tabulate}
-use Rattle.sva_model.specs.State.RequestState.{Out}
+use Rattle.sva_model.specs.State.RequestState.{Out, Over}
 use Rattle.sva_model.specs.State.UseState.{Running, Ended}
 use Rattle.sva_model.specs.State.Subject.{CompletionOf}
 use Rattle.sva_model.specs.States.{is_unreleased, is_out, is_running, is_free}
@@ -85,11 +85,21 @@ current_by w m i made la fr =
 pub held_low : (n : ℕ) (p : Endpoint) (r m : ℕ) → (p.requests ≤ r → p.held r ≡ None) → p.held r ≡ Some m → r < p.requests
 held_low n p r m h k = grind (arith, h)
 
+pub out_low : (p : Endpoint) (r : ℕ) → (p.requests ≤ r → p.request r ≡ Over) → is_out (p.request r) ≡ true → r < p.requests
+out_low p r h k = grind (arith, h, k)
+
 pub run_low : (p : Endpoint) (u : ℕ) → (p.uses ≤ u → p.use_state u ≡ Ended) → p.use_state u ≡ Running → u < p.uses
 run_low p u h k = grind (arith, h)
 
 pub sent_low : (n : ℕ) (p : Endpoint) (c : ℕ) (s : Subject) → (n ≤ c → p.message c ≡ None) → p.message c ≡ Some s → c < n
 sent_low n p c s h k = grind (arith, h)
+
+pub bound_low : (w : World) (e b : ℕ) → Invariant w → (w.part e).stage b ≢ Unbound → b < w.bindings
+bound_low w e b i h = go (cases_lt b w.bindings)
+  where
+    go : (b < w.bindings) ⊎ (w.bindings ≤ b) → b < w.bindings
+    go (inl l) = l
+    go (inr k) = absurd (h ((i.parts e).bounds.stage b k))
 
 pub near : (w : World) (e b q m : ℕ) → Invariant w → Usable w e b q m → e < w.config.endpoints
 near w e b q m i u = (i.parts e).there b (unreleased_bound (w.part e) b (owner w e b q m i u))
@@ -177,12 +187,8 @@ unreleased_of w e b i bo there = go (p.at_pasid (p.pasid b)) refl
     go : (o : Option ℕ) → p.at_pasid (p.pasid b) ≡ o → is_unreleased (p.stage b) ≡ true
     go None at =
         let g : owner_of p b ≡ had_before p (p.pasid b) w.bindings = own ∙ ap (owner_by w.bindings p (p.pasid b)) at in
-        let l = later_owner p b w.bindings bo (low_name (cases_lt b w.bindings)) in
+        let l = later_owner p b w.bindings bo (bound_low w e b i (not_made (p.stage b) bo)) in
         absurd (omega arith)
-      where
-        low_name : (b < w.bindings) ⊎ (w.bindings ≤ b) → b < w.bindings
-        low_name (inl l) = l
-        low_name (inr h) = absurd (not_made (p.stage b) bo ((i.parts e).bounds.stage b h))
     go (Some d) at =
         let x = ((labelled w e i).pasid (p.pasid b) d).0 at in
         let g : owner_of p b ≡ owner_of p d = own ∙ ap (owner_by w.bindings p (p.pasid b)) at in

@@ -14,7 +14,7 @@ use Rattle.sva_open.specs.declared.acts.LocalAct.{LocalAct}
 use Rattle.sva_open.specs.declared.acts.LocalAct.TheVariants as local
 use Rattle.sva_open.specs.World.{Open, Part}
 use Rattle.sva_open.specs.Acts.{done_at, free_frame, freeze, next_open, next_part, parts_after, set_page, with_parts}
-use Rattle.sva_open.specs.Below.{about, about_part, awaits_all, head_of, holds_up, is_of_unit, is_one, left_at, matter_of, shared, told, with_told}
+use Rattle.sva_open.specs.Below.{about, awaits_all, head_of, holds_up, is_of_unit, is_one, left_at, matter_of, shared, told, with_told}
 use Rattle.sva_open.specs.Below.{left as left_of}
 use Rattle.sva_open.specs.Below.Matter.{OwnEndpoint}
 use Rattle.sva_open.specs.Devices as device
@@ -27,6 +27,7 @@ use Rattle.sva_open_laws.proofs.DevicesPaid as devices
 use Rattle.sva_open_laws.proofs.LinksPaid as links
 use Rattle.sva_open_laws.proofs.OneUnit.{alone, numbered_set, set_here}
 use Rattle.sva_open_laws.proofs.OneUnitActs.{IsLeft, Of, left}
+use Rattle.sva_open_laws.proofs.PageBelow.{own_about}
 use Rattle.sva_open_laws.proofs.UnitsPaid.{quiet, told_numbered, told_own, told_units}
 
 -- ---- at an endpoint
@@ -172,11 +173,6 @@ acts_at now at price own numbered less = by (slice_get now.parts at) refl
 
 -- ---- about its own endpoint, or for nothing
 
-about_own : (units : List ℕ) (at : ℕ) (own : LocalAct) (o : Option Part) → matter_of own ≡ OwnEndpoint → about units at own o ≡ at
-about_own [] at own o is = refl
-about_own (unit ∷ units) at own None is = refl
-about_own (unit ∷ units) at own (Some part) is = ap (λ m. about_part at m part) is
-
 own_or_free : (own : LocalAct) → (matter_of own ≡ OwnEndpoint) ⊎ (local_price own ≡ 0)
 own_or_free local.Pump = inr refl
 own_or_free local.Serve = inr refl
@@ -186,7 +182,7 @@ acts_own : (now : Open) (at price : ℕ) (own : LocalAct) → matter_of own ≡ 
     → ((part : Part) → slice_get now.parts at ≡ Some part → IsBelow (part_weight part + price) (next_part now.settings now.mappings part own))
     → IsPaid now (world_weight now + price) (next_open now (act.At at own))
 acts_own now at price own is numbered less =
-    subst (λ n. IsPaid now (world_weight now + price) (done_at now n own)) (sym (about_own now.units at own (slice_get now.parts at) is))
+    subst (λ n. IsPaid now (world_weight now + price) (done_at now n own)) (sym (own_about now.units at own (slice_get now.parts at) is))
     (acts_at now at price own numbered less)
 
 -- what costs less is paid too

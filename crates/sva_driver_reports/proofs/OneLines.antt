@@ -138,6 +138,7 @@ forgotten_one endpoint (Some kept) = page_one (codes "forget") endpoint kept.pas
 pub act_one : (part : Part) (endpoint : ℕ) (its : LocalAct) → IsOneLine (local_text part endpoint its)
 act_one part endpoint (local.Deliver place) = delivered_one part endpoint place (slice_get part.flight place)
 act_one part endpoint local.Pump = endpoint_one (codes "pump") endpoint refl
+act_one part endpoint (local.PumpAt place) = pasid_one (codes "pump") endpoint place refl
 act_one part endpoint (local.Expire itag silent) = pasid_one (codes "expire") endpoint itag refl
 act_one part endpoint local.Write = endpoint_one (codes "write") endpoint refl
 act_one part endpoint local.Serve = endpoint_one (codes "serve") endpoint refl
@@ -171,6 +172,7 @@ pub who_one : (own : Doing) (at : ℕ) → IsOneLine (who_text own at)
 who_one doing.Line at = refl
 who_one doing.Deliver at = refl
 who_one doing.Pump at = endpoint_one (codes "unit") at refl
+who_one doing.PumpAt at = endpoint_one (codes "unit") at refl
 who_one doing.Expire at = endpoint_one (codes "unit") at refl
 who_one doing.Write at = endpoint_one (codes "unit") at refl
 who_one doing.ForgetEntry at = endpoint_one (codes "unit") at refl

@@ -55,6 +55,7 @@ expired_text endpoint itag = with_endpoint (codes "expire") endpoint ++ and_numb
 abbrev pub local_text : Part → (endpoint : ℕ) → LocalAct → List ℕ
 local_text part endpoint (local.Deliver place) = delivered_text part endpoint place (slice_get part.flight place)
 local_text part endpoint local.Pump = with_endpoint (codes "pump") endpoint
+local_text part endpoint (local.PumpAt place) = with_pasid (codes "pump") endpoint place
 local_text part endpoint (local.Expire itag silent) = expired_text endpoint itag
 local_text part endpoint local.Write = with_endpoint (codes "write") endpoint
 local_text part endpoint local.Serve = with_endpoint (codes "serve") endpoint

@@ -91,6 +91,7 @@ abbrev pub who_text : Doing → (at : ℕ) → List ℕ
 who_text doing.Line at = []
 who_text doing.Deliver at = codes "link"
 who_text doing.Pump at = with_endpoint (codes "unit") at
+who_text doing.PumpAt at = with_endpoint (codes "unit") at
 who_text doing.Expire at = with_endpoint (codes "unit") at
 who_text doing.Write at = with_endpoint (codes "unit") at
 who_text doing.ForgetEntry at = with_endpoint (codes "unit") at
@@ -191,6 +192,7 @@ pairs_text settings =
     ++ said_if (not settings.drain_empties) (codes "drain arrived\n")
     ++ said_if settings.has_caches (codes "caches on\n")
     ++ stopped_text settings.stopped
+    ++ said_if settings.is_loose (codes "order loose\n")
 
 -- the settings that are told only where they are said
 abbrev pub unpaired_text : Settings → List ℕ

@@ -219,6 +219,7 @@ pub(crate) fn put_act(
     match act {
         LocalAct::Deliver { place } => put_delivered(out, part, endpoint, *place),
         LocalAct::Pump => put_endpoint(out, b"pump", endpoint),
+        LocalAct::PumpAt { place } => put_pasid(out, b"pump", endpoint, *place),
         LocalAct::Expire { itag, .. } => put_expired(out, endpoint, *itag),
         LocalAct::Write => put_endpoint(out, b"write", endpoint),
         LocalAct::Serve => put_endpoint(out, b"serve", endpoint),

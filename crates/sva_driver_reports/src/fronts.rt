@@ -60,6 +60,7 @@ fn put_pairs(out: &mut Vec<u8>, settings: &Settings) -> Result<(), AllocError>
     put_if(out, !settings.drain_empties, b"drain arrived\n")?;
     put_if(out, settings.has_caches, b"caches on\n")?;
     out.extend_from_slice(stopped_text(settings.stopped).as_bytes())?;
+    put_if(out, settings.is_loose, b"order loose\n")?;
     Ok(())
 }
 

@@ -163,8 +163,12 @@ fn put_who(out: &mut Vec<u8>, doing: Doing, at: usize) -> Result<(), AllocError>
     match doing {
         Doing::Line => Ok(()),
         Doing::Deliver => out.extend_from_slice(b"link"),
-        Doing::Pump | Doing::Expire | Doing::Write | Doing::ForgetEntry | Doing::Forget =>
-            put_endpoint(out, b"unit", at),
+        Doing::Pump
+        | Doing::PumpAt
+        | Doing::Expire
+        | Doing::Write
+        | Doing::ForgetEntry
+        | Doing::Forget => put_endpoint(out, b"unit", at),
         Doing::Serve | Doing::Answer | Doing::Fail => out.extend_from_slice(b"worker"),
         Doing::End
         | Doing::Finish

@@ -26,6 +26,7 @@ unsaid = record {
   all_fence = true;
   drain_empties = true;
   refuses_drain = false;
+  is_loose = false;
   has_caches = false;
   stopped = Marker;
   allows_no_group = false;
@@ -47,14 +48,15 @@ is_setting word =
     || bytes_eq word (codes "refuses")
     || bytes_eq word (codes "allow")
     || bytes_eq word (codes "unit")
+    || bytes_eq word (codes "order")
 
--- a platform is four settings: `vt-d` what Intel VT-d on PCI Express is, `free` what holds where nothing is said
+-- a platform is five settings: `vt-d` what Intel VT-d on PCI Express is, `free` what holds where nothing is said
 abbrev pub platform_set : Settings → List (List ℕ) → Result Settings DriverWrong
 platform_set settings words =
     if says 1 (codes "vt-d") words
-    then Ok (record settings { link = Posted; all_fence = false; drain_empties = false; has_caches = true }) else
+    then Ok (record settings { link = Posted; all_fence = false; drain_empties = false; has_caches = true; is_loose = true }) else
     if says 1 (codes "free") words
-    then Ok (record settings { link = Free; all_fence = true; drain_empties = true; has_caches = false }) else
+    then Ok (record settings { link = Free; all_fence = true; drain_empties = true; has_caches = false; is_loose = false }) else
     wrong_at 1 wanted.Platform
 
 abbrev pub link_set : Settings → List (List ℕ) → Result Settings DriverWrong
@@ -107,15 +109,24 @@ abbrev pub refuses_set : Settings → List (List ℕ) → Result Settings Driver
 refuses_set settings words =
     if says 1 (codes "drain") words then Ok (record settings { refuses_drain = true }) else wrong_at 1 wanted.Refused
 
+-- in which order units take descriptors
+abbrev pub order_set : Settings → List (List ℕ) → Result Settings DriverWrong
+order_set settings words =
+    if says 1 (codes "queue") words then Ok (record settings { is_loose = false }) else
+    if says 1 (codes "loose") words then Ok (record settings { is_loose = true }) else
+    wrong_at 1 wanted.Taken
+
 abbrev pub allow_set : Settings → List (List ℕ) → Result Settings DriverWrong
 allow_set settings words =
     if says 1 (codes "no-group") words then Ok (record settings { allows_no_group = true }) else wrong_at 1 wanted.Allowed
 
--- what a reset leaves, what runs out of time, those that are no pair, or else by what an endpoint says that it has stopped
+-- what a reset leaves, what runs out of time, the order of descriptors, those that are no pair, or else by what an endpoint says that
+-- it has stopped
 abbrev pub set_other : Settings → List (List ℕ) → Result Settings DriverWrong
 set_other settings words =
     if says 0 (codes "enables") words then enables_set settings words else
     if says 0 (codes "timeouts") words then timeouts_set settings words else
+    if says 0 (codes "order") words then order_set settings words else
     if says 0 (codes "refuses") words then refuses_set settings words else
     if says 0 (codes "allow") words then allow_set settings words else
     stopped_set settings words

@@ -50,6 +50,7 @@ need_at (local.Pass place) = need.Drained
 need_at (local.Quit pasid) = need.Idle
 need_at local.Leave = need.There
 need_at local.Pump = need.Head
+need_at (local.PumpAt place) = need.Unbarred
 need_at (local.Expire itag silent) = need.Unanswered
 need_at local.Write = need.Received
 need_at (local.ForgetEntry place) = need.KeptEntry

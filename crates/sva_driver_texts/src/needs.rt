@@ -49,6 +49,7 @@ fn need_at(act: &LocalAct) -> Need
         LocalAct::Quit { .. } => Need::Idle,
         LocalAct::Leave => Need::There,
         LocalAct::Pump => Need::Head,
+        LocalAct::PumpAt { .. } => Need::Unbarred,
         LocalAct::Expire { .. } => Need::Unanswered,
         LocalAct::Write => Need::Received,
         LocalAct::ForgetEntry { .. } => Need::KeptEntry,

@@ -63,6 +63,7 @@ fn pasid_of(act: &LocalAct) -> usize
         | LocalAct::Pass { .. }
         | LocalAct::Leave
         | LocalAct::Pump
+        | LocalAct::PumpAt { .. }
         | LocalAct::Expire { .. }
         | LocalAct::Write
         | LocalAct::ForgetEntry { .. }

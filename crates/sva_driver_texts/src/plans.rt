@@ -115,6 +115,7 @@ fn started_by(is_there: bool, act: &LocalAct) -> Option<u64>
         | LocalAct::Quit { .. }
         | LocalAct::Leave
         | LocalAct::Pump
+        | LocalAct::PumpAt { .. }
         | LocalAct::Expire { .. }
         | LocalAct::Write
         | LocalAct::ForgetEntry { .. }

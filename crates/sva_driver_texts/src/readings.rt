@@ -163,6 +163,7 @@ impl Reading {
                 all_fence: true,
                 drain_empties: true,
                 refuses_drain: false,
+                is_loose: false,
                 has_caches: false,
                 stopped: Stopped::Marker,
                 allows_no_group: false,

@@ -22,9 +22,10 @@ pub(crate) fn is_setting(word: &[u8]) -> bool
         || is(word, b"refuses")
         || is(word, b"allow")
         || is(word, b"unit")
+        || is(word, b"order")
 }
 
-/// The four settings of a platform.
+/// The five settings of a platform.
 fn platform_set(settings: Settings, words: &[&[u8]]) -> Result<Settings, DriverWrong>
     ensures { result ≡ devices.platform_set settings (map (λ word. word.now) words.now) }
 {
@@ -34,6 +35,7 @@ fn platform_set(settings: Settings, words: &[&[u8]]) -> Result<Settings, DriverW
             all_fence: false,
             drain_empties: false,
             has_caches: true,
+            is_loose: true,
             ..settings
         });
     }
@@ -43,6 +45,7 @@ fn platform_set(settings: Settings, words: &[&[u8]]) -> Result<Settings, DriverW
             all_fence: true,
             drain_empties: true,
             has_caches: false,
+            is_loose: false,
             ..settings
         });
     }
@@ -201,6 +204,25 @@ fn refuses_set(settings: Settings, words: &[&[u8]]) -> Result<Settings, DriverWr
     Err(wrong_at(1, DriverWanted::Refused))
 }
 
+/// In which order units take descriptors.
+fn order_set(settings: Settings, words: &[&[u8]]) -> Result<Settings, DriverWrong>
+    ensures { result ≡ devices.order_set settings (map (λ word. word.now) words.now) }
+{
+    if says(words, 1, b"queue") {
+        return Ok(Settings {
+            is_loose: false,
+            ..settings
+        });
+    }
+    if says(words, 1, b"loose") {
+        return Ok(Settings {
+            is_loose: true,
+            ..settings
+        });
+    }
+    Err(wrong_at(1, DriverWanted::Taken))
+}
+
 fn allow_set(settings: Settings, words: &[&[u8]]) -> Result<Settings, DriverWrong>
     ensures { result ≡ devices.allow_set settings (map (λ word. word.now) words.now) }
 {
@@ -213,8 +235,8 @@ fn allow_set(settings: Settings, words: &[&[u8]]) -> Result<Settings, DriverWron
     Err(wrong_at(1, DriverWanted::Allowed))
 }
 
-/// What a reset leaves, what runs out of time, the settings that are no pair, or else by what endpoints say that they
-/// have stopped.
+/// What a reset leaves, what runs out of time, the order of descriptors, the settings that are no pair, or else by what
+/// endpoints say that they have stopped.
 fn set_other(settings: Settings, words: &[&[u8]]) -> Result<Settings, DriverWrong>
     ensures { result ≡ devices.set_other settings (map (λ word. word.now) words.now) }
 {
@@ -223,6 +245,9 @@ fn set_other(settings: Settings, words: &[&[u8]]) -> Result<Settings, DriverWron
     }
     if says(words, 0, b"timeouts") {
         return timeouts_set(settings, words);
+    }
+    if says(words, 0, b"order") {
+        return order_set(settings, words);
     }
     if says(words, 0, b"refuses") {
         return refuses_set(settings, words);

@@ -74,6 +74,7 @@ wanted_text wanted.Link = codes "free or posted"
 wanted_text wanted.Waits = codes "fence or plain"
 wanted_text wanted.Drain = codes "empty or arrived"
 wanted_text wanted.Caches = codes "off or on"
+wanted_text wanted.Taken = codes "queue or loose"
 wanted_text wanted.Stopped = codes "marker, status or known"
 wanted_text wanted.Refused = codes "drain"
 wanted_text wanted.Allowed = codes "no-group"
@@ -90,6 +91,7 @@ wanted_text wanted.Page = codes "the number of a page"
 wanted_text wanted.Order = codes "an order, 0 to 9"
 wanted_text wanted.Index = codes "the index of a group"
 wanted_text wanted.Itag = codes "an ITag, 0 to 31"
+wanted_text wanted.Place = codes "a place in the queue, 0 to 63"
 wanted_text wanted.Count = codes "a number, 0 to 65535"
 wanted_text wanted.Access = codes "r or w"
 wanted_text wanted.Asked = codes "r, w or rw"
@@ -123,7 +125,7 @@ act_words =
 unfoldable pub setting_words : List (List ℕ)
 setting_words =
     codes "platform" ∷ codes "link" ∷ codes "waits" ∷ codes "drain" ∷ codes "caches" ∷ codes "stopped" ∷
-    codes "refuses" ∷ codes "allow" ∷ codes "enables" ∷ codes "timeouts" ∷ codes "unit" ∷ []
+    codes "refuses" ∷ codes "allow" ∷ codes "enables" ∷ codes "timeouts" ∷ codes "unit" ∷ codes "order" ∷ []
 
 -- the words that stand behind `platform`
 unfoldable pub platform_words : List (List ℕ)

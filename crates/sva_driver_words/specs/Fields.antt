@@ -73,6 +73,10 @@ index_at at want words = number_at 0 512 at want words
 abbrev pub itag_at : (at : ℕ) → List (List ℕ) → Result ℕ DriverWrong
 itag_at at words = number_at 0 32 at wanted.Itag words
 
+-- an invalidation queue has 64 places
+abbrev pub place_at : (at : ℕ) → List (List ℕ) → Result ℕ DriverWrong
+place_at at words = number_at 0 64 at wanted.Place words
+
 -- a number of events
 abbrev pub count_at : (at : ℕ) → List (List ℕ) → Result ℕ DriverWrong
 count_at at words = number_at 0 65536 at wanted.Part words

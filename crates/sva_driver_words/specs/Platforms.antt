@@ -35,6 +35,7 @@ pairs_text settings =
     ++ one_of settings.drain_empties (codes ", drain empty") (codes ", drain arrived")
     ++ one_of settings.has_caches (codes ", caches on") (codes ", caches off")
     ++ stopped_words settings.stopped
+    ++ one_of settings.is_loose (codes ", order loose") (codes ", order queue")
 
 -- the settings that are told only where they are said
 abbrev pub unpaired_text : Settings → List ℕ
@@ -79,16 +80,17 @@ other_text is_begun so word = if so then mark is_begun ++ word else []
 abbrev pub others_end : (is_begun : Bool) → List ℕ
 others_end is_begun = if is_begun then 10 ∷ [] else []
 
-abbrev pub others_by : (waits drain caches status known : Bool) → List ℕ
-others_by waits drain caches status known =
+abbrev pub others_by : (waits drain caches status known order : Bool) → List ℕ
+others_by waits drain caches status known order =
     other_text false waits (codes "waits plain")
     ++ other_text waits drain (codes "drain arrived")
     ++ other_text (waits || drain) caches (codes "caches on")
     ++ other_text ((waits || drain) || caches) status (codes "stopped status")
     ++ other_text (((waits || drain) || caches) || status) known (codes "stopped known")
-    ++ others_end ((((waits || drain) || caches) || status) || known)
+    ++ other_text ((((waits || drain) || caches) || status) || known) order (codes "order loose")
+    ++ others_end (((((waits || drain) || caches) || status) || known) || order)
 
 abbrev pub not_asked_text : Settings → List ℕ
 not_asked_text settings =
     others_by settings.all_fence settings.drain_empties (not settings.has_caches)
-    (may_be_status settings.stopped) (may_be_known settings.link settings.stopped)
+    (may_be_status settings.stopped) (may_be_known settings.link settings.stopped) (not settings.is_loose)

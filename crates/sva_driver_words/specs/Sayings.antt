@@ -16,7 +16,7 @@ use Rattle.sva_open.specs.declared.naming.Named.TheVariants as named
 use Rattle.sva_race_texts.specs.Words.{word_at}
 use Rattle.sva_driver_words.specs.Faults.{no_more}
 use Rattle.sva_driver_words.specs.Fields.{access_at, asked_at, endpoint_at, fails_at, frame_at, has_word, index_at, kind_at, last_at, older_at}
-use Rattle.sva_driver_words.specs.Fields.{page_at, pasid_at, says, some_pasid_at, space_at}
+use Rattle.sva_driver_words.specs.Fields.{page_at, pasid_at, place_at, says, some_pasid_at, space_at}
 use Rattle.sva_driver_words.specs.declared.faults.DriverWanted.TheVariants as wanted
 use Rattle.sva_driver_words.specs.declared.faults.DriverWrong.{DriverWrong}
 
@@ -62,7 +62,7 @@ mark_line words = do
   _ ← no_more 1 words
   Ok (DoesSaid act.Mark)
 
--- ---- `reset E`, `serve E`, `close E`, `open E`, `skip E`, `resume E`, `gone E`, `write E`, `pump E`
+-- ---- `reset E`, `serve E`, `close E`, `open E`, `skip E`, `resume E`, `gone E`, `write E`
 
 abbrev pub takes_endpoint : (word : List ℕ) → Bool
 takes_endpoint word =
@@ -74,7 +74,6 @@ takes_endpoint word =
     || bytes_eq word (codes "resume")
     || bytes_eq word (codes "gone")
     || bytes_eq word (codes "write")
-    || bytes_eq word (codes "pump")
 
 abbrev pub of_endpoint : (word : List ℕ) → (endpoint : ℕ) → SayingSaid
 of_endpoint word endpoint =
@@ -85,14 +84,26 @@ of_endpoint word endpoint =
     if bytes_eq word (codes "skip") then did endpoint local.Skip else
     if bytes_eq word (codes "resume") then did endpoint local.Resume else
     if bytes_eq word (codes "gone") then did endpoint local.Leave else
-    if bytes_eq word (codes "write") then did endpoint local.Write else
-    did endpoint local.Pump
+    did endpoint local.Write
 
 abbrev pub endpoint_line : Config → List (List ℕ) → Result SayingSaid DriverWrong
 endpoint_line config words = do
   endpoint ← endpoint_at config 1 words
   _ ← no_more 2 words
   Ok (of_endpoint (word_at 0 words) endpoint)
+
+-- ---- `pump E`, in the order of the queue; `pump E N`, out of it
+
+abbrev pub pumped_at : (endpoint : ℕ) → List (List ℕ) → Result SayingSaid DriverWrong
+pumped_at endpoint words = do
+  place ← place_at 2 words
+  _ ← no_more 3 words
+  Ok (did endpoint (local.PumpAt place))
+
+abbrev pub pump_line : Config → List (List ℕ) → Result SayingSaid DriverWrong
+pump_line config words = do
+  endpoint ← endpoint_at config 1 words
+  if has_word 2 words then pumped_at endpoint words else Ok (did endpoint local.Pump)
 
 -- ---- `start E P`, `stop E P`, `barrier E P`, `quit E P`
 

@@ -35,11 +35,10 @@ pub(crate) fn takes_endpoint(word: &[u8]) -> bool
         || is(word, b"resume")
         || is(word, b"gone")
         || is(word, b"write")
-        || is(word, b"pump")
 }
 
 /// An act at an endpoint.
-fn did(endpoint: usize, act: LocalAct) -> Saying
+pub(crate) fn did(endpoint: usize, act: LocalAct) -> Saying
     ensures { saying_seen result ≡ act_seen (variants.At endpoint act) }
 {
     Saying::Does {
@@ -72,10 +71,7 @@ fn of_endpoint(word: &[u8], endpoint: usize) -> Saying
     if is(word, b"gone") {
         return did(endpoint, LocalAct::Leave);
     }
-    if is(word, b"write") {
-        return did(endpoint, LocalAct::Write);
-    }
-    did(endpoint, LocalAct::Pump)
+    did(endpoint, LocalAct::Write)
 }
 
 /// Reads a line with an endpoint alone.

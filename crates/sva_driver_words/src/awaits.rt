@@ -77,6 +77,7 @@ fn wait_of(endpoint: usize, act: &LocalAct) -> Option<usize>
         | LocalAct::Quit { .. }
         | LocalAct::Leave
         | LocalAct::Pump
+        | LocalAct::PumpAt { .. }
         | LocalAct::Expire { .. }
         | LocalAct::Write
         | LocalAct::ForgetEntry { .. }

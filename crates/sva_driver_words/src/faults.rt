@@ -89,6 +89,8 @@ pub enum DriverWanted {
     Drain,
     /// Whether units keep something.
     Caches,
+    /// In which order units take descriptors.
+    Taken,
     /// By what an endpoint says that it has stopped.
     Stopped,
     /// What a unit refuses.
@@ -121,6 +123,8 @@ pub enum DriverWanted {
     Index,
     /// An ITag.
     Itag,
+    /// A place in an invalidation queue.
+    Place,
     /// How many are older, 0 to 65535.
     Count,
     /// `r` or `w`.
@@ -253,6 +257,7 @@ fn words_of(wanted: &DriverWanted) -> &'static str
         DriverWanted::Waits => "fence or plain",
         DriverWanted::Drain => "empty or arrived",
         DriverWanted::Caches => "off or on",
+        DriverWanted::Taken => "queue or loose",
         DriverWanted::Stopped => "marker, status or known",
         DriverWanted::Refused => "drain",
         DriverWanted::Allowed => "no-group",
@@ -269,6 +274,7 @@ fn words_of(wanted: &DriverWanted) -> &'static str
         DriverWanted::Order => "an order, 0 to 9",
         DriverWanted::Index => "the index of a group",
         DriverWanted::Itag => "an ITag, 0 to 31",
+        DriverWanted::Place => "a place in the queue, 0 to 63",
         DriverWanted::Count => "a number, 0 to 65535",
         DriverWanted::Access => "r or w",
         DriverWanted::Asked => "r, w or rw",

@@ -155,6 +155,14 @@ pub fn itag_at(words: &[&[u8]], at: usize) -> Result<usize, DriverWrong>
     Ok(value as usize)
 }
 
+/// A place in an invalidation queue, 0 to 63.
+pub fn place_at(words: &[&[u8]], at: usize) -> Result<usize, DriverWrong>
+    ensures { result ≡ field.place_at at (map (λ word. word.now) words.now) }
+{
+    let value = number_at(words, at, 0, 64, DriverWanted::Place)?;
+    Ok(value as usize)
+}
+
 /// A number of events, 0 to 65535.
 pub fn count_at(words: &[&[u8]], at: usize) -> Result<u64, DriverWrong>
     ensures { result ≡ field.count_at at (map (λ word. word.now) words.now) }

@@ -60,7 +60,7 @@ const ACT_WORDS: [&[u8]; 41] = [
 ];
 
 /// The words that begin a setting.
-const SETTING_WORDS: [&[u8]; 11] = [
+const SETTING_WORDS: [&[u8]; 12] = [
     b"platform",
     b"link",
     b"waits",
@@ -72,6 +72,7 @@ const SETTING_WORDS: [&[u8]; 11] = [
     b"enables",
     b"timeouts",
     b"unit",
+    b"order",
 ];
 
 /// The words that stand behind `platform`.

@@ -49,8 +49,11 @@ pub enum Need {
     TakenLock,
     /// To deliver a message: one in flight that may go.
     Deliverable,
-    /// To take a descriptor: one at the head of an open unit's queue that may go.
+    /// To take the head: an open unit that takes descriptors in order, and one at the head that may go.
     Head,
+    /// To take a descriptor by its place: an open unit that doesn't take them in order, and one there that none before it
+    /// bars.
+    Unbarred,
     /// To drop an entry: that the unit keeps it.
     KeptEntry,
     /// To drop a translation: that the unit keeps it.
@@ -103,7 +106,10 @@ pub(crate) fn need_words(need: Need) -> &'static str
         Need::TakenLock => ": unlock needs a taken lock",
         Need::Deliverable =>
             ": deliver needs such a message in flight, behind none that it may not overtake",
-        Need::Head => ": pump needs an open unit, and a descriptor at the head that may go",
+        Need::Head =>
+            ": pump without a place needs order queue, an open unit, and a descriptor at the head that may go",
+        Need::Unbarred =>
+            ": pump with a place needs order loose, an open unit, and a descriptor there that none before it bars",
         Need::KeptEntry => ": forget needs the entry kept by the unit",
         Need::KeptTranslation => ": forget needs the translation kept by the unit",
         Need::On => ": ask needs the PASID, ATS and bus mastering on at the endpoint",

@@ -4,12 +4,35 @@ ghost use Rattle.std.specs.Prelude.{◌≡◌, map};
 ghost use Rattle.sva_driver_words.specs.Sayings as sayings;
 ghost use Rattle.sva_driver_words.specs.Sayings.{read_seen};
 
+use crate::acts::did;
 use crate::faults::{DriverWanted, DriverWrong, judge_end};
 use crate::fields::{
-    asked_at, endpoint_at, has_word, index_at, kind_at, last_at, older_at, page_at, pasid_at, says,
+    asked_at, endpoint_at, has_word, index_at, kind_at, last_at, older_at, page_at, pasid_at,
+    place_at, says,
 };
 use sva_open::{Act, LocalAct, Named, Saying};
 use sva_step::Config;
+
+/// Reads the end of `pump E N`.
+fn pumped_at(endpoint: usize, words: &[&[u8]]) -> Result<Saying, DriverWrong>
+    ensures { read_seen result ≡ sayings.pumped_at endpoint (map (λ word. word.now) words.now) }
+{
+    let place = place_at(words, 2)?;
+    judge_end(words, 3)?;
+    Ok(did(endpoint, LocalAct::PumpAt { place }))
+}
+
+/// Reads `pump E [N]`.
+pub(crate) fn pump_line(config: &Config, words: &[&[u8]]) -> Result<Saying, DriverWrong>
+    ensures { read_seen result ≡ sayings.pump_line config.now (map (λ word. word.now) words.now) }
+{
+    let endpoint = endpoint_at(config, words, 1)?;
+    if has_word(words, 2) {
+        pumped_at(endpoint, words)
+    } else {
+        Ok(did(endpoint, LocalAct::Pump))
+    }
+}
 
 /// Reads the end of `fault .. new LAST`.
 fn fault_begun(

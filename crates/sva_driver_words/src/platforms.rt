@@ -56,6 +56,8 @@ fn put_pairs(out: &mut Vec<u8>, settings: &Settings) -> Result<(), AllocError>
     let caches = one_of(settings.has_caches, ", caches on", ", caches off");
     out.extend_from_slice(caches.as_bytes())?;
     out.extend_from_slice(stopped_words(settings.stopped).as_bytes())?;
+    let order = one_of(settings.is_loose, ", order loose", ", order queue");
+    out.extend_from_slice(order.as_bytes())?;
     Ok(())
 }
 
@@ -75,9 +77,9 @@ fn put_unpaired(out: &mut Vec<u8>, settings: &Settings) -> Result<(), AllocError
 }
 
 /// Appends a line with each setting of a pair, also where it is the one that holds where nothing is said:
-/// `with link free, waits fence, drain empty, caches off, stopped marker`; and behind them what is cleared, what runs
-/// out of time, what is refused and what is allowed, where something is, and which units are shared: `, enables
-/// cleared, timeouts on, refuses drain, allow no-group, unit 0 1`.
+/// `with link free, waits fence, drain empty, caches off, stopped marker, order queue`; and behind them what is cleared,
+/// what runs out of time, what is refused and what is allowed, where something is, and which units are shared:
+/// `, enables cleared, timeouts on, refuses drain, allow no-group, unit 0 1`.
 pub fn put_platform(
     out: &mut Vec<u8>,
     settings: &Settings,
@@ -148,7 +150,7 @@ fn put_others_end(out: &mut Vec<u8>, is_begun: bool) -> Result<(), AllocError>
 }
 
 /// Appends a line with what leaves more open than these settings do, and so wasn't asked, where there is such a thing:
-/// `not asked: waits plain, drain arrived, caches on, stopped status, stopped known`.
+/// `not asked: waits plain, drain arrived, caches on, stopped status, stopped known, order loose`.
 pub fn put_not_asked(out: &mut Vec<u8>, settings: &Settings) -> Result<(), AllocError>
     ensures { OnOk result (out.new.items ≡ out.old.items ++ platforms.not_asked_text settings.now) }
 {
@@ -160,12 +162,15 @@ pub fn put_not_asked(out: &mut Vec<u8>, settings: &Settings) -> Result<(), Alloc
     let behind_drain = either(waits, drain);
     let behind_caches = either(behind_drain, caches);
     let behind_status = either(behind_caches, status);
+    let order = !settings.is_loose;
     let behind_known = either(behind_status, known);
+    let behind_order = either(behind_known, order);
     put_other(out, false, waits, "waits plain")?;
     put_other(out, waits, drain, "drain arrived")?;
     put_other(out, behind_drain, caches, "caches on")?;
     put_other(out, behind_caches, status, "stopped status")?;
     put_other(out, behind_status, known, "stopped known")?;
-    put_others_end(out, behind_known)?;
+    put_other(out, behind_known, order, "order loose")?;
+    put_others_end(out, behind_order)?;
     Ok(())
 }

@@ -17,7 +17,9 @@ use crate::descriptors::submit_line;
 use crate::faults::{DriverStop, DriverWrong};
 use crate::kept::{LineRead, Under};
 use crate::locks::lock_line;
-use crate::others::{deliver_line, end_line, fault_line, finish_line, forget_line, pass_line};
+use crate::others::{
+    deliver_line, end_line, fault_line, finish_line, forget_line, pass_line, pump_line,
+};
 use crate::timeouts::expire_line;
 use std::alloc::Global;
 use sva_open::Saying;
@@ -108,6 +110,9 @@ fn read_other(
     }
     if is(word, b"discard") {
         return discard_line(config, words);
+    }
+    if is(word, b"pump") {
+        return pump_line(config, words);
     }
     if is(word, b"expire") {
         return expire_line(config, words);

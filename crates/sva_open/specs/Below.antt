@@ -24,8 +24,8 @@ is_beside units endpoint other = not (other == endpoint) && is_one (slice_get un
 
 -- ---- at which of them something is done
 
--- What a unit does it does at the endpoint that it is about: whose translations the head of its queue strikes, or who sent the oldest
--- page request.
+-- What a unit does it does at the endpoint that it is about: whose translations strikes what it takes from its queue, or who sent the
+-- oldest page request.
 abbrev pub named_or : (endpoint : ℕ) → Option ℕ → ℕ
 named_or endpoint None = endpoint
 named_or endpoint (Some own) = own
@@ -36,6 +36,7 @@ of_descriptor endpoint (Some (descriptor.Device own scope)) = own
 of_descriptor endpoint (Some (descriptor.Translations own scope)) = named_or endpoint own
 of_descriptor endpoint (Some (descriptor.Entry own pasid)) = named_or endpoint own
 of_descriptor endpoint (Some (descriptor.Wait name drain fence)) = endpoint
+of_descriptor endpoint (Some (descriptor.Out itag)) = endpoint
 
 abbrev pub of_arrived : (endpoint : ℕ) → Option Arrived → ℕ
 of_arrived endpoint None = endpoint
@@ -44,17 +45,18 @@ of_arrived endpoint (Some one) = one.endpoint
 -- What of the unit is an act about?
 pub data Matter : Type 0 where
   OwnEndpoint : Matter
-  Head : Matter
+  Standing : (place : ℕ) → Matter
   Oldest : Matter
 
 abbrev pub matter_of : LocalAct → Matter
-matter_of local.Pump = Head
+matter_of local.Pump = Standing 0
+matter_of (local.PumpAt place) = Standing place
 matter_of local.Serve = Oldest
 matter_of its = OwnEndpoint
 
 abbrev pub about_part : (endpoint : ℕ) → Matter → Part → ℕ
 about_part endpoint OwnEndpoint part = endpoint
-about_part endpoint Head part = of_descriptor endpoint (slice_get part.queue 0)
+about_part endpoint (Standing place) part = of_descriptor endpoint (slice_get part.queue place)
 about_part endpoint Oldest part = of_arrived endpoint (slice_get part.arrived 0)
 
 -- where no units are shared an act is at its own endpoint
@@ -94,12 +96,18 @@ abbrev pub unfiled : Bool → Part → Part
 unfiled true part = record part { filed = [] }
 unfiled false part = part
 
--- what leaves the queue by an act, of what stood at its head before
+-- the place in the queue that an act is about
+abbrev pub place_of : LocalAct → ℕ
+place_of (local.PumpAt place) = place
+place_of its = 0
+
+-- what a unit takes by an act, of what stood at that place before
 abbrev pub taken_by : LocalAct → Option Descriptor → Option Descriptor
 taken_by local.Pump head = head
+taken_by (local.PumpAt place) head = head
 taken_by its head = None
 
--- what an act leaves of another endpoint, by what stood at the head of the queue before
+-- what an act leaves of another endpoint, by what stood at that place of the queue before
 abbrev pub left : LocalAct → (head : Option Descriptor) → (after other : Part) → Part
 left its head after other = unfiled (closes its) (struck (taken_by its head) (seen after other))
 
@@ -115,6 +123,7 @@ is_of_unit local.Skip = true
 is_of_unit local.Resume = true
 is_of_unit local.Serve = true
 is_of_unit local.Pump = true
+is_of_unit (local.PumpAt place) = true
 is_of_unit (local.Expire itag silent) = true
 is_of_unit local.Write = true
 is_of_unit (local.Deliver place) = true
@@ -135,17 +144,17 @@ awaits_all its = false
 abbrev pub holds_up : (units : List ℕ) → (endpoint : ℕ) → Part → Bool
 holds_up units endpoint other = is_beside units endpoint other.endpoint && list_any (is_whole_under None) other.filed
 
--- the head of the queue that an endpoint sees
-abbrev pub head_of : Option Part → Option Descriptor
-head_of None = None
-head_of (Some part) = slice_get part.queue 0
+-- what stands at the place that an act is about, of the queue that an endpoint sees
+abbrev pub head_of : LocalAct → Option Part → Option Descriptor
+head_of its None = None
+head_of its (Some part) = slice_get part.queue (place_of its)
 
 -- an act, by what it leaves of its own endpoint, with what it leaves of the others
 abbrev pub shared_by : (units : List ℕ) → (endpoint : ℕ) → LocalAct → (before : List Part) → Option Open → Option Open
 shared_by units endpoint its before next =
     if awaits_all its && list_any (holds_up units endpoint) before
     then None
-    else (if is_of_unit its then option_map (with_told units endpoint its (head_of (slice_get before endpoint))) next else next)
+    else (if is_of_unit its then option_map (with_told units endpoint its (head_of its (slice_get before endpoint))) next else next)
 
 -- where no units are shared nobody else sees anything
 abbrev pub shared : (units : List ℕ) → (endpoint : ℕ) → LocalAct → (before : List Part) → Option Open → Option Open

@@ -18,7 +18,7 @@ use Rattle.sva_open.specs.declared.descriptors.Received.{Received}
 use Rattle.sva_open.specs.World.{Part, if_so, sent, with_row}
 use Rattle.sva_open.specs.Finding.{is_use}
 use Rattle.sva_open.specs.Order.{goes_up}
-use Rattle.sva_open.specs.Units.{is_drain, is_received, is_wait, is_waiting, shifted}
+use Rattle.sva_open.specs.Units.{is_drain, is_received, is_wait, is_waiting, taken_out}
 
 -- ---- owners and entries
 
@@ -98,10 +98,11 @@ reopen part =
     if_so (not part.is_open) (record part { is_open = true; queue = []; issued = []; is_stalled = false; received = [] })
 
 -- The head is taken out of the queue, whatever it is: what it asked for is never done, and a wait is awaited no more. So a driver
--- gets past a descriptor that the unit has refused (Intel VT-d, "Invalidation Queue Error").
-abbrev pub skip : Part → Option Descriptor → Option Part
+-- gets past a descriptor that the unit has refused (Intel VT-d, "Invalidation Queue Error"). What was sent out of order and keeps its
+-- place has gone by the head.
+abbrev pub skip : Part → Option ℕ → Option Part
 skip part None = None
-skip part (Some head) = Some (shifted part)
+skip part (Some place) = Some (taken_out part place)
 
 -- a unit that has stopped at a time-out goes on
 abbrev pub resume : Part → Part

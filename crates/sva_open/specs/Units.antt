@@ -1,6 +1,6 @@
 -- What a unit does by itself, and what it makes of what comes to it.
-use Rattle.std.specs.Prelude.{ℕ, zero, suc, ◌-◌, ◌==◌, ◌&&◌, ◌||◌, not, if◌then◌else◌, Bool, true, false, List, [], ◌∷◌, ◌++◌, filter, find, drop, length}
-use Rattle.std.specs.Prelude.{remove, position, slice_get, slice_set, Option, Some, None, option_map, is_none}
+use Rattle.std.specs.Prelude.{ℕ, zero, suc, ◌-◌, ◌==◌, ◌&&◌, ◌||◌, not, if◌then◌else◌, Bool, true, false, List, [], ◌∷◌, ◌++◌, filter, find, drop, length, take}
+use Rattle.std.specs.Prelude.{remove, position, slice_get, slice_set, Option, Some, None, option_map, is_none, is_some}
 use Rattle.std.specs.List.{flat_map, list_any}
 use Rattle.sva_step.specs.Limits
 use Rattle.sva_open.specs.declared.frames.Target.{Target}
@@ -32,6 +32,19 @@ use Rattle.sva_open.specs.World.{Part, if_so, is_of, is_page, or_else, sent, wit
 abbrev pub is_wait : (name : ℕ) → Descriptor → Bool
 is_wait name (descriptor.Wait own drain fence) = own == name
 is_wait name _ = false
+
+abbrev pub is_any_wait : Descriptor → Bool
+is_any_wait (descriptor.Wait name drain fence) = true
+is_any_wait _ = false
+
+-- is it anything but the place of an invalidation that was sent; and of that under an ITag?
+abbrev pub isnt_out : Descriptor → Bool
+isnt_out (descriptor.Out itag) = false
+isnt_out _ = true
+
+abbrev pub isnt_out_of : (itag : ℕ) → Descriptor → Bool
+isnt_out_of itag (descriptor.Out own) = not (own == itag)
+isnt_out_of itag _ = true
 
 abbrev pub is_sent : Issued → Bool
 is_sent (Issue endpoint itag) = true
@@ -138,10 +151,88 @@ pump_head settings part (Some (descriptor.Device endpoint scope)) = issue part s
 pump_head settings part (Some (descriptor.Translations endpoint scope)) = Some (record (shifted part) { kept = without_covered scope part.kept })
 pump_head settings part (Some (descriptor.Entry endpoint pasid)) = Some (record (shifted part) { kept_entries = without_entry pasid part.kept_entries })
 pump_head settings part (Some (descriptor.Wait name drain fence)) = if_so (may_pass settings part drain fence) (pass part name drain)
+pump_head settings part (Some (descriptor.Out itag)) = None
 
 -- a unit that is closed takes nothing, nor does one that has stopped at a time-out
+abbrev pub takes : Part → Bool
+takes part = part.is_open && not part.is_stalled
+
+-- in the order of the queue
 abbrev pub pump : Settings → Part → Option Part
-pump settings part = if part.is_open && not part.is_stalled then pump_head settings part (slice_get part.queue 0) else None
+pump settings part = if not settings.is_loose && takes part then pump_head settings part (slice_get part.queue 0) else None
+
+-- ---- what leaves the queue out of order
+
+-- without what stands at a place of the queue
+abbrev pub taken_out : Part → (place : ℕ) → Part
+taken_out part place = record part { queue = remove part.queue place }
+
+-- A fence bars all behind it, and so does a wait that the unit refuses.
+abbrev pub bars_all : Settings → Descriptor → Bool
+bars_all settings (descriptor.Wait name drain fence) = (settings.all_fence || fence) || (settings.refuses_drain && drain)
+bars_all settings _ = false
+
+-- An invalidation in an endpoint is behind each earlier one of translations that the unit keeps, and that behind each earlier one of
+-- an entry (Intel VT-d, "Queued Invalidation Ordering Considerations").
+abbrev pub bars_kind : (one earlier : Descriptor) → Bool
+bars_kind (descriptor.Device endpoint scope) (descriptor.Translations own other) = true
+bars_kind (descriptor.Translations endpoint scope) (descriptor.Entry own pasid) = true
+bars_kind _ _ = false
+
+abbrev pub bars_one : Settings → (one earlier : Descriptor) → Bool
+bars_one settings one earlier = bars_all settings earlier || bars_kind one earlier
+
+-- does one that stands before a place bar another there?
+abbrev pub is_barred : Settings → List Descriptor → (place : ℕ) → Descriptor → Bool
+is_barred settings queue place one = list_any (bars_one settings one) (take place queue)
+
+abbrev pub is_wait_there : Option Descriptor → Bool
+is_wait_there None = false
+is_wait_there (Some one) = is_any_wait one
+
+-- Is all done that a wait at a place covers? A fence covers all before it, another what stands behind the wait before it.
+abbrev pub covers_none : (fence : Bool) → List Descriptor → (place : ℕ) → Bool
+covers_none fence queue place = (place == 0) || (not fence && is_wait_there (slice_get queue (place - 1)))
+
+abbrev pub may_pass_at : Settings → Part → (place : ℕ) → (drain fence : Bool) → Bool
+may_pass_at settings part place drain fence =
+    may_pass settings part drain fence && covers_none (settings.all_fence || fence) part.queue place
+
+-- An invalidation of the endpoint's translations is sent, and keeps its place: a wait that covers it stands behind that.
+abbrev pub issue_at : Part → (place : ℕ) → Scope → Option ℕ → Option Part
+issue_at part place scope None = None
+issue_at part place scope (Some itag) =
+    Some (sent
+    (record part { queue = slice_set part.queue place (descriptor.Out itag); issued = part.issued ++ Issue part.endpoint itag ∷ [] })
+    0 part.time (message.Invalidate itag scope))
+
+abbrev pub pump_one : Settings → Part → (place : ℕ) → Descriptor → Option Part
+pump_one settings part place (descriptor.Device endpoint scope) = issue_at part place scope (free_itag part.issued Limits.itags 0)
+pump_one settings part place (descriptor.Translations endpoint scope) =
+    Some (record (taken_out part place) { kept = without_covered scope part.kept })
+pump_one settings part place (descriptor.Entry endpoint pasid) =
+    Some (record (taken_out part place) { kept_entries = without_entry pasid part.kept_entries })
+pump_one settings part place (descriptor.Wait name drain fence) =
+    if_so (may_pass_at settings part place drain fence) (waited (taken_out part place) name drain)
+pump_one settings part place (descriptor.Out itag) = None
+
+abbrev pub pump_there : Settings → Part → (place : ℕ) → Option Descriptor → Option Part
+pump_there settings part place None = None
+pump_there settings part place (Some one) = if is_barred settings part.queue place one then None else pump_one settings part place one
+
+-- one that none before it bars
+abbrev pub pump_at : Settings → Part → (place : ℕ) → Option Part
+pump_at settings part place = if settings.is_loose && takes part then pump_there settings part place (slice_get part.queue place) else None
+
+-- may one be taken of so many that begin at a place?
+unfoldable pub takes_any : Settings → Part → (many place : ℕ) → Bool
+takes_any settings part zero place = false
+takes_any settings part (suc many) place = if is_some (pump_at settings part place) then true else takes_any settings part many (suc place)
+
+-- can the unit take nothing from its queue?
+abbrev pub takes_none : Settings → Part → Bool
+takes_none settings part =
+    if settings.is_loose then not (takes_any settings part (length part.queue) 0) else is_none (pump settings part)
 
 -- ---- an invalidation that isn't answered in time
 
@@ -185,8 +276,8 @@ stalls Stop = true
 -- time is long: before it runs out the unit has taken all that it can
 abbrev pub may_expire : Settings → Part → (itag : ℕ) → (silent : Bool) → Bool
 may_expire settings part itag silent =
-    (is_timed settings.timeouts && (part.is_open && not part.is_stalled))
-    && (is_none (pump settings part) && (list_any (is_sent_to part.endpoint itag) part.issued && is_unanswered part itag silent))
+    (is_timed settings.timeouts && takes part)
+    && (takes_none settings part && (list_any (is_sent_to part.endpoint itag) part.issued && is_unanswered part itag silent))
 
 -- the waits that have left the queue and aren't done
 abbrev pub wait_in : Issued → List ℕ
@@ -208,8 +299,49 @@ name_of _ = []
 abbrev pub head_aborted : Settings → Part → Option Descriptor → List ℕ
 head_aborted settings part head = if bars settings part head then name_of head else []
 
-abbrev pub queue_left : Settings → Part → Option Descriptor → List Descriptor
-queue_left settings part head = if bars settings part head then remove part.queue 0 else part.queue
+abbrev pub head_left : Settings → Part → Option Descriptor → List Descriptor
+head_left settings part head = if bars settings part head then remove part.queue 0 else part.queue
+
+-- How much of the queue has a unit fetched that doesn't take it in order? All up to the first that bars all, and with it a fence.
+abbrev pub is_fence : Settings → Option Descriptor → Bool
+is_fence settings (Some (descriptor.Wait name drain fence)) = settings.all_fence || fence
+is_fence settings _ = false
+
+abbrev pub fetched_to : Settings → List Descriptor → Option ℕ → ℕ
+fetched_to settings queue None = length queue
+fetched_to settings queue (Some place) = if is_fence settings (slice_get queue place) then suc place else place
+
+abbrev pub fetched : Settings → List Descriptor → ℕ
+fetched settings queue = fetched_to settings queue (position (bars_all settings) queue)
+
+-- the waits among so many
+abbrev pub wait_named : Descriptor → List ℕ
+wait_named one = name_of (Some one)
+
+abbrev pub waits_of : List Descriptor → List ℕ
+waits_of queue = flat_map wait_named queue
+
+abbrev pub waits_among : (many : ℕ) → List Descriptor → List ℕ
+waits_among many queue = waits_of (take many queue)
+
+abbrev pub isnt_wait : Descriptor → Bool
+isnt_wait one = not (is_any_wait one)
+
+abbrev pub without_waits : (many : ℕ) → List Descriptor → List Descriptor
+without_waits many queue = filter isnt_wait (take many queue) ++ drop many queue
+
+-- the waits in the queue that are aborted, and what is left there
+abbrev pub queue_aborted : Settings → Part → List ℕ
+queue_aborted settings part =
+    if settings.is_loose
+    then waits_among (fetched settings part.queue) part.queue
+    else head_aborted settings part (slice_get part.queue 0)
+
+abbrev pub queue_left : Settings → Part → (itag : ℕ) → List Descriptor
+queue_left settings part itag =
+    if settings.is_loose
+    then filter (isnt_out_of itag) (without_waits (fetched settings part.queue) part.queue)
+    else head_left settings part (slice_get part.queue 0)
 
 abbrev pub isnt_sent_of : (itag : ℕ) → Sent → Bool
 isnt_sent_of itag one = not (is_sent_of itag one)
@@ -220,16 +352,17 @@ isnt_taken_of itag work = not (is_taken_of itag work)
 abbrev pub is_other_sent : (itag : ℕ) → Issued → Bool
 is_other_sent itag one = is_sent one && not (has_itag itag one)
 
--- Its ITag is free, and nothing of it is left. The waits that the unit has taken and that aren't done are aborted, whoever submitted
--- them, and so is a fence at the head that awaits what is out (Intel VT-d, "Fault Status Register", ITE).
+-- Its ITag is free, and nothing of it is left. The waits that the unit has fetched and that aren't done are aborted, whoever submitted
+-- them: in the order of the queue those that have left it, and a fence at the head that awaits what is out (Intel VT-d, "Fault Status
+-- Register", ITE).
 abbrev pub expired : Settings → Part → (itag : ℕ) → Part
 expired settings part itag =
     record part {
       works = filter (isnt_taken_of itag) part.works;
       flight = filter (isnt_sent_of itag) part.flight;
-      queue = queue_left settings part (slice_get part.queue 0);
+      queue = queue_left settings part itag;
       issued = filter (is_other_sent itag) part.issued;
-      aborted = part.aborted ++ (waits_in part.issued ++ head_aborted settings part (slice_get part.queue 0));
+      aborted = part.aborted ++ (waits_in part.issued ++ queue_aborted settings part);
       is_stalled = stalls settings.timeouts;
     }
 
@@ -315,8 +448,12 @@ completed_at part None = part
 completed_at part (Some place) =
     settled (without_issued part place) place (is_out_before part.issued place) (slice_get (remove part.issued place) place)
 
+-- and its place in the queue is gone, where it kept one
+abbrev pub without_out : Part → (itag : ℕ) → Part
+without_out part itag = record part { queue = filter (isnt_out_of itag) part.queue }
+
 abbrev pub complete_itag : Part → (itag : ℕ) → Part
-complete_itag part itag = completed_at part (position (has_itag itag) part.issued)
+complete_itag part itag = completed_at (without_out part itag) (position (has_itag itag) part.issued)
 
 -- the answer to a stop, of the owner whose stop it answers
 abbrev pub answered_stop : Part → (pasid owner : ℕ) → Option Row → Part

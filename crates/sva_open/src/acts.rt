@@ -63,7 +63,7 @@ pub enum LocalAct {
     Close,
     /// The host: the unit takes what comes again, with all ITags free and all waits done.
     Reopen,
-    /// The host: takes the head out of the invalidation queue, whatever it is.
+    /// The host: takes the head out of the invalidation queue, whatever it is: the first that isn't out already.
     Skip,
     /// The host: clears the time-out of a unit that has stopped at one (Intel VT-d, "Fault Status Register", ITE), so that
     /// it goes on.
@@ -204,10 +204,15 @@ pub enum LocalAct {
     },
     /// The endpoint: is removed. What it had is gone with it.
     Leave,
-    /// The unit: takes the head of the invalidation queue.
+    /// The unit: takes the head of the invalidation queue, where it takes them in order.
     Pump,
-    /// The unit: an invalidation has run out of time (Intel VT-d, "Fault Status Register", ITE). Each wait that has left the
-    /// queue and isn't done is aborted, and so is a fence at its head that awaits what is out.
+    /// The unit: takes a descriptor that none before it bars, where it doesn't take them in order.
+    PumpAt {
+        /// Its place in the invalidation queue.
+        place: usize,
+    },
+    /// The unit: an invalidation has run out of time (Intel VT-d, "Fault Status Register", ITE). Each wait that the unit has
+    /// fetched and that isn't done is aborted.
     Expire {
         /// Its ITag.
         itag: usize,

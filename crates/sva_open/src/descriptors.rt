@@ -36,11 +36,17 @@ pub enum Descriptor {
         /// Whether it is a fence.
         fence: bool,
     },
+    /// The place of an invalidation of an endpoint's translations that a unit has sent out of order, and that isn't
+    /// answered. No driver submits one.
+    Out {
+        /// Its ITag.
+        itag: usize,
+    },
 }
 
 impl Descriptor {
     ghost use Rattle.std.specs.Prelude.{◌≡◌};
-    ghost use Rattle.sva_open.specs.Units.{is_wait};
+    ghost use Rattle.sva_open.specs.Units.{is_any_wait, is_wait, isnt_out, isnt_out_of};
 
     /// Whether it is a wait of this name.
     pub fn is_wait(&self, name: usize) -> bool
@@ -49,6 +55,30 @@ impl Descriptor {
         match self {
             Descriptor::Wait { name: own, .. } => *own == name,
             _ => false,
+        }
+    }
+
+    /// Whether it is a wait.
+    pub fn is_any_wait(&self) -> bool
+        ensures { result ≡ is_any_wait self.now }
+    {
+        matches!(self, Descriptor::Wait { .. })
+    }
+
+    /// Whether it is still to be taken: it isn't the place of an invalidation that was sent.
+    pub fn isnt_out(&self) -> bool
+        ensures { result ≡ isnt_out self.now }
+    {
+        !matches!(self, Descriptor::Out { .. })
+    }
+
+    /// Whether it is anything but the place of the invalidation that has this ITag.
+    pub fn isnt_out_of(&self, itag: usize) -> bool
+        ensures { result ≡ isnt_out_of itag self.now }
+    {
+        match self {
+            Descriptor::Out { itag: own } => *own != itag,
+            _ => true,
         }
     }
 }

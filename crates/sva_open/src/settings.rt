@@ -52,6 +52,9 @@ pub struct Settings {
     pub drain_empties: bool,
     /// Whether a unit doesn't take a wait that drains, so that it stays at the head of the queue.
     pub refuses_drain: bool,
+    /// Whether a unit takes any descriptor that none before it bars (Intel VT-d, "Queued Invalidation Ordering
+    /// Considerations"). Else it takes them in the order of the queue.
+    pub is_loose: bool,
     /// Whether units keep entries and translations.
     pub has_caches: bool,
     /// By what endpoints say that they have stopped.

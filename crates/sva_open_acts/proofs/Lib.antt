@@ -1,3 +1,4 @@
 mod Itags
+mod Taken
 mod Stepped
 mod Shared

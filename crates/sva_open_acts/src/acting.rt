@@ -4,11 +4,11 @@ ghost use Rattle.std.specs.Prelude.{◌≡◌, IfOk, slice_get};
 ghost use Rattle.sva_search.specs.Rules.{IsStep};
 ghost use Rattle.sva_open.specs.Acts as acts;
 ghost use Rattle.sva_open.specs.Acts.{next_open, next_part};
-ghost use Rattle.sva_open.specs.Below.{head_of, shared_by, told, with_told};
+ghost use Rattle.sva_open.specs.Below.{shared_by, told, with_told};
 
 use crate::asking::{ask, begin_use, end_use, evict, fault, more};
 use crate::barriers::{await_passed, pass, send_barrier};
-use crate::below::{about, is_held_up, is_of_unit, tell};
+use crate::below::{about, head_of, is_held_up, is_of_unit, tell};
 use crate::controls::{leave, turn};
 use crate::deliveries::deliver;
 use crate::expiring::{expire, resume};
@@ -18,6 +18,7 @@ use crate::hosting::{
     await_wait, clear_entry, close, free_pasid, reopen, replace, reset, set_entry, skip, start,
     stop, submit,
 };
+use crate::loose::pump_at;
 use crate::pumping::{forget, forget_entry, pump};
 use crate::receiving::write;
 use crate::serving::{discard, respond, respond_all, serve};
@@ -99,6 +100,7 @@ fn act_at_part(
         LocalAct::Quit { pasid } => quit(part, settings.stopped, *pasid),
         LocalAct::Leave => Ok(leave(part)),
         LocalAct::Pump => pump(part, settings),
+        LocalAct::PumpAt { place } => pump_at(part, settings, *place),
         LocalAct::Expire { itag, silent } => expire(part, settings, *itag, *silent),
         LocalAct::Write => write(part),
         LocalAct::ForgetEntry { place } => Ok(forget_entry(part, *place)),
@@ -159,21 +161,12 @@ fn shared_at(now: &mut Open, endpoint: usize, act: &LocalAct) -> Result<bool, Al
     if is_held_up(now.parts.as_slice(), now.units.as_slice(), endpoint, act) {
         return Ok(false);
     }
-    let head = head_of(now.parts.as_slice(), endpoint);
+    let head = head_of(act, now.parts.as_slice(), endpoint);
     let done = act_at(now, endpoint, act)?;
     if done && is_of_unit(act) {
         tell_all(now, endpoint, act, head)?;
     }
     Ok(done)
-}
-
-fn head_of(parts: &[Part], endpoint: usize) -> Option<Descriptor>
-    ensures { result ≡ head_of (slice_get parts.now endpoint) }
-{
-    match parts.get(endpoint) {
-        None => None,
-        Some(part) => part.queue.get(0).copied(),
-    }
 }
 
 fn tell_all(

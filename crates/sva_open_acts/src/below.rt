@@ -46,6 +46,7 @@ fn of_descriptor(endpoint: usize, head: Option<Descriptor>) -> usize
         Some(Descriptor::Translations { endpoint: own, .. }) => named_or(endpoint, own),
         Some(Descriptor::Entry { endpoint: own, .. }) => named_or(endpoint, own),
         Some(Descriptor::Wait { .. }) => endpoint,
+        Some(Descriptor::Out { .. }) => endpoint,
     }
 }
 
@@ -63,6 +64,7 @@ fn about_part(endpoint: usize, act: &LocalAct, part: &Part) -> usize
 {
     match act {
         LocalAct::Pump => of_descriptor(endpoint, part.queue.get(0).copied()),
+        LocalAct::PumpAt { place } => of_descriptor(endpoint, part.queue.get(*place).copied()),
         LocalAct::Serve => of_arrived(endpoint, part.arrived.get(0).copied()),
         _ => endpoint,
     }
@@ -117,11 +119,31 @@ fn strike(other: &mut Part, head: Option<Descriptor>)
     }
 }
 
+/// The place in the queue that an act is about.
+fn place_of(act: &LocalAct) -> usize
+    ensures { result ≡ below.place_of act.now }
+{
+    match act {
+        LocalAct::PumpAt { place } => *place,
+        _ => 0,
+    }
+}
+
+/// What stands at the place that an act is about, of the queue that an endpoint sees.
+pub(crate) fn head_of(act: &LocalAct, parts: &[Part], endpoint: usize) -> Option<Descriptor>
+    ensures { result ≡ below.head_of act.now (slice_get parts.now endpoint) }
+{
+    match parts.get(endpoint) {
+        None => None,
+        Some(part) => part.queue.get(place_of(act)).copied(),
+    }
+}
+
 fn taken_by(act: &LocalAct, head: Option<Descriptor>) -> Option<Descriptor>
     ensures { result ≡ below.taken_by act.now head }
 {
     match act {
-        LocalAct::Pump => head,
+        LocalAct::Pump | LocalAct::PumpAt { .. } => head,
         _ => None,
     }
 }
@@ -230,6 +252,7 @@ pub(crate) fn is_of_unit(act: &LocalAct) -> bool
             | LocalAct::Resume
             | LocalAct::Serve
             | LocalAct::Pump
+            | LocalAct::PumpAt { .. }
             | LocalAct::Expire { .. }
             | LocalAct::Write
             | LocalAct::Deliver { .. }

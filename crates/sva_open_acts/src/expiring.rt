@@ -1,14 +1,17 @@
 //! Invalidations that run out of time.
 
-ghost use Rattle.std.specs.Prelude.{◌≡◌, ◌++◌, IfOk, Some, filter, is_none, slice_get};
+ghost use Rattle.std.specs.Prelude.{◌≡◌, ◌++◌, IfOk, Some, drop, filter, is_none, position, slice_get};
 ghost use Rattle.std.specs.List.{list_any};
 ghost use Rattle.sva_search.specs.Rules.{IsStep};
 ghost use Rattle.sva_open.specs.Host as host;
 ghost use Rattle.sva_open.specs.Units as unit;
 
-use crate::pumping::{free_itag, may_pass};
+use crate::loose::{bars_all, takes_any};
+use crate::pumping::{drop_out, free_itag, may_pass, takes};
 use std::alloc::AllocError;
-use sva_open::{Descriptor, Issued, Message, Part, Sent, Settings, Timeouts, Work, drop_at};
+use sva_open::{
+    Descriptor, Issued, Message, Part, Sent, Settings, Timeouts, Work, before, drop_at,
+};
 
 /// An invalidation runs out of time, where its endpoint doesn't answer it and the unit has taken all that it can.
 pub(crate) fn expire(
@@ -37,7 +40,7 @@ pub(crate) fn resume(part: &mut Part) -> bool
 fn may_expire(part: &Part, settings: &Settings, itag: usize, silent: bool) -> bool
     ensures { result ≡ unit.may_expire settings.now part.now itag silent }
 {
-    (is_timed(settings.timeouts) && (part.is_open && !part.is_stalled))
+    (is_timed(settings.timeouts) && takes(part))
         && (takes_none(part, settings)
             && (is_sent_to(part.issued.as_slice(), part.endpoint, itag)
                 && is_unanswered(part, itag, silent)))
@@ -64,9 +67,18 @@ fn stalls(timeouts: Timeouts) -> bool
 
 /// Whether the unit can take nothing from its queue now.
 fn takes_none(part: &Part, settings: &Settings) -> bool
+    ensures { result ≡ unit.takes_none settings.now part.now }
+{
+    if settings.is_loose {
+        return !takes_any(part, settings);
+    }
+    head_stays(part, settings)
+}
+
+fn head_stays(part: &Part, settings: &Settings) -> bool
     ensures { result ≡ is_none (unit.pump settings.now part.now) }
 {
-    if !(part.is_open && !part.is_stalled) {
+    if !(!settings.is_loose && takes(part)) {
         return true;
     }
     match part.queue.get(0).copied() {
@@ -75,6 +87,7 @@ fn takes_none(part: &Part, settings: &Settings) -> bool
         Some(Descriptor::Translations { .. }) => false,
         Some(Descriptor::Entry { .. }) => false,
         Some(Descriptor::Wait { drain, fence, .. }) => !may_pass(part, settings, drain, fence),
+        Some(Descriptor::Out { .. }) => true,
     }
 }
 
@@ -143,7 +156,10 @@ fn run_out(part: &mut Part, settings: &Settings, itag: usize) -> Result<(), Allo
     let head = part.queue.get(0).copied();
     let is_barred = bars(part, settings, head);
     abort_waits(&mut part.aborted, part.issued.as_slice())?;
-    if is_barred {
+    if settings.is_loose {
+        abort_fetched(&mut part.aborted, part.queue.as_slice(), settings)?;
+        leave_unfetched(&mut part.queue, settings, itag)?;
+    } else if is_barred {
         abort_head(&mut part.aborted, head)?;
         drop_at(&mut part.queue, 0);
     }
@@ -193,6 +209,106 @@ fn abort_head(aborted: &mut Vec<usize>, head: Option<Descriptor>) -> Result<(), 
     if let Some(Descriptor::Wait { name, .. }) = head {
         aborted.push(name)?;
     }
+    Ok(())
+}
+
+/// Whether it is a fence.
+fn is_fence(settings: &Settings, one: Option<Descriptor>) -> bool
+    ensures { result ≡ unit.is_fence settings.now one }
+{
+    match one {
+        Some(Descriptor::Wait { fence, .. }) => settings.all_fence || fence,
+        _ => false,
+    }
+}
+
+/// The place of the first descriptor that bars all behind it.
+fn first_bar(queue: &[Descriptor], settings: &Settings) -> Option<usize>
+    ensures { result ≡ position (unit.bars_all settings.now) queue.now }
+{
+    queue.iter().position(|one| bars_all(settings, one))
+}
+
+/// How many descriptors a unit has fetched that doesn't take them in order.
+fn fetched(queue: &[Descriptor], settings: &Settings) -> usize
+    ensures { result ≡ unit.fetched settings.now queue.now }
+{
+    match first_bar(queue, settings) {
+        None => queue.len(),
+        Some(place) => {
+            if is_fence(settings, queue.get(place).copied()) {
+                place + 1
+            } else {
+                place
+            }
+        }
+    }
+}
+
+/// Notes the waits that a unit has fetched which doesn't take them in order.
+fn abort_fetched(
+    aborted: &mut Vec<usize>,
+    queue: &[Descriptor],
+    settings: &Settings,
+) -> Result<(), AllocError>
+    ensures { IfOk result (λ _. aborted.new.items
+        ≡ aborted.old.items ++ unit.waits_among (unit.fetched settings.now queue.now) queue.now) }
+{
+    abort_all(aborted, before(queue, fetched(queue, settings)))
+}
+
+/// Notes those that are waits.
+fn abort_all(aborted: &mut Vec<usize>, queue: &[Descriptor]) -> Result<(), AllocError>
+    ensures { IfOk result (λ _. aborted.new.items ≡ aborted.old.items ++ unit.waits_of queue.now) }
+{
+    for one in queue {
+        abort_head(aborted, Some(*one))?;
+    }
+    Ok(())
+}
+
+/// What stands from a place on.
+fn behind(queue: &[Descriptor], place: usize) -> &[Descriptor]
+    ensures { result.now ≡ drop place queue.now }
+{
+    if place <= queue.len() {
+        queue.split_at(place).1
+    } else {
+        queue.split_at(queue.len()).1
+    }
+}
+
+fn drop_waits(queue: &mut Vec<Descriptor>)
+    ensures { queue.new.items ≡ filter unit.isnt_wait queue.old.items }
+{
+    queue.retain(|one| !one.is_any_wait());
+}
+
+/// Takes out the waits among so many.
+fn drop_waits_among(queue: &mut Vec<Descriptor>, many: usize) -> Result<(), AllocError>
+    ensures { IfOk result (λ _. queue.new.items ≡ unit.without_waits many queue.old.items) }
+{
+    let alloc = *queue.allocator();
+    let rest = Vec::from_slice(alloc, behind(queue.as_slice(), many))?;
+    queue.truncate(many);
+    drop_waits(queue);
+    queue.extend_from_slice(rest.as_slice())?;
+    Ok(())
+}
+
+/// Takes out the waits that a unit has fetched which doesn't take them in order, and the place of an ITag.
+fn leave_unfetched(
+    queue: &mut Vec<Descriptor>,
+    settings: &Settings,
+    itag: usize,
+) -> Result<(), AllocError>
+    ensures { IfOk result (λ _. queue.new.items
+        ≡ filter (unit.isnt_out_of itag)
+        (unit.without_waits (unit.fetched settings.now queue.old.items) queue.old.items)) }
+{
+    let many = fetched(queue.as_slice(), settings);
+    drop_waits_among(queue, many)?;
+    drop_out(queue, itag);
     Ok(())
 }
 

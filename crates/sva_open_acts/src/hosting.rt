@@ -1,11 +1,11 @@
 //! What the host does with entries, messages and its unit.
 
-ghost use Rattle.std.specs.Prelude.{◌≡◌, IfOk, Some, filter, is_some, slice_get};
+ghost use Rattle.std.specs.Prelude.{◌≡◌, IfOk, Some, filter, is_some, position, slice_get};
 ghost use Rattle.std.specs.List.{list_any};
 ghost use Rattle.sva_search.specs.Rules.{IsStep};
 ghost use Rattle.sva_open.specs.Host as host;
 ghost use Rattle.sva_open.specs.Finding as finding;
-ghost use Rattle.sva_open.specs.Units.{is_drain, is_wait, is_waiting};
+ghost use Rattle.sva_open.specs.Units.{is_drain, is_wait, is_waiting, isnt_out};
 
 use crate::order::goes_up;
 use std::alloc::AllocError;
@@ -143,14 +143,21 @@ pub(crate) fn reopen(part: &mut Part) -> bool
     true
 }
 
+/// The place of the head of the invalidation queue: of the first that isn't out already.
+fn head_place(queue: &[Descriptor]) -> Option<usize>
+    ensures { result ≡ position isnt_out queue.now }
+{
+    queue.iter().position(|one| one.isnt_out())
+}
+
 /// Takes out the head of the invalidation queue.
 pub(crate) fn skip(part: &mut Part) -> bool
-    ensures { IsStep (host.skip part.old (slice_get part.old.queue 0)) result part.old part.new }
+    ensures { IsStep (host.skip part.old (position isnt_out part.old.queue)) result part.old part.new }
 {
-    match part.queue.get(0).copied() {
+    match head_place(part.queue.as_slice()) {
         None => false,
-        Some(_head) => {
-            drop_at(&mut part.queue, 0);
+        Some(place) => {
+            drop_at(&mut part.queue, place);
             true
         }
     }

@@ -11,6 +11,7 @@ mod deliveries;
 mod expiring;
 mod finishing;
 mod hosting;
+mod loose;
 mod order;
 mod pumping;
 mod receiving;

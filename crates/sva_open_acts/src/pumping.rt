@@ -1,6 +1,6 @@
 //! What a unit does by itself.
 
-ghost use Rattle.std.specs.Prelude.{◌≡◌, IfOk, None, Some, position, slice_get};
+ghost use Rattle.std.specs.Prelude.{◌≡◌, IfOk, None, Some, filter, position, slice_get};
 ghost use Rattle.std.specs.List.{list_any};
 ghost use Rattle.sva_step.specs.Limits;
 ghost use Rattle.sva_search.specs.Rules.{IsStep};
@@ -15,10 +15,17 @@ use sva_open::{
 };
 use sva_step::ITAGS;
 
+/// Whether a unit takes anything from its queue.
+pub(crate) fn takes(part: &Part) -> bool
+    ensures { result ≡ unit.takes part.now }
+{
+    part.is_open && !part.is_stalled
+}
+
 pub(crate) fn pump(part: &mut Part, settings: &Settings) -> Result<bool, AllocError>
     ensures { IfOk result (λ done. IsStep (unit.pump settings.now part.old) done part.old part.new) }
 {
-    if !(part.is_open && !part.is_stalled) {
+    if !(!settings.is_loose && takes(part)) {
         return Ok(false);
     }
     let head = part.queue.get(0).copied();
@@ -46,6 +53,7 @@ fn pump_head(
             Ok(true)
         }
         Some(Descriptor::Wait { name, drain, fence }) => pass(part, settings, name, drain, fence),
+        Some(Descriptor::Out { .. }) => Ok(false),
     }
 }
 
@@ -139,6 +147,7 @@ pub(crate) fn forget(part: &mut Part, place: usize) -> bool
 pub(crate) fn complete_itag(part: &mut Part, itag: usize) -> Result<(), AllocError>
     ensures { IfOk result (λ _. part.new ≡ unit.complete_itag part.old itag) }
 {
+    drop_out(&mut part.queue, itag);
     match itag_place(part.issued.as_slice(), itag) {
         None => Ok(()),
         Some(place) => complete_at(part, place),
@@ -174,6 +183,13 @@ fn settle(
         Some(Issued::Sent { .. }) => Ok(()),
         None => Ok(()),
     }
+}
+
+/// Takes out the place of an invalidation that was sent out of order.
+pub(crate) fn drop_out(queue: &mut Vec<Descriptor>, itag: usize)
+    ensures { queue.new.items ≡ filter (unit.isnt_out_of itag) queue.old.items }
+{
+    queue.retain(|one| one.isnt_out_of(itag));
 }
 
 /// The place of the invalidation that has an ITag.

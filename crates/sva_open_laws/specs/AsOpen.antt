@@ -341,6 +341,7 @@ open_of world =
         all_fence = true;
         drain_empties = true;
         refuses_drain = false;
+        is_loose = false;
         has_caches = false;
         stopped = stopped.Marker;
         allows_no_group = false;

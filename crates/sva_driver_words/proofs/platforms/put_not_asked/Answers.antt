@@ -5,11 +5,13 @@ pub returns : goal.returns
 returns c =
     simp (
       c.in_ok-put_others_end.ensures,
+      c.in_ok-put_other-6.ensures,
       c.in_ok-put_other-5.ensures,
       c.in_ok-put_other-4.ensures,
       c.in_ok-put_other-3.ensures,
       c.in_ok-put_other-2.ensures,
       c.in_ok-put_other.ensures,
+      c.either-behind_order.ensures,
       c.either-behind_known.ensures,
       c.either-behind_status.ensures,
       c.either-behind_caches.ensures,

@@ -4,6 +4,9 @@ use Rattle.sva_driver_words.proofs.platforms.put_pairs.Goals as goal
 pub returns : goal.returns
 returns c =
     simp (
+      c.in_ok-extend_from_slice-6.ensures.items,
+      c.as_bytes-6.ensures.value,
+      c.one_of-order.ensures,
       c.in_ok-extend_from_slice-5.ensures.items,
       c.as_bytes-5.ensures.value,
       c.stopped_words.ensures,

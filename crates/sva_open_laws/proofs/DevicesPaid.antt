@@ -1,8 +1,9 @@
 -- What each act of an endpoint leaves weighs less than what was there, with its price; and so does what a unit does by itself.
 use Rattle.std.proofs.Common.{◌≡◌, ◌<◌, ◌≤◌, ℕ, ◌+◌, Bool, true, false, Option, Some, None, List, [], ◌∷◌, ◌++◌, map, refl, ap, arith}
 use Rattle.std.proofs.lemmas.Bool.{and_parts, not-true}
-use Rattle.std.proofs.lemmas.List.Sums.{sum_by_push}
-use Rattle.std.specs.Prelude.{◌==◌, ◌&&◌, not, if◌then◌else◌, find, is_none, position, remove, slice_get, slice_set, sum_by}
+use Rattle.std.proofs.lemmas.List.{take-append-drop}
+use Rattle.std.proofs.lemmas.List.Sums.{sum_by-append, sum_by_push}
+use Rattle.std.specs.Prelude.{◌==◌, ◌&&◌, not, if◌then◌else◌, drop, filter, find, is_none, position, remove, slice_get, slice_set, sum_by, take}
 use Rattle.std.specs.List.{list_any}
 use Rattle.sva_step.specs.Limits
 use Rattle.sva_open.specs.declared.frames.Translation.{Translation}
@@ -251,23 +252,95 @@ pump_head settings part (Some (descriptor.Wait name drain fence)) h =
     let less = out descriptor_weight part.queue 0 (descriptor.Wait name drain fence) h in
     let passed = pass part name drain in
     where_so _ (unit.may_pass settings part drain fence) (unit.pass part name drain) (λ so. omega (arith, less, passed))
+pump_head settings part (Some (descriptor.Out itag)) h = tt
 
 pub pump : (settings : Settings) (part : Part) → IsBelow (part_weight part + 0) (unit.pump settings part)
-pump settings part = by_test (part.is_open && not part.is_stalled)
+pump settings part = by_test (not settings.is_loose && unit.takes part)
   where
     by_test : (b : Bool) → IsBelow (part_weight part + 0) (if b then unit.pump_head settings part (slice_get part.queue 0) else None)
     by_test true = pump_head settings part (slice_get part.queue 0) refl
     by_test false = tt
 
+issue_at : (part : Part) (place endpoint : ℕ) (scope : Scope) (o : Option ℕ)
+    → slice_get part.queue place ≡ Some (descriptor.Device endpoint scope) → IsBelow (part_weight part + 0) (unit.issue_at part place scope o)
+issue_at part place endpoint scope None h = tt
+issue_at part place endpoint scope (Some itag) h =
+    let put = put_in descriptor_weight part.queue place (descriptor.Device endpoint scope) (descriptor.Out itag) h in
+    let one = Issue part.endpoint itag in
+    let issued = sum_by_push issued_weight part.issued one in
+    let added = sends
+    (record part { queue = slice_set part.queue place (descriptor.Out itag); issued = part.issued ++ one ∷ [] })
+    0 part.time (message.Invalidate itag scope) in
+    omega (arith, put, issued, added)
+
+pump_one : (settings : Settings) (part : Part) (place : ℕ) (one : Descriptor) → slice_get part.queue place ≡ Some one
+    → IsBelow (part_weight part + 0) (unit.pump_one settings part place one)
+pump_one settings part place (descriptor.Device endpoint scope) h =
+    issue_at part place endpoint scope (unit.free_itag part.issued Limits.itags 0) h
+pump_one settings part place (descriptor.Translations endpoint scope) h =
+    let less = out descriptor_weight part.queue place (descriptor.Translations endpoint scope) h in
+    let gone = left_in translation_weight (is_left scope) part.kept in
+    omega (arith, less, gone)
+pump_one settings part place (descriptor.Entry endpoint pasid) h =
+    let less = out descriptor_weight part.queue place (descriptor.Entry endpoint pasid) h in
+    let gone = left_in entry_weight (unit.is_no_entry_of pasid) part.kept_entries in
+    omega (arith, less, gone)
+pump_one settings part place (descriptor.Wait name drain fence) h =
+    let less = out descriptor_weight part.queue place (descriptor.Wait name drain fence) h in
+    let done = waited (unit.taken_out part place) name drain in
+    where_so _ (unit.may_pass_at settings part place drain fence) (unit.waited (unit.taken_out part place) name drain)
+    (λ so. omega (arith, less, done))
+pump_one settings part place (descriptor.Out itag) h = tt
+
+pump_there : (settings : Settings) (part : Part) (place : ℕ) (o : Option Descriptor) → slice_get part.queue place ≡ o
+    → IsBelow (part_weight part + 0) (unit.pump_there settings part place o)
+pump_there settings part place None h = tt
+pump_there settings part place (Some one) h = unless (unit.is_barred settings part.queue place one)
+  where
+    unless : (b : Bool) → IsBelow (part_weight part + 0) (if b then None else unit.pump_one settings part place one)
+    unless true = tt
+    unless false = pump_one settings part place one h
+
+pub pump_at : (settings : Settings) (part : Part) (place : ℕ) → IsBelow (part_weight part + 0) (unit.pump_at settings part place)
+pump_at settings part place = by_test (settings.is_loose && unit.takes part)
+  where
+    by_test : (b : Bool) → IsBelow (part_weight part + 0) (if b then unit.pump_there settings part place (slice_get part.queue place) else None)
+    by_test true = pump_there settings part place (slice_get part.queue place) refl
+    by_test false = tt
+
 -- ---- what isn't answered in time, what is written, and what is dropped
 
-queue_left : (settings : Settings) (part : Part) (head : Option Descriptor)
-    → sum_by descriptor_weight (unit.queue_left settings part head) ≤ sum_by descriptor_weight part.queue
-queue_left settings part head = by_test (unit.bars settings part head)
+head_left : (settings : Settings) (part : Part) (head : Option Descriptor)
+    → sum_by descriptor_weight (unit.head_left settings part head) ≤ sum_by descriptor_weight part.queue
+head_left settings part head = by_test (unit.bars settings part head)
   where
     by_test : (b : Bool) → sum_by descriptor_weight (if b then remove part.queue 0 else part.queue) ≤ sum_by descriptor_weight part.queue
     by_test true = less_out descriptor_weight part.queue 0
     by_test false = omega arith
+
+-- the waits that the unit has fetched go
+without_waits : (many : ℕ) (queue : List Descriptor)
+    → sum_by descriptor_weight (unit.without_waits many queue) ≤ sum_by descriptor_weight queue
+without_waits many queue =
+    let gone = left_in descriptor_weight unit.isnt_wait (take many queue) in
+    let left = sum_by-append descriptor_weight (filter unit.isnt_wait (take many queue)) (drop many queue) in
+    let whole = sum_by-append descriptor_weight (take many queue) (drop many queue) in
+    let same = ap (sum_by descriptor_weight) (take-append-drop many queue) in
+    omega (arith, gone, left, whole, same)
+
+queue_left : (settings : Settings) (part : Part) (itag : ℕ)
+    → sum_by descriptor_weight (unit.queue_left settings part itag) ≤ sum_by descriptor_weight part.queue
+queue_left settings part itag = by_test settings.is_loose
+  where
+    by_test : (b : Bool) → sum_by descriptor_weight
+        (if b then filter (unit.isnt_out_of itag) (unit.without_waits (unit.fetched settings part.queue) part.queue)
+        else unit.head_left settings part (slice_get part.queue 0))
+        ≤ sum_by descriptor_weight part.queue
+    by_test true =
+        let gone = without_waits (unit.fetched settings part.queue) part.queue in
+        let place = left_in descriptor_weight (unit.isnt_out_of itag) (unit.without_waits (unit.fetched settings part.queue) part.queue) in
+        omega (arith, gone, place)
+    by_test false = head_left settings part (slice_get part.queue 0)
 
 of_itag_goes : (endpoint itag : ℕ) (one : Issued) → unit.is_sent_to endpoint itag one ≡ true → unit.is_other_sent itag one ≡ false
 of_itag_goes endpoint itag (Issue own other) h = ap not (and_parts (own == endpoint) (other == itag) h).1
@@ -282,7 +355,7 @@ expired : (settings : Settings) (part : Part) (itag : ℕ) → list_any (unit.is
 expired settings part itag is =
     let works = left_in work_weight (unit.isnt_taken_of itag) part.works in
     let flight = left_in sent_weight (unit.isnt_sent_of itag) part.flight in
-    let queue = queue_left settings part (slice_get part.queue 0) in
+    let queue = queue_left settings part itag in
     let issued = left_less issued_weight (unit.is_other_sent itag) (unit.is_sent_to part.endpoint itag)
     (of_itag_goes part.endpoint itag) (of_itag_weighs part.endpoint itag) part.issued is in
     omega (arith, works, flight, queue, issued)
@@ -291,8 +364,8 @@ pub expire : (settings : Settings) (part : Part) (itag : ℕ) (silent : Bool) �
 expire settings part itag silent =
     where_so _ (unit.may_expire settings part itag silent) (unit.expired settings part itag)
     (λ so.
-    let rest = (and_parts (unit.is_timed settings.timeouts && (part.is_open && not part.is_stalled)) _ so).1 in
-    let its = (and_parts (is_none (unit.pump settings part)) _ rest).1 in
+    let rest = (and_parts (unit.is_timed settings.timeouts && unit.takes part) _ so).1 in
+    let its = (and_parts (unit.takes_none settings part) _ rest).1 in
     let is = (and_parts (list_any (unit.is_sent_to part.endpoint itag) part.issued) _ its).0 in
     let less = expired settings part itag is in
     omega (arith, less))

@@ -117,7 +117,7 @@ every =
     doing.Line ∷ doing.Deliver ∷ doing.Pump ∷ doing.Write ∷ doing.Expire ∷ doing.Serve ∷
     doing.Answer ∷ doing.Fail ∷ doing.End ∷ doing.Finish ∷ doing.Pass ∷ doing.Quit ∷ doing.Complete ∷
     doing.Ask ∷ doing.Use ∷ doing.Fault ∷ doing.Further ∷ doing.Evict ∷ doing.ForgetEntry ∷
-    doing.Forget ∷ doing.Leave ∷ []
+    doing.Forget ∷ doing.Leave ∷ doing.PumpAt ∷ []
 
 among_every : (own : Doing) → Contains every own
 among_every doing.Line = (0, omega arith, refl)
@@ -141,6 +141,7 @@ among_every doing.Evict = (17, omega arith, refl)
 among_every doing.ForgetEntry = (18, omega arith, refl)
 among_every doing.Forget = (19, omega arith, refl)
 among_every doing.Leave = (20, omega arith, refl)
+among_every doing.PumpAt = (21, omega arith, refl)
 
 abbrev AreRefused : Driver → Spot → Doing → Type 0
 AreRefused driver spot own = (at : ℕ) → at < places_of driver own → (number : ℕ) → number < count_of driver spot own at

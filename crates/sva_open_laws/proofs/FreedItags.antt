@@ -27,7 +27,7 @@ use Rattle.sva_search.proofs.Once.{contains_at}
 use Rattle.sva_open.specs.declared.descriptors.Issued.{Issued}
 use Rattle.sva_open.specs.declared.descriptors.Issued.TheVariants as issued
 use Rattle.sva_open.specs.World.{Part, if_so}
-use Rattle.sva_open.specs.Units.{complete_itag, completed_at, has_itag, is_out_before, settled, without_issued}
+use Rattle.sva_open.specs.Units.{complete_itag, completed_at, has_itag, is_out_before, settled, without_issued, without_out}
 use Rattle.sva_open_laws.specs.AsOpen.{descriptor_of, gather, part_of, where_so}
 use Rattle.sva_open_laws.specs.Queues.{CompletionsAreOne, IsFreedAlike, IsReopenedAlike, ResetsAreOne, completed, last_of, shown}
 use Rattle.sva_open_laws.proofs.DeviceActs.{never}
@@ -60,8 +60,8 @@ complete_one : (x : Part) (e n k : ℕ) (itags : ℕ → ℕ) (busy : ℕ → Bo
     → ((j : ℕ) → busy j ≡ true → itags j ≡ itags k → j ≡ k)
     → (complete_itag x (itags k)).issued ≡ gather n (sent_at e itags (λ j. busy j && not (j == k)))
 complete_one x e n k itags busy is l own alone =
-    ap (λ o. (completed_at x o).issued) at
-    ∙ settled_none (without_issued x place) place (is_out_before x.issued place) (slice_get (remove x.issued place) place)
+    ap (λ o. (completed_at (without_out x (itags k)) o).issued) at
+    ∙ settled_none (without_issued (without_out x (itags k)) place) place (is_out_before x.issued place) (slice_get (remove x.issued place) place)
     (λ name drain h. no_wait e n itags left place name drain (sym (ap (λ xs. slice_get xs place) gone) ∙ h))
     ∙ gone
   where

@@ -129,10 +129,10 @@ pub reopen : (part : Part) → IsBelow (part_weight part + 1) (host.reopen part)
 reopen part =
     where_so _ (not part.is_open) (record part { is_open = true; queue = []; issued = []; is_stalled = false; received = [] }) (λ so. omega arith)
 
-pub skip : (part : Part) (o : Option Descriptor) → IsBelow (part_weight part + 1) (host.skip part o)
+pub skip : (part : Part) (o : Option ℕ) → IsBelow (part_weight part + 1) (host.skip part o)
 skip part None = tt
-skip part (Some head) =
-    let less = less_out descriptor_weight part.queue 0 in
+skip part (Some place) =
+    let less = less_out descriptor_weight part.queue place in
     omega (arith, less)
 
 -- ---- what the host sees leaves all as it was

@@ -27,7 +27,7 @@ use Rattle.sva_open.specs.Devices as device
 use Rattle.sva_open.specs.Links as link
 use Rattle.sva_open.specs.Order.{may_deliver}
 use Rattle.sva_open.specs.Units as unit
-use Rattle.sva_open_laws.specs.Weights.{arrived_weight, entry_weight, group_weight, issued_weight, message_weight, part_weight, received_weight}
+use Rattle.sva_open_laws.specs.Weights.{arrived_weight, descriptor_weight, entry_weight, group_weight, issued_weight, message_weight, part_weight, received_weight}
 use Rattle.sva_open_laws.specs.Weights.{sent_weight, state_weight, translation_weight, work_weight}
 use Rattle.sva_open_laws.proofs.Weighed.{changed, left_in, less_out, out, put_most}
 use Rattle.sva_open_laws.proofs.DevicesPaid.{off_rows, waited}
@@ -175,8 +175,9 @@ completed_at part (Some place) =
 
 itag_completed : (part : Part) (itag : ℕ) → part_weight (unit.complete_itag part itag) < part_weight part + 1
 itag_completed part itag =
-    let less = completed_at part (position (unit.has_itag itag) part.issued) in
-    omega (arith, less)
+    let less = completed_at (unit.without_out part itag) (position (unit.has_itag itag) part.issued) in
+    let place = left_in descriptor_weight (unit.isnt_out_of itag) part.queue in
+    omega (arith, less, place)
 
 arrives : (settings : Settings) (part : Part) (one : Sent) (request : PageRequest)
     → part_weight (link.arrive settings part one request) < part_weight part + 5

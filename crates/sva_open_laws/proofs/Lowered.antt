@@ -272,6 +272,7 @@ own_pays : (driver : Driver) (device : Device) (settings : Settings) (mappings :
 own_pays driver device settings mappings part doing.Line number = tt
 own_pays driver device settings mappings part doing.Deliver number = act_at settings mappings part (local.Deliver number)
 own_pays driver device settings mappings part doing.Pump number = act_at settings mappings part local.Pump
+own_pays driver device settings mappings part doing.PumpAt number = act_at settings mappings part (local.PumpAt number)
 own_pays driver device settings mappings part doing.Write number = act_at settings mappings part local.Write
 own_pays driver device settings mappings part doing.Expire number = expires settings mappings part device.is_silent (slice_get part.issued number)
 own_pays driver device settings mappings part doing.Serve number =

@@ -55,6 +55,7 @@ seen_struck by (Some (descriptor.Translations None scope)) part = refl
 seen_struck by (Some (descriptor.Entry (Some endpoint) pasid)) part = refl
 seen_struck by (Some (descriptor.Entry None pasid)) part = refl
 seen_struck by (Some (descriptor.Wait name drain fence)) part = refl
+seen_struck by (Some (descriptor.Out itag)) part = refl
 
 seen_unfiled : (by : Part) (b : Bool) (part : Part) → seen by (unfiled b part) ≡ unfiled b (seen by part)
 seen_unfiled by true part = refl
@@ -68,6 +69,7 @@ by_struck (Some (descriptor.Translations None scope)) by part = refl
 by_struck (Some (descriptor.Entry (Some endpoint) pasid)) by part = refl
 by_struck (Some (descriptor.Entry None pasid)) by part = refl
 by_struck (Some (descriptor.Wait name drain fence)) by part = refl
+by_struck (Some (descriptor.Out itag)) by part = refl
 
 by_unfiled : (b : Bool) (by part : Part) → seen (unfiled b by) part ≡ seen by part
 by_unfiled true by part = refl
@@ -92,6 +94,7 @@ left_named own head by part = unfiled_named (closes own) _ ∙ struck_named (tak
     struck_named (Some (descriptor.Entry (Some endpoint) pasid)) part = refl
     struck_named (Some (descriptor.Entry None pasid)) part = refl
     struck_named (Some (descriptor.Wait name drain fence)) part = refl
+    struck_named (Some (descriptor.Out itag)) part = refl
 
     unfiled_named : (b : Bool) (part : Part) → (unfiled b part).endpoint ≡ part.endpoint
     unfiled_named true part = refl
@@ -280,7 +283,7 @@ alone [] at own parts = refl
 alone (unit ∷ units) at own parts = either (awaits_all own && list_any (holds_up (unit ∷ units) at) parts) (is_of_unit own)
   where
     either : (b c : Bool)
-        → (if b then None else (if c then option_map (with_told (unit ∷ units) at own (head_of (slice_get parts at))) None else None)) ≡ None
+        → (if b then None else (if c then option_map (with_told (unit ∷ units) at own (head_of own (slice_get parts at))) None else None)) ≡ None
     either true c = refl
     either false true = refl
     either false false = refl
@@ -294,7 +297,7 @@ behind (unit ∷ units) at own now part after is h found left_by =
     either (awaits_all own && list_any (holds_up (unit ∷ units) at) now.parts) (is_of_unit own) refl
   where
     head : Option Descriptor
-    head = head_of (slice_get now.parts at)
+    head = head_of own (slice_get now.parts at)
 
     next : Open
     next = with_parts now (slice_set now.parts at after)

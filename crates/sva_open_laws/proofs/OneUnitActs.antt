@@ -168,9 +168,9 @@ forget part place (Some kept) = (refl, λ other. refl)
 
 -- ---- acts of the unit, and what comes
 
-skip : (part : Part) (o : Option Descriptor) → Of IsNamed part (host.skip part o)
+skip : (part : Part) (o : Option ℕ) → Of IsNamed part (host.skip part o)
 skip part None = tt
-skip part (Some head) = refl
+skip part (Some place) = refl
 
 serve : (part : Part) (o : Option Arrived) → Of IsNamed part (host.serve part o)
 serve part None = tt
@@ -200,10 +200,30 @@ pump_head settings part (Some (descriptor.Translations endpoint scope)) = refl
 pump_head settings part (Some (descriptor.Entry endpoint pasid)) = refl
 pump_head settings part (Some (descriptor.Wait name drain fence)) =
     so IsNamed part _ _ (named_if part _ _ _ refl (waited (unit.shifted part) name drain))
+pump_head settings part (Some (descriptor.Out itag)) = tt
 
 of_if : (part : Part) (b : Bool) (o : Option Part) → Of IsNamed part o → Of IsNamed part (if b then o else None)
 of_if part true o h = h
 of_if part false o h = tt
+
+issue_at : (part : Part) (place : ℕ) (scope : Scope) (o : Option ℕ) → Of IsNamed part (unit.issue_at part place scope o)
+issue_at part place scope None = tt
+issue_at part place scope (Some itag) = refl
+
+pump_one : (settings : Settings) (part : Part) (place : ℕ) (one : Descriptor) → Of IsNamed part (unit.pump_one settings part place one)
+pump_one settings part place (descriptor.Device endpoint scope) = issue_at part place scope _
+pump_one settings part place (descriptor.Translations endpoint scope) = refl
+pump_one settings part place (descriptor.Entry endpoint pasid) = refl
+pump_one settings part place (descriptor.Wait name drain fence) = so IsNamed part _ _ (waited (unit.taken_out part place) name drain)
+pump_one settings part place (descriptor.Out itag) = tt
+
+pump_there : (settings : Settings) (part : Part) (place : ℕ) (o : Option Descriptor) → Of IsNamed part (unit.pump_there settings part place o)
+pump_there settings part place None = tt
+pump_there settings part place (Some one) = unless (unit.is_barred settings part.queue place one)
+  where
+    unless : (b : Bool) → Of IsNamed part (if b then None else unit.pump_one settings part place one)
+    unless true = tt
+    unless false = pump_one settings part place one
 
 told : (part : Part) (pasid : ℕ) (own : State) (owner : ℕ) (o : Option Row) → IsNamed part (link.told part pasid own owner o)
 told part pasid own owner None = refl
@@ -252,7 +272,7 @@ received settings mappings part one (message.Response index fails filed) = refl
 received settings mappings part one (message.Request tag pasid page) =
     named_if part _ _ part.is_open (keeps part settings.has_caches pasid page (unit.entry_at part pasid) _) refl
 received settings mappings part one (message.Invalidated itag) =
-    named_if part _ _ part.is_open (completed part (position (unit.has_itag itag) part.issued)) refl
+    named_if part _ _ part.is_open (completed (unit.without_out part itag) (position (unit.has_itag itag) part.issued)) refl
 received settings mappings part one (message.PageRequest request) =
     named_if part _ _ part.is_open (named_if part _ _ settings.drain_empties refl refl) refl
 received settings mappings part one (message.Marker pasid) =
@@ -299,7 +319,7 @@ left settings mappings part (local.Submit descriptors) =
     of_unit part (local.Submit descriptors) _ refl (so IsNamed part _ (host.may_submit part descriptors.items) refl)
 left settings mappings part local.Close = of_unit part local.Close _ refl (so IsNamed part _ part.is_open refl)
 left settings mappings part local.Reopen = of_unit part local.Reopen _ refl (so IsNamed part _ (not part.is_open) refl)
-left settings mappings part local.Skip = of_unit part local.Skip _ refl (skip part (slice_get part.queue 0))
+left settings mappings part local.Skip = of_unit part local.Skip _ refl (skip part (position unit.isnt_out part.queue))
 left settings mappings part local.Resume = (refl, λ apart. absurd (cc apart))
 left settings mappings part (local.AwaitWait name) = still part (local.AwaitWait name) _ (so IsStill part part _ (refl, λ other. refl))
 left settings mappings part (local.AwaitStopped pasid) = still part (local.AwaitStopped pasid) _ (await_stopped part pasid (slice_get part.rows pasid))
@@ -332,7 +352,11 @@ left settings mappings part (local.Pass place) = still part (local.Pass place) _
 left settings mappings part (local.Quit pasid) = still part (local.Quit pasid) _ (quit settings.stopped part pasid (slice_get part.rows pasid))
 left settings mappings part local.Leave = still part local.Leave _ (so IsStill part _ (not part.is_gone) (refl, λ other. refl))
 left settings mappings part local.Pump =
-    of_unit part local.Pump _ refl (of_if part (part.is_open && not part.is_stalled) _ (pump_head settings part (slice_get part.queue 0)))
+    of_unit part local.Pump _ refl
+    (of_if part (not settings.is_loose && unit.takes part) _ (pump_head settings part (slice_get part.queue 0)))
+left settings mappings part (local.PumpAt place) =
+    of_unit part (local.PumpAt place) _ refl
+    (of_if part (settings.is_loose && unit.takes part) _ (pump_there settings part place (slice_get part.queue place)))
 left settings mappings part (local.Expire itag silent) =
     of_unit part (local.Expire itag silent) _ refl (so IsNamed part _ (unit.may_expire settings part itag silent) refl)
 left settings mappings part local.Write = of_unit part local.Write _ refl (write part (slice_get part.received 0))

@@ -113,9 +113,9 @@ close page part = where_so page _ _ _ _ (λ h. h) refl
 pub reopen : (page : ℕ) (part : Part) → IsLed page (host.reopen part) (host.reopen (its_part page part))
 reopen page part = where_so page _ _ _ _ (λ h. h) refl
 
-pub skip : (page : ℕ) (part : Part) (o : Option Descriptor) → IsLed page (host.skip part o) (host.skip (its_part page part) o)
+pub skip : (page : ℕ) (part : Part) (o : Option ℕ) → IsLed page (host.skip part o) (host.skip (its_part page part) o)
 skip page part None = tt
-skip page part (Some head) = refl
+skip page part (Some place) = refl
 
 pub await_wait : (page : ℕ) (part : Part) (name : ℕ) → IsLed page (host.await_wait part name) (host.await_wait (its_part page part) name)
 await_wait page part name = where_so page _ _ _ _ (λ h. h) refl

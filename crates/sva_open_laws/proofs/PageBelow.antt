@@ -11,7 +11,7 @@ use Rattle.sva_open.specs.World.{Open, Part, is_left}
 use Rattle.sva_open.specs.Acts.{at_endpoint, done_at, next_open}
 use Rattle.sva_open.specs.Below.{Matter, about, about_part, awaits_all, closes, head_of, holds_up, is_beside, is_of_unit, left, left_at, matter_of}
 use Rattle.sva_open.specs.Below.{seen, shared, struck, taken_by, told, unfiled, with_told}
-use Rattle.sva_open.specs.Below.Matter.{OwnEndpoint, Head, Oldest}
+use Rattle.sva_open.specs.Below.Matter.{OwnEndpoint, Standing, Oldest}
 use Rattle.sva_open_laws.specs.Pages.{is_at, its_part, its_world}
 use Rattle.sva_open_laws.proofs.Filters.{filter_both}
 
@@ -25,7 +25,7 @@ IsLedTo page (Some one) (Some other) = its_world page one ≡ other
 
 same_matter : (page endpoint : ℕ) (matter : Matter) (part : Part) → about_part endpoint matter part ≡ about_part endpoint matter (its_part page part)
 same_matter page endpoint OwnEndpoint part = refl
-same_matter page endpoint Head part = refl
+same_matter page endpoint (Standing place) part = refl
 same_matter page endpoint Oldest part = refl
 
 same_of : (page : ℕ) (units : List ℕ) (endpoint : ℕ) (own : LocalAct) (o : Option Part)
@@ -86,6 +86,7 @@ struck_of page (Some (descriptor.Translations None scope)) part =
 struck_of page (Some (descriptor.Entry (Some endpoint) pasid)) part = refl
 struck_of page (Some (descriptor.Entry None pasid)) part = refl
 struck_of page (Some (descriptor.Wait name drain fence)) part = refl
+struck_of page (Some (descriptor.Out itag)) part = refl
 
 unfiled_of : (page : ℕ) (b : Bool) (part : Part) → its_part page (unfiled b part) ≡ unfiled b (its_part page part)
 unfiled_of page true part = refl
@@ -130,9 +131,9 @@ told_led page units endpoint own head (Some one) (Some other) h =
     })
     ∙ ap (with_told units endpoint own head) h
 
-heads : (page : ℕ) (o : Option Part) → head_of o ≡ head_of (option_map (its_part page) o)
-heads page None = refl
-heads page (Some part) = refl
+heads : (page : ℕ) (own : LocalAct) (o : Option Part) → head_of own o ≡ head_of own (option_map (its_part page) o)
+heads page own None = refl
+heads page own (Some part) = refl
 
 any_of : (page : ℕ) (units : List ℕ) (endpoint : ℕ) (parts : List Part)
     → list_any (holds_up units endpoint) parts ≡ list_any (holds_up units endpoint) (map (its_part page) parts)
@@ -157,7 +158,7 @@ shared_led page (unit ∷ units) endpoint own parts x y h =
     (led_or page (is_of_unit own) _ _ _ _ h
     (subst
     (λ (head : Option Descriptor). IsLedTo page
-    (option_map (with_told (unit ∷ units) endpoint own (head_of (slice_get parts endpoint))) x)
+    (option_map (with_told (unit ∷ units) endpoint own (head_of own (slice_get parts endpoint))) x)
     (option_map (with_told (unit ∷ units) endpoint own head) y))
-    (heads page (slice_get parts endpoint) ∙ ap head_of (sym (slice_get-map (its_part page) parts endpoint)))
-    (told_led page (unit ∷ units) endpoint own (head_of (slice_get parts endpoint)) x y h)))
+    (heads page own (slice_get parts endpoint) ∙ ap (head_of own) (sym (slice_get-map (its_part page) parts endpoint)))
+    (told_led page (unit ∷ units) endpoint own (head_of own (slice_get parts endpoint)) x y h)))

@@ -212,7 +212,7 @@ received page settings mappings part one (message.Response index fails filed) h 
 received page settings mappings part one (message.Request tag pasid other) h =
     where_open page part.is_open _ _ _ _ refl (answered page settings mappings part one tag pasid other)
 received page settings mappings part one (message.Invalidated itag) h =
-    where_open page part.is_open _ _ _ _ refl (completed page part (position (unit.has_itag itag) part.issued))
+    where_open page part.is_open _ _ _ _ refl (completed page (unit.without_out part itag) (position (unit.has_itag itag) part.issued))
 received page settings mappings part one (message.PageRequest request) h =
     where_open page part.is_open _ _ _ _ refl (where_open page settings.drain_empties _ _ _ _ refl refl)
 received page settings mappings part one (message.Marker pasid) h =

@@ -165,13 +165,46 @@ pump_head page settings part (Some (descriptor.Entry endpoint pasid)) = refl
 pump_head page settings part (Some (descriptor.Wait name drain fence)) =
     where_so page _ _ _ _ (λ h. h)
     (where_open page (unit.is_out_before part.issued (length part.issued)) _ _ _ _ (waits page (unit.shifted part) name drain) refl)
+pump_head page settings part (Some (descriptor.Out itag)) = tt
 
 if_open : (page : ℕ) (b : Bool) (one other : Option Part) → IsLed page one other → IsLed page (if b then one else None) (if b then other else None)
 if_open page true one other h = h
 if_open page false one other h = tt
 
 pub pump : (page : ℕ) (settings : Settings) (part : Part) → IsLed page (unit.pump settings part) (unit.pump settings (its_part page part))
-pump page settings part = if_open page (part.is_open && not part.is_stalled) _ _ (pump_head page settings part (slice_get part.queue 0))
+pump page settings part =
+    if_open page (not settings.is_loose && unit.takes part) _ _ (pump_head page settings part (slice_get part.queue 0))
+
+issue_at : (page : ℕ) (part : Part) (at : ℕ) (scope : Scope) (o : Option ℕ)
+    → IsLed page (unit.issue_at part at scope o) (unit.issue_at (its_part page part) at scope o)
+issue_at page part at scope None = tt
+issue_at page part at scope (Some itag) =
+    sends page (record part { queue = _; issued = _ }) 0 part.time (message.Invalidate itag scope)
+
+pump_one : (page : ℕ) (settings : Settings) (part : Part) (at : ℕ) (one : Descriptor)
+    → IsLed page (unit.pump_one settings part at one) (unit.pump_one settings (its_part page part) at one)
+pump_one page settings part at (descriptor.Device endpoint scope) = issue_at page part at scope _
+pump_one page settings part at (descriptor.Translations endpoint scope) =
+    with_kept page (unit.taken_out part at) _ _ (filter_both (is_at page) (is_left scope) part.kept)
+pump_one page settings part at (descriptor.Entry endpoint pasid) = refl
+pump_one page settings part at (descriptor.Wait name drain fence) =
+    where_so page _ _ _ _ (λ h. h) (waits page (unit.taken_out part at) name drain)
+pump_one page settings part at (descriptor.Out itag) = tt
+
+unless : (page : ℕ) (b : Bool) (one other : Option Part) → IsLed page one other → IsLed page (if b then None else one) (if b then None else other)
+unless page true one other h = tt
+unless page false one other h = h
+
+pump_there : (page : ℕ) (settings : Settings) (part : Part) (at : ℕ) (o : Option Descriptor)
+    → IsLed page (unit.pump_there settings part at o) (unit.pump_there settings (its_part page part) at o)
+pump_there page settings part at None = tt
+pump_there page settings part at (Some one) =
+    unless page (unit.is_barred settings part.queue at one) _ _ (pump_one page settings part at one)
+
+pub pump_at : (page : ℕ) (settings : Settings) (part : Part) (at : ℕ)
+    → IsLed page (unit.pump_at settings part at) (unit.pump_at settings (its_part page part) at)
+pump_at page settings part at =
+    if_open page (settings.is_loose && unit.takes part) _ _ (pump_there page settings part at (slice_get part.queue at))
 
 pub forget_entry : (page : ℕ) (part : Part) (place : ℕ) (o : Option KeptEntry)
     → IsLed page (unit.forget_entry part place o) (unit.forget_entry (its_part page part) place o)

@@ -2,7 +2,7 @@
 use Rattle.std.proofs.Common.{◌≡◌, ◌∙◌, ℕ, zero, suc, Bool, true, false, Option, Some, None, option_map, List, [], ◌∷◌, ◌++◌, map}
 use Rattle.std.proofs.Common.{refl, ap, sym, subst, arith}
 use Rattle.std.proofs.lemmas.Bool.Decides.{nat_tests}
-use Rattle.std.specs.Prelude.{⊤, ◌==◌, max, slice_get, slice_set, filter}
+use Rattle.std.specs.Prelude.{⊤, ◌==◌, max, position, slice_get, slice_set, filter}
 use Rattle.std.proofs.lemmas.List.{map-set}
 use Rattle.std.proofs.lemmas.Option.{same_Some, slice_get-map}
 use Rattle.sva_open.specs.declared.frames.Tenure.{Tenure}
@@ -17,6 +17,7 @@ use Rattle.sva_open.specs.declared.acts.LocalAct.TheVariants as local
 use Rattle.sva_open.specs.World.{Open, Part, if_so, lowest_free}
 use Rattle.sva_open.specs.Acts.{at_endpoint, done_at, free_frame, freeze, is_other_page, next_open, next_part, parts_after, set_page, with_parts, without_page}
 use Rattle.sva_open.specs.Devices.{above_arrived, above_filed, above_message, above_received, above_sent, fault, fresh_number, highest}
+use Rattle.sva_open.specs.Units as unit
 use Rattle.sva_open_laws.specs.Pages.{its_act, its_local, its_local_at, its_message, its_part, its_sent, its_world, leads_at, next_by}
 use Rattle.sva_open_laws.proofs.Filters.{filter_both, filter_inner, filter_left, filter_without}
 use Rattle.sva_open.specs.Below.{about, matter_of}
@@ -89,7 +90,7 @@ act_at page settings mappings part local.Reset h = its.reset page part
 act_at page settings mappings part (local.Submit descriptors) h = its.submit page part descriptors.items
 act_at page settings mappings part local.Close h = its.close page part
 act_at page settings mappings part local.Reopen h = its.reopen page part
-act_at page settings mappings part local.Skip h = its.skip page part (slice_get part.queue 0)
+act_at page settings mappings part local.Skip h = its.skip page part (position unit.isnt_out part.queue)
 act_at page settings mappings part local.Resume h = refl
 act_at page settings mappings part (local.AwaitWait name) h = its.await_wait page part name
 act_at page settings mappings part (local.AwaitStopped pasid) h = its.await_stopped page part pasid (slice_get part.rows pasid)
@@ -120,6 +121,7 @@ act_at page settings mappings part (local.Pass at) h = barriers.pass page settin
 act_at page settings mappings part (local.Quit pasid) h = its.quit page settings.stopped part pasid (slice_get part.rows pasid)
 act_at page settings mappings part local.Leave h = its.leave page part
 act_at page settings mappings part local.Pump h = place.pump page settings part
+act_at page settings mappings part (local.PumpAt at) h = place.pump_at page settings part at
 act_at page settings mappings part (local.Expire itag silent) h = times.expire page settings part itag silent
 act_at page settings mappings part local.Write h = its.write page part (slice_get part.received 0)
 act_at page settings mappings part (local.ForgetEntry at) h = place.forget_entry page part at (slice_get part.kept_entries at)
@@ -191,6 +193,10 @@ untagged_serve (Some part) = tt
 untagged_pump : (o : Option Part) → IsTaggedIn o local.Pump
 untagged_pump None = tt
 untagged_pump (Some part) = tt
+
+untagged_pump_at : (place : ℕ) (o : Option Part) → IsTaggedIn o (local.PumpAt place)
+untagged_pump_at place None = tt
+untagged_pump_at place (Some part) = tt
 
 -- an act that is there for each page, at the endpoint that it is about
 done_led : (page : ℕ) (now : Open) (at : ℕ) (own : LocalAct) → ((o : Option Part) → its_local_at page o own ≡ Some own)
@@ -319,6 +325,8 @@ acts_led page now endpoint (local.Pass place) h =
 acts_led page now endpoint (local.Quit pasid) h = own_led page now endpoint _ refl (always_there page _ (λ part. refl)) h
 acts_led page now endpoint local.Leave h = own_led page now endpoint _ refl (always_there page _ (λ part. refl)) h
 acts_led page now endpoint local.Pump h = unit_led page now endpoint _ (always_there page _ (λ part. refl)) (λ o. untagged_pump o)
+acts_led page now endpoint (local.PumpAt place) h =
+    unit_led page now endpoint _ (always_there page _ (λ part. refl)) (λ o. untagged_pump_at place o)
 acts_led page now endpoint (local.Expire itag silent) h = own_led page now endpoint _ refl (always_there page _ (λ part. refl)) h
 acts_led page now endpoint local.Write h = own_led page now endpoint _ refl (always_there page _ (λ part. refl)) h
 acts_led page now endpoint (local.ForgetEntry place) h = own_led page now endpoint _ refl (always_there page _ (λ part. refl)) h

@@ -234,6 +234,7 @@ told_sees own head after part = unfiled_sees (closes own) _ ∙ struck_sees (tak
     struck_sees (Some (descriptor.Entry (Some endpoint) pasid)) part = refl
     struck_sees (Some (descriptor.Entry None pasid)) part = refl
     struck_sees (Some (descriptor.Wait name drain fence)) part = refl
+    struck_sees (Some (descriptor.Out itag)) part = refl
 
     unfiled_sees : (b : Bool) (part : Part) → unit_weight (unfiled b part) ≡ unit_weight part
     unfiled_sees true part = refl
@@ -257,6 +258,7 @@ told_less own head after part =
         let less = left_in entry_weight (is_no_entry_of pasid) part.kept_entries in
         omega (arith, less)
     struck_less (Some (descriptor.Wait name drain fence)) part = omega arith
+    struck_less (Some (descriptor.Out itag)) part = omega arith
 
     unfiled_less : (b : Bool) (part : Part) → own_weight (unfiled b part) ≤ own_weight part
     unfiled_less true part = omega arith

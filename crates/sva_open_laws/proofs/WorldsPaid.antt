@@ -2,7 +2,7 @@
 use Rattle.std.proofs.Common.{◌≡◌, ◌∙◌, ◌⊎◌, inl, inr, ◌<◌, ◌≤◌, ℕ, ◌+◌, Bool, true, false, Option, Some, None, option_map, List, [], ◌∷◌, map}
 use Rattle.std.proofs.Common.{refl, ap, sym, subst, arith}
 use Rattle.std.proofs.lemmas.Option.{same_Some}
-use Rattle.std.specs.Prelude.{⊤, ◌==◌, ◌&&◌, not, if◌then◌else◌, slice_get, slice_set}
+use Rattle.std.specs.Prelude.{⊤, ◌==◌, ◌&&◌, not, if◌then◌else◌, position, slice_get, slice_set}
 use Rattle.std.specs.List.{list_any}
 use Rattle.sva_open.specs.declared.frames.Tenure.{Tenure}
 use Rattle.sva_open.specs.declared.frames.Mapping.{Mapping}
@@ -18,6 +18,7 @@ use Rattle.sva_open.specs.Below.{about, awaits_all, head_of, holds_up, is_of_uni
 use Rattle.sva_open.specs.Below.{left as left_of}
 use Rattle.sva_open.specs.Below.Matter.{OwnEndpoint}
 use Rattle.sva_open.specs.Devices as device
+use Rattle.sva_open.specs.Units as unit
 use Rattle.sva_open_laws.specs.Weights.{AnswersAreFree, AreNumbered, EachActIsPaid, act_price, answers, local_price}
 use Rattle.sva_open_laws.specs.Weights.{own_weight, part_weight, unit_weight, world_weight}
 use Rattle.sva_open_laws.proofs.Weighed.{put_in}
@@ -44,7 +45,7 @@ act_at settings mappings part (local.Barrier barrier) = hosts.barrier part barri
 act_at settings mappings part (local.Submit descriptors) = hosts.submit part descriptors.items
 act_at settings mappings part local.Close = hosts.close part
 act_at settings mappings part local.Reopen = hosts.reopen part
-act_at settings mappings part local.Skip = hosts.skip part (slice_get part.queue 0)
+act_at settings mappings part local.Skip = hosts.skip part (position unit.isnt_out part.queue)
 act_at settings mappings part local.Resume = omega arith
 act_at settings mappings part (local.AwaitWait name) = hosts.waits part _
 act_at settings mappings part (local.AwaitStopped pasid) = hosts.await_stopped part pasid (slice_get part.rows pasid) refl
@@ -73,6 +74,7 @@ act_at settings mappings part (local.Pass place) = devices.pass_barrier settings
 act_at settings mappings part (local.Quit pasid) = devices.quit settings.stopped part pasid (slice_get part.rows pasid) refl
 act_at settings mappings part local.Leave = devices.leave part
 act_at settings mappings part local.Pump = devices.pump settings part
+act_at settings mappings part (local.PumpAt place) = devices.pump_at settings part place
 act_at settings mappings part (local.Expire itag silent) = devices.expire settings part itag silent
 act_at settings mappings part local.Write = devices.write part (slice_get part.received 0) refl
 act_at settings mappings part (local.ForgetEntry place) = devices.forget_entry part place (slice_get part.kept_entries place) refl
@@ -100,7 +102,7 @@ set_at now at after = with_parts now (slice_set now.parts at after)
 
 abbrev told_by : (units : List ℕ) → Open → (at : ℕ) → LocalAct → (after : Part) → Open
 told_by units now at own after =
-    with_parts now (map (left_at units at own (head_of (slice_get now.parts at)) after) (slice_set now.parts at after))
+    with_parts now (map (left_at units at own (head_of own (slice_get now.parts at)) after) (slice_set now.parts at after))
 
 -- where no units are shared nobody is
 none_told : (at : ℕ) (own : LocalAct) (head : Option Descriptor) (after : Part) (parts : List Part) → map (left_at [] at own head after) parts ≡ parts
@@ -122,13 +124,13 @@ behind Such none [] now at own part after found quiet loud = by (is_of_unit own)
     by : (b : Bool) → is_of_unit own ≡ b → Such (Some (set_at now at after))
     by true is =
         subst (λ (parts : List Part). Such (Some (with_parts now parts)))
-        (none_told at own (head_of (slice_get now.parts at)) after (slice_set now.parts at after)) (loud is)
+        (none_told at own (head_of own (slice_get now.parts at)) after (slice_set now.parts at after)) (loud is)
     by false is = quiet is
 behind Such none (unit ∷ units) now at own part after found quiet loud =
     by (awaits_all own && list_any (holds_up (unit ∷ units) at) now.parts) (is_of_unit own) refl
   where
     head : Option Descriptor
-    head = head_of (slice_get now.parts at)
+    head = head_of own (slice_get now.parts at)
 
     by : (b c : Bool) → is_of_unit own ≡ c
         → Such (if b then None
@@ -152,7 +154,7 @@ paid_by now at price own part (Some after) numbered found its less =
     let same = quiet now.units now.parts at part after found its.0 seen in
     (omega (arith, put, seen, same, less), λ h. numbered_set now.parts at part after h found its.0))
     (λ is.
-    let head = head_of (slice_get now.parts at) in
+    let head = head_of own (slice_get now.parts at) in
     let put = told_own now.units at own head after now.parts part (numbered is) found its.0 in
     let seen = told_units now.units at own head after now.parts part (numbered is) found its.0 in
     (omega (arith, put, seen, less), λ h. told_numbered now.units at own head after now.parts part h found its.0))
@@ -175,6 +177,7 @@ acts_at now at price own numbered less = by (slice_get now.parts at) refl
 
 own_or_free : (own : LocalAct) → (matter_of own ≡ OwnEndpoint) ⊎ (local_price own ≡ 0)
 own_or_free local.Pump = inr refl
+own_or_free (local.PumpAt place) = inr refl
 own_or_free local.Serve = inr refl
 own_or_free own = inl refl
 

@@ -99,8 +99,8 @@ abbrev pub group_weight : Option Group → ℕ
 group_weight None = 0
 group_weight (Some group) = unfinished_weight group.is_finished
 
--- an invalidation that has left the queue is completed, or its time runs out; in the queue it has to leave that, and to be sent. A wait
--- is done with the invalidations behind which it stands
+-- an invalidation that has left the queue is completed, or its time runs out; in the queue it has to leave that, and to be sent. Its place
+-- goes with it, where it keeps one, and a wait is done with the invalidations behind which it stands
 abbrev pub issued_weight : Issued → ℕ
 issued_weight (Issue endpoint itag) = 1
 issued_weight (Waiting name drain) = 0
@@ -110,6 +110,7 @@ descriptor_weight (descriptor.Device endpoint scope) = 5
 descriptor_weight (descriptor.Translations endpoint scope) = 1
 descriptor_weight (descriptor.Entry endpoint pasid) = 1
 descriptor_weight (descriptor.Wait name drain fence) = 1
+descriptor_weight (descriptor.Out itag) = 0
 
 -- an endpoint that is there may go
 abbrev pub presence_weight : (is_gone : Bool) → ℕ
@@ -171,6 +172,7 @@ local_price (local.Pass place) = 0
 local_price (local.Quit pasid) = 0
 local_price local.Leave = 0
 local_price local.Pump = 0
+local_price (local.PumpAt place) = 0
 local_price (local.Expire itag silent) = 0
 local_price local.Write = 0
 local_price (local.ForgetEntry place) = 0

@@ -77,6 +77,10 @@ itag_at at words = number_at 0 32 at wanted.Itag words
 abbrev pub count_at : (at : ℕ) → List (List ℕ) → Result ℕ DriverWrong
 count_at at words = number_at 0 65536 at wanted.Part words
 
+-- how many places a page request queue has
+abbrev pub places_at : (at : ℕ) → List (List ℕ) → Result ℕ DriverWrong
+places_at at words = number_at 1 65536 at wanted.Places words
+
 -- how often lines are written out
 abbrev pub times_at : (at : ℕ) → List (List ℕ) → Result ℕ DriverWrong
 times_at at words = number_at 1 65537 at (wanted.Written written.Times) words

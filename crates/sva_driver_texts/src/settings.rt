@@ -3,9 +3,7 @@
 ghost use Rattle.std.specs.Prelude.{◌≡◌, map};
 ghost use Rattle.sva_driver_texts.specs.Devices as devices;
 
-use sva_driver_words::{
-    DriverWanted, DriverWrong, has_word, judge_end, places_at, says, wrong_at,
-};
+use sva_driver_words::{DriverWanted, DriverWrong, has_word, judge_end, places_at, says, wrong_at};
 use sva_open::{Link, Settings, Stopped, Timeouts, Workers};
 use sva_script::is;
 

@@ -222,8 +222,10 @@ fn branch_words(wanted: &BranchWanted) -> &'static str
 {
     match wanted {
         BranchWanted::Flag => "the name of a flag",
-        BranchWanted::Condition => "a flag, not, present, stopped, filed, queued, gone, overflow or failed",
-        BranchWanted::BehindNot => "a flag, present, stopped, filed, queued, gone, overflow or failed",
+        BranchWanted::Condition =>
+            "a flag, not, present, stopped, filed, queued, gone, overflow or failed",
+        BranchWanted::BehindNot =>
+            "a flag, present, stopped, filed, queued, gone, overflow or failed",
         BranchWanted::Longer => "a condition of more words, or no word behind a flag",
         BranchWanted::Few => "no more than 16 blocks within one another",
         BranchWanted::OnEachWay =>

@@ -31,7 +31,7 @@ pub use kept::{LineRead, Under};
 pub use needs::Need;
 pub use pieces::{
     access_text, code_text, kind_text, last_text, put_counted, put_endpoint, put_older, put_one,
-    put_places,    put_page, put_pasid,
+    put_page, put_pasid, put_places,
 };
 pub use platforms::{put_not_asked, put_platform};
 pub use sayings::read_saying;

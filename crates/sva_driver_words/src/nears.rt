@@ -104,7 +104,14 @@ const AWAITED_WORDS: [&[u8]; 8] = [
 
 /// The words that stand behind `if`, where a flag doesn't.
 const CONDITION_WORDS: [&[u8]; 8] = [
-    b"not", b"present", b"stopped", b"filed", b"queued", b"gone", b"failed", b"overflow",
+    b"not",
+    b"present",
+    b"stopped",
+    b"filed",
+    b"queued",
+    b"gone",
+    b"failed",
+    b"overflow",
 ];
 
 fn near_act(word: &[u8]) -> Option<&'static [u8]>

@@ -81,11 +81,11 @@ without_drains received = from_request received (position is_received received)
 
 -- ---- the page request queue
 
--- Is there no room in the queue? There is none where as many page requests stand in it as it has places, nor from then on until the
--- overflow is cleared (Intel VT-d, "Page Request Status Register", PRO).
-abbrev pub is_full : (places : Option ℕ) → Part → Bool
-is_full None part = false
-is_full (Some places) part = part.has_overflowed || nat_le places (length part.arrived)
+-- Is there no room in the queue? There is none where as many page requests stand in it as it has places, nor once it has overflowed,
+-- until that is cleared (Intel VT-d, "Page Request Status Register", PRO).
+abbrev pub is_full : (places : Option ℕ) → (has_overflowed : Bool) → (count : ℕ) → Bool
+is_full None has_overflowed count = false
+is_full (Some places) has_overflowed count = has_overflowed || nat_le places count
 
 -- the unit answers a page request by itself where that is the last of its group, by Success
 abbrev pub answered_if : (last : Bool) → Part → Arrived → Part
@@ -99,7 +99,9 @@ overflowed part one = answered_if one.request.last (record part { has_overflowed
 
 abbrev pub queued : Settings → Part → Arrived → Part
 queued settings part one =
-    if is_full settings.places part then overflowed part one else record part { arrived = part.arrived ++ one ∷ [] }
+    if is_full settings.places part.has_overflowed (length part.arrived)
+    then overflowed part one
+    else record part { arrived = part.arrived ++ one ∷ [] }
 
 -- the oldest page request that is received is written into the queue; a unit that is closed has none
 abbrev pub without_oldest : Part → Part

@@ -19,12 +19,12 @@ pub(crate) fn wait(part: &mut Part, name: usize, drain: bool) -> Result<(), Allo
 }
 
 /// Whether there is no room in the page request queue.
-fn is_full(places: Option<usize>, part: &Part) -> bool
-    ensures { result ≡ unit.is_full places part.now }
+fn is_full(places: Option<usize>, has_overflowed: bool, count: usize) -> bool
+    ensures { result ≡ unit.is_full places has_overflowed count }
 {
     match places {
         None => false,
-        Some(places) => part.has_overflowed || places <= part.arrived.len(),
+        Some(places) => has_overflowed || places <= count,
     }
 }
 
@@ -48,7 +48,7 @@ fn drop_request(part: &mut Part, one: Arrived) -> Result<(), AllocError>
 pub(crate) fn queue(part: &mut Part, settings: &Settings, one: Arrived) -> Result<(), AllocError>
     ensures { IfOk result (λ _. part.new ≡ unit.queued settings.now part.old one) }
 {
-    if is_full(settings.places, part) {
+    if is_full(settings.places, part.has_overflowed, part.arrived.len()) {
         return drop_request(part, one);
     }
     part.arrived.push(one)?;

@@ -17,7 +17,7 @@ def below_safe(driver, shown):
     found += [f'with link {s.link}, waits {s.waits}, drain {s.drain}, caches {s.caches}, stopped {s.stopped}'
               + ', enables cleared' * (s.enables == 'cleared')
               + f', timeouts {s.timeouts}' * (s.timeouts != 'off') + ', refuses drain' * ('refuses' in s.said)
-              + ', allow no-group' * ('allow' in s.said) + ''.join(f', unit {text}' for text in shared(driver))]
+              + ', allow no-group' * ('allow' in s.said) + (f', places {s.places}' if s.places else '') + ''.join(f', unit {text}' for text in shared(driver))]
     others = not_asked(s)
     found += ['not asked: ' + ', '.join(others)] if others else []
     found += [line for e in sorted(driver.devices) for line in ask_not_made(driver, e)]

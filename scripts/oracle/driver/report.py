@@ -71,8 +71,10 @@ def nevers(driver, shown):
 
 
 def untaken(driver, shown):
-    """Where lines look, those behind `race` that no list takes."""
-    left = [str(x.number) for x in driver.lines if x not in driver.by_thread[0] and ('line', x.serial) not in shown]
+    """Where lines look, the numbers of those behind `race` that no list takes, and which none before it has."""
+    were = driver.begun | {x.number for x in driver.lines if ('line', x.serial) in shown}
+    left = [x.number for x in driver.lines if x not in driver.by_thread[0] and x.number not in were]
+    left = [str(number) for number in dict.fromkeys(left)]
     if not driver.branches or not left:
         return []
     if len(left) == 1:

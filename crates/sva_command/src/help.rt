@@ -297,22 +297,23 @@ without a PASID; pages may be hexadecimal:
     await gone E           the device was removed, and nothing of it is on its way up
     close E, open E        the unit is closed, and is open again
     skip E                 the head of the invalidation queue is taken out, whatever it is
-    resume E               the unit goes on that has stopped at a time-out
+    resume E               the unit goes on that has stopped at a time-out, or overflowed
     lock L, unlock L       a lock that threads share
     mark                   nothing; as `NAME: mark` another thread awaits it by `await NAME`
     if [not] CONDITION     a look, by which the thread goes on, up to `else` or `end`: at a flag, which
                            is its name, or at `present E P`, an entry that leads to a space; `stopped E P`,
                            an answer to a stop; `filed E [P]`, a group; `queued E [P]`, a page request;
-                           `gone E`, a device that was removed; `failed`, a wait that was aborted, of what
-                           this thread awaited last
+                           `gone E`, a device that was removed; `overflow E`, a queue that lacked a place;
+                           `failed`, a wait that was aborted, of what this thread awaited last
     set NAME, clear NAME   the flag is set, or clear as at first
 
 Settings stand above the first act: `link free` or `posted`, `waits fence` or `plain`, `drain empty` or
 `arrived`, `caches off` or `on`, `stopped marker`, `status` or `known`, `enables kept` or `cleared` by a
 reset, `timeouts off`, `on` or `stop`; and before these `platform vt-d`, which is `link posted`, `waits
 plain`, `drain arrived` and `caches on`, or `platform free`. By `refuses drain` the unit takes no wait with
-`drain`, by `allow no-group` a response that finds no group is no finding, and by `unit E E ..` devices
-stand below one unit, and share its queues. Threads, workers and devices are as in a race, but that a device
+`drain`, by `allow no-group` a response that finds no group is no finding, by `places N` a page request
+queue has N places, and overflows where there is none, and by `unit E E ..` devices stand below one unit,
+and share its queues. Threads, workers and devices are as in a race, but that a device
 may have `lies`, `awaits` and `leaves` too. The lines from `def NAME $X` to its `end` stand where `call NAME
 WORD` does, with the word for `$X`; those from `repeat N` to its `end` stand N times. A unit, as a link or a
 device, acts by itself: `pump E`; `write E`, the oldest page request that it has received comes into the

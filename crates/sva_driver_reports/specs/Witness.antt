@@ -26,7 +26,7 @@ use Rattle.sva_judge.specs.Spots.{Spot}
 use Rattle.sva_driver_texts.specs.Texts.{line_choice}
 use Rattle.sva_driver_texts.specs.declared.kept.Said.{Said}
 use Rattle.sva_driver_texts.specs.declared.kept.Text.{Text}
-use Rattle.sva_driver_words.specs.Pieces.{and_number, with_endpoint}
+use Rattle.sva_driver_words.specs.Pieces.{and_number, places_text, with_endpoint}
 use Rattle.sva_driver_words.specs.Units.{units_text}
 use Rattle.sva_driver_reports.specs.Events.{local_text}
 
@@ -199,6 +199,7 @@ abbrev pub unpaired_text : Settings → List ℕ
 unpaired_text settings =
     said_if settings.clears_controls (codes "enables cleared\n") ++ timeouts_text settings.timeouts
     ++ said_if settings.refuses_drain (codes "refuses drain\n") ++ said_if settings.allows_no_group (codes "allow no-group\n")
+    ++ places_text [] (codes "\n") settings.places
 
 abbrev pub settings_text : Settings → List ℕ
 settings_text settings = pairs_text settings ++ unpaired_text settings

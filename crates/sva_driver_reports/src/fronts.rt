@@ -7,7 +7,7 @@ ghost use Rattle.sva_driver_reports.specs.Witness as witness;
 use crate::witness::{Event, event_of, put_front_line};
 use std::alloc::{AllocError, Global};
 use sva_driver_texts::Text;
-use sva_driver_words::{put_endpoint, put_one, put_units};
+use sva_driver_words::{put_endpoint, put_one, put_places, put_units};
 use sva_judge::{Choice, Doing, Spot, take};
 use sva_open::{Link, Part, Settings, Stopped, Timeouts, Workers};
 use sva_step::Config;
@@ -72,6 +72,7 @@ fn put_unpaired(out: &mut Vec<u8>, settings: &Settings) -> Result<(), AllocError
     out.extend_from_slice(timeouts_text(settings.timeouts).as_bytes())?;
     put_if(out, settings.refuses_drain, b"refuses drain\n")?;
     put_if(out, settings.allows_no_group, b"allow no-group\n")?;
+    put_places(out, settings.places, b"", b"\n")?;
     Ok(())
 }
 

@@ -12,7 +12,7 @@ use Rattle.sva_open.specs.declared.drivers.Budget.{Budget}
 use Rattle.sva_open.specs.declared.drivers.Workers.{Workers}
 use Rattle.sva_driver_words.specs.Taking.{Fails, appended}
 use Rattle.sva_driver_words.specs.Faults.{wrong_at, no_more}
-use Rattle.sva_driver_words.specs.Fields.{count_at, has_word, page_at, says}
+use Rattle.sva_driver_words.specs.Fields.{count_at, has_word, page_at, places_at, says}
 use Rattle.sva_driver_texts.specs.declared.kept_of_endpoints.DeviceRead.{DeviceRead}
 use Rattle.sva_driver_words.specs.declared.faults.DriverWanted.TheVariants as wanted
 use Rattle.sva_driver_words.specs.declared.faults.DriverStop.{DriverStop}
@@ -33,6 +33,7 @@ unsaid = record {
   has_workers = false;
   clears_controls = false;
   timeouts = timeouts.Off;
+  places = None;
 }
 
 abbrev pub is_setting : (word : List ℕ) → Bool
@@ -47,6 +48,7 @@ is_setting word =
     || bytes_eq word (codes "timeouts")
     || bytes_eq word (codes "refuses")
     || bytes_eq word (codes "allow")
+    || bytes_eq word (codes "places")
     || bytes_eq word (codes "unit")
     || bytes_eq word (codes "order")
 
@@ -120,6 +122,10 @@ abbrev pub allow_set : Settings → List (List ℕ) → Result Settings DriverWr
 allow_set settings words =
     if says 1 (codes "no-group") words then Ok (record settings { allows_no_group = true }) else wrong_at 1 wanted.Allowed
 
+-- how many places the page request queue of each unit has
+abbrev pub places_set : Settings → List (List ℕ) → Result Settings DriverWrong
+places_set settings words = places_at 1 words >>= λ places. Ok (record settings { places = Some places })
+
 -- what a reset leaves, what runs out of time, the order of descriptors, those that are no pair, or else by what an endpoint says that
 -- it has stopped
 abbrev pub set_other : Settings → List (List ℕ) → Result Settings DriverWrong
@@ -129,6 +135,7 @@ set_other settings words =
     if says 0 (codes "order") words then order_set settings words else
     if says 0 (codes "refuses") words then refuses_set settings words else
     if says 0 (codes "allow") words then allow_set settings words else
+    if says 0 (codes "places") words then places_set settings words else
     stopped_set settings words
 
 abbrev pub set : Settings → List (List ℕ) → Result Settings DriverWrong

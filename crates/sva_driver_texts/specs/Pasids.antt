@@ -44,6 +44,7 @@ pasid_looked_at (condition.Stopped endpoint pasid) = pasid
 pasid_looked_at (condition.Filed endpoint pasid) = or_zero pasid
 pasid_looked_at (condition.Queued endpoint pasid) = or_zero pasid
 pasid_looked_at (condition.Gone endpoint) = 0
+pasid_looked_at (condition.Overflowed endpoint) = 0
 pasid_looked_at (condition.Failed endpoint line) = 0
 
 abbrev pub pasid_at : SayingSaid → ℕ

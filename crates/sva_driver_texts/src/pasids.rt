@@ -77,7 +77,8 @@ fn pasid_looked_at(condition: Condition) -> usize
     ensures { result ≡ seen.pasid_looked_at condition }
 {
     match condition {
-        Condition::Flag { .. } | Condition::Gone { .. } | Condition::Failed { .. } => 0,
+        Condition::Flag { .. } | Condition::Gone { .. } => 0,
+        Condition::Overflowed { .. } | Condition::Failed { .. } => 0,
         Condition::Present { pasid, .. } => pasid,
         Condition::Stopped { pasid, .. } => pasid,
         Condition::Filed { pasid, .. } => or_zero(pasid),

@@ -170,6 +170,7 @@ impl Reading {
                 has_workers: false,
                 clears_controls: false,
                 timeouts: Timeouts::Off,
+                places: None,
             },
             set: Vec::new(alloc),
             units: Vec::new(alloc),

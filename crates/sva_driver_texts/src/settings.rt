@@ -3,7 +3,7 @@
 ghost use Rattle.std.specs.Prelude.{◌≡◌, map};
 ghost use Rattle.sva_driver_texts.specs.Devices as devices;
 
-use sva_driver_words::{DriverWanted, DriverWrong, has_word, judge_end, says, wrong_at};
+use sva_driver_words::{DriverWanted, DriverWrong, has_word, judge_end, places_at, says, wrong_at};
 use sva_open::{Link, Settings, Stopped, Timeouts, Workers};
 use sva_script::is;
 
@@ -21,6 +21,7 @@ pub(crate) fn is_setting(word: &[u8]) -> bool
         || is(word, b"timeouts")
         || is(word, b"refuses")
         || is(word, b"allow")
+        || is(word, b"places")
         || is(word, b"unit")
         || is(word, b"order")
 }
@@ -235,6 +236,17 @@ fn allow_set(settings: Settings, words: &[&[u8]]) -> Result<Settings, DriverWron
     Err(wrong_at(1, DriverWanted::Allowed))
 }
 
+/// How many places the page request queue of each unit has.
+fn places_set(settings: Settings, words: &[&[u8]]) -> Result<Settings, DriverWrong>
+    ensures { result ≡ devices.places_set settings (map (λ word. word.now) words.now) }
+{
+    let places = places_at(words, 1)?;
+    Ok(Settings {
+        places: Some(places),
+        ..settings
+    })
+}
+
 /// What a reset leaves, what runs out of time, the order of descriptors, the settings that are no pair, or else by what
 /// endpoints say that they have stopped.
 fn set_other(settings: Settings, words: &[&[u8]]) -> Result<Settings, DriverWrong>
@@ -254,6 +266,9 @@ fn set_other(settings: Settings, words: &[&[u8]]) -> Result<Settings, DriverWron
     }
     if says(words, 0, b"allow") {
         return allow_set(settings, words);
+    }
+    if says(words, 0, b"places") {
+        return places_set(settings, words);
     }
     stopped_set(settings, words)
 }

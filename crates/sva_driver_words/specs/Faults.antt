@@ -49,8 +49,8 @@ submit_text submit.DrainOrPlus = codes "drain or +"
 -- of a line of a branch, or of one that names a flag
 abbrev pub branch_text : BranchWanted → List ℕ
 branch_text branch.Flag = codes "the name of a flag"
-branch_text branch.Condition = codes "a flag, not, present, stopped, filed, queued, gone or failed"
-branch_text branch.BehindNot = codes "a flag, present, stopped, filed, queued, gone or failed"
+branch_text branch.Condition = codes "a flag, not, present, stopped, filed, queued, gone, overflow or failed"
+branch_text branch.BehindNot = codes "a flag, present, stopped, filed, queued, gone, overflow or failed"
 branch_text branch.Longer = codes "a condition of more words, or no word behind a flag"
 branch_text branch.Few = codes "no more than 16 blocks within one another"
 branch_text branch.OnEachWay = codes "an endpoint whose last wait above in this thread is submitted on each way to here"
@@ -80,6 +80,7 @@ wanted_text wanted.Refused = codes "drain"
 wanted_text wanted.Allowed = codes "no-group"
 wanted_text wanted.Enables = codes "kept or cleared"
 wanted_text wanted.Timeouts = codes "off, on or stop"
+wanted_text wanted.Places = codes "a number, 1 to 65535"
 wanted_text wanted.Unshared = codes "another endpoint: each stands below one unit"
 wanted_text wanted.Frame = codes "a frame of the config"
 wanted_text wanted.Freed = codes "a frame of the config, space, domain or pasid"
@@ -125,7 +126,7 @@ act_words =
 unfoldable pub setting_words : List (List ℕ)
 setting_words =
     codes "platform" ∷ codes "link" ∷ codes "waits" ∷ codes "drain" ∷ codes "caches" ∷ codes "stopped" ∷
-    codes "refuses" ∷ codes "allow" ∷ codes "enables" ∷ codes "timeouts" ∷ codes "unit" ∷ codes "order" ∷ []
+    codes "refuses" ∷ codes "allow" ∷ codes "enables" ∷ codes "timeouts" ∷ codes "unit" ∷ codes "order" ∷ codes "places" ∷ []
 
 -- the words that stand behind `platform`
 unfoldable pub platform_words : List (List ℕ)
@@ -159,7 +160,8 @@ awaited_words =
 -- the words that stand behind `if`, where a flag doesn't
 unfoldable pub condition_words : List (List ℕ)
 condition_words =
-    codes "not" ∷ codes "present" ∷ codes "stopped" ∷ codes "filed" ∷ codes "queued" ∷ codes "gone" ∷ codes "failed" ∷ []
+    codes "not" ∷ codes "present" ∷ codes "stopped" ∷ codes "filed" ∷ codes "queued" ∷ codes "gone" ∷ codes "failed" ∷
+    codes "overflow" ∷ []
 
 -- where what is looked at was wanted
 abbrev pub near_branch : (word : List ℕ) → BranchWanted → Option (List ℕ)

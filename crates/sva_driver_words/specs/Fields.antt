@@ -81,6 +81,10 @@ place_at at words = number_at 0 64 at wanted.Place words
 abbrev pub count_at : (at : ℕ) → List (List ℕ) → Result ℕ DriverWrong
 count_at at words = number_at 0 65536 at wanted.Part words
 
+-- how many places a page request queue has
+abbrev pub places_at : (at : ℕ) → List (List ℕ) → Result ℕ DriverWrong
+places_at at words = number_at 1 65536 at wanted.Places words
+
 -- how often lines are written out
 abbrev pub times_at : (at : ℕ) → List (List ℕ) → Result ℕ DriverWrong
 times_at at words = number_at 1 65537 at (wanted.Written written.Times) words

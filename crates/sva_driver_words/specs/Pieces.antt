@@ -1,5 +1,5 @@
 -- The pieces of a line that is written: its words, and numbers behind them.
-use Rattle.std.specs.Prelude.{ℕ, ◌==◌, if◌then◌else◌, Bool, true, false, List, [], ◌++◌, codes, decimal}
+use Rattle.std.specs.Prelude.{ℕ, ◌==◌, if◌then◌else◌, Bool, true, false, List, [], ◌++◌, Option, Some, None, codes, decimal}
 use Rattle.sva_open.specs.declared.naming.Kind.{Kind}
 use Rattle.sva_open.specs.declared.naming.Kind.TheVariants as kind
 
@@ -48,6 +48,11 @@ kind_text kind.Marker = codes "marker"
 kind_text kind.Status = codes "status"
 kind_text kind.Passed = codes "passed"
 kind_text kind.ResetDone = codes "reset-done"
+
+-- how many places page request queues have, where that is said, with what stands before it and behind it
+abbrev pub places_text : (before behind : List ℕ) → Option ℕ → List ℕ
+places_text before behind None = []
+places_text before behind (Some places) = before ++ codes "places" ++ and_number places ++ behind
 
 -- of one it is said otherwise than of more
 abbrev pub counted_text : (count : ℕ) → (one more : List ℕ) → List ℕ

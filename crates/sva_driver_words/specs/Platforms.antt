@@ -8,6 +8,7 @@ use Rattle.sva_open.specs.declared.settings.Stopped.{Stopped}
 use Rattle.sva_open.specs.declared.settings.Stopped.TheVariants.{Marker, Status, Known}
 use Rattle.sva_open.specs.declared.settings.Timeouts.{Timeouts}
 use Rattle.sva_open.specs.declared.settings.Timeouts.TheVariants as timeouts
+use Rattle.sva_driver_words.specs.Pieces.{places_text}
 use Rattle.sva_driver_words.specs.Units.{units_text}
 
 abbrev pub link_words : Link → List ℕ
@@ -44,6 +45,7 @@ unpaired_text settings =
     ++ timeouts_words settings.timeouts
     ++ one_of settings.refuses_drain (codes ", refuses drain") (codes "")
     ++ one_of settings.allows_no_group (codes ", allow no-group") (codes "")
+    ++ places_text (codes ", ") [] settings.places
 
 abbrev pub platform_text : Settings → (units : List ℕ) → List ℕ
 platform_text settings units =

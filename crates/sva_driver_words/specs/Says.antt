@@ -65,6 +65,7 @@ is_condition_word word =
     || bytes_eq word (codes "filed")
     || bytes_eq word (codes "queued")
     || bytes_eq word (codes "gone")
+    || bytes_eq word (codes "overflow")
     || bytes_eq word (codes "failed")
 
 abbrev pub is_flag : (word : List ℕ) → Bool
@@ -76,8 +77,8 @@ set_line flags words =
     then (no_more 2 words >>= λ done. Ok (SetsSaid (place_in flags (word_at 1 words)) (says 0 (codes "set") words)))
     else wrong_at 1 (wanted.Branch branch.Flag)
 
--- ---- What is looked at: `if NAME`, `if present E P`, `if stopped E P`, `if filed E [P]`, `if queued E [P]`, `if gone E`, `if failed`,
--- each behind `not` too
+-- ---- What is looked at: `if NAME`, `if present E P`, `if stopped E P`, `if filed E [P]`, `if queued E [P]`, `if gone E`,
+-- `if overflow E`, `if failed`, each behind `not` too
 
 -- a flag stands alone
 abbrev pub flag_at : (flags : List (List ℕ)) → (at : ℕ) → BranchWanted → List (List ℕ) → Result Condition DriverWrong
@@ -107,10 +108,11 @@ endpoint_looked config at words = do
   Ok endpoint
 
 -- of `failed` it is said what that looks at, if it may stand here
-abbrev pub gone_failed_or_flag_at : Config → (flags : List (List ℕ)) → (failed : Option Condition) → (at : ℕ) → BranchWanted → List (List ℕ)
+abbrev pub other_at : Config → (flags : List (List ℕ)) → (failed : Option Condition) → (at : ℕ) → BranchWanted → List (List ℕ)
     → Result Condition DriverWrong
-gone_failed_or_flag_at config flags failed at want words =
+other_at config flags failed at want words =
     if says at (codes "gone") words then (endpoint_looked config at words >>= λ endpoint. Ok (condition.Gone endpoint)) else
+    if says at (codes "overflow") words then (endpoint_looked config at words >>= λ endpoint. Ok (condition.Overflowed endpoint)) else
     if says at (codes "failed") words then failed_at failed at words else
     flag_at flags at want words
 
@@ -121,7 +123,7 @@ condition_at config flags failed at want words =
     if says at (codes "stopped") words then (pasid_looked config at words >>= λ its. Ok (condition.Stopped its.0 its.1)) else
     if says at (codes "filed") words then (some_looked config at words >>= λ its. Ok (condition.Filed its.0 its.1)) else
     if says at (codes "queued") words then (some_looked config at words >>= λ its. Ok (condition.Queued its.0 its.1)) else
-    gone_failed_or_flag_at config flags failed at want words
+    other_at config flags failed at want words
 
 abbrev pub looked : Config → (flags : List (List ℕ)) → (failed : Option Condition) → List (List ℕ) → Result SayingSaid DriverWrong
 looked config flags failed words =

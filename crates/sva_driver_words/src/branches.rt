@@ -32,6 +32,7 @@ fn is_condition_word(word: &[u8]) -> bool
         || is(word, b"filed")
         || is(word, b"queued")
         || is(word, b"gone")
+        || is(word, b"overflow")
         || is(word, b"failed")
 }
 
@@ -104,7 +105,7 @@ fn some_looked(
     Ok((endpoint, pasid))
 }
 
-/// Reads the end of `gone E`.
+/// Reads the end of `gone E` or `overflow E`.
 fn endpoint_looked(config: &Config, words: &[&[u8]], at: usize) -> Result<usize, DriverWrong>
     requires { at ≤ 2 }
     ensures { result ≡ says.endpoint_looked config.now at (map (λ word. word.now) words.now) }
@@ -114,8 +115,8 @@ fn endpoint_looked(config: &Config, words: &[&[u8]], at: usize) -> Result<usize,
     Ok(endpoint)
 }
 
-/// Reads `gone E`, `failed`, or else a flag that is looked at.
-fn gone_failed_or_flag_at(
+/// Reads `gone E`, `overflow E`, `failed`, or else a flag that is looked at.
+fn other_at(
     config: &Config,
     flags: &[Vec<u8>],
     failed: Option<Condition>,
@@ -124,12 +125,16 @@ fn gone_failed_or_flag_at(
     wanted: BranchWanted,
 ) -> Result<Condition, DriverWrong>
     requires { at ≤ 2 }
-    ensures { result ≡ says.gone_failed_or_flag_at config.now (map (λ flag. flag.items) flags.now) failed at wanted
+    ensures { result ≡ says.other_at config.now (map (λ flag. flag.items) flags.now) failed at wanted
         (map (λ word. word.now) words.now) }
 {
     if says(words, at, b"gone") {
         let endpoint = endpoint_looked(config, words, at)?;
         return Ok(Condition::Gone { endpoint });
+    }
+    if says(words, at, b"overflow") {
+        let endpoint = endpoint_looked(config, words, at)?;
+        return Ok(Condition::Overflowed { endpoint });
     }
     if says(words, at, b"failed") {
         return failed_at(failed, words, at);
@@ -166,7 +171,7 @@ fn condition_at(
         let (endpoint, pasid) = some_looked(config, words, at)?;
         return Ok(Condition::Queued { endpoint, pasid });
     }
-    gone_failed_or_flag_at(config, flags, failed, words, at, wanted)
+    other_at(config, flags, failed, words, at, wanted)
 }
 
 /// Reads what is looked at, behind `not` too.

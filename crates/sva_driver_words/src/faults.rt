@@ -101,6 +101,8 @@ pub enum DriverWanted {
     Enables,
     /// What becomes of an invalidation that isn't answered.
     Timeouts,
+    /// How many places a page request queue has, 1 to 65535.
+    Places,
     /// An endpoint that doesn't stand below a unit with another one yet.
     Unshared,
     /// A frame that the config has.
@@ -224,8 +226,10 @@ fn branch_words(wanted: &BranchWanted) -> &'static str
 {
     match wanted {
         BranchWanted::Flag => "the name of a flag",
-        BranchWanted::Condition => "a flag, not, present, stopped, filed, queued, gone or failed",
-        BranchWanted::BehindNot => "a flag, present, stopped, filed, queued, gone or failed",
+        BranchWanted::Condition =>
+            "a flag, not, present, stopped, filed, queued, gone, overflow or failed",
+        BranchWanted::BehindNot =>
+            "a flag, present, stopped, filed, queued, gone, overflow or failed",
         BranchWanted::Longer => "a condition of more words, or no word behind a flag",
         BranchWanted::Few => "no more than 16 blocks within one another",
         BranchWanted::OnEachWay =>
@@ -263,6 +267,7 @@ fn words_of(wanted: &DriverWanted) -> &'static str
         DriverWanted::Allowed => "no-group",
         DriverWanted::Enables => "kept or cleared",
         DriverWanted::Timeouts => "off, on or stop",
+        DriverWanted::Places => "a number, 1 to 65535",
         DriverWanted::Unshared => "another endpoint: each stands below one unit",
         DriverWanted::Frame => "a frame of the config",
         DriverWanted::Freed => "a frame of the config, space, domain or pasid",

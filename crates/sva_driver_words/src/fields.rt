@@ -170,6 +170,14 @@ pub fn count_at(words: &[&[u8]], at: usize) -> Result<u64, DriverWrong>
     number_at(words, at, 0, 65_536, DriverWanted::Part)
 }
 
+/// How many places a page request queue has, 1 to 65535.
+pub fn places_at(words: &[&[u8]], at: usize) -> Result<usize, DriverWrong>
+    ensures { result ≡ field.places_at at (map (λ word. word.now) words.now) }
+{
+    let places = number_at(words, at, 1, 65_536, DriverWanted::Places)?;
+    Ok(places as usize)
+}
+
 /// How often lines are written out, 1 to 65536.
 pub fn times_at(words: &[&[u8]], at: usize) -> Result<u64, DriverWrong>
     ensures { result ≡ field.times_at at (map (λ word. word.now) words.now) }

@@ -60,7 +60,7 @@ const ACT_WORDS: [&[u8]; 41] = [
 ];
 
 /// The words that begin a setting.
-const SETTING_WORDS: [&[u8]; 12] = [
+const SETTING_WORDS: [&[u8]; 13] = [
     b"platform",
     b"link",
     b"waits",
@@ -73,6 +73,7 @@ const SETTING_WORDS: [&[u8]; 12] = [
     b"timeouts",
     b"unit",
     b"order",
+    b"places",
 ];
 
 /// The words that stand behind `platform`.
@@ -103,8 +104,15 @@ const AWAITED_WORDS: [&[u8]; 8] = [
 ];
 
 /// The words that stand behind `if`, where a flag doesn't.
-const CONDITION_WORDS: [&[u8]; 7] = [
-    b"not", b"present", b"stopped", b"filed", b"queued", b"gone", b"failed",
+const CONDITION_WORDS: [&[u8]; 8] = [
+    b"not",
+    b"present",
+    b"stopped",
+    b"filed",
+    b"queued",
+    b"gone",
+    b"failed",
+    b"overflow",
 ];
 
 fn near_act(word: &[u8]) -> Option<&'static [u8]>

@@ -103,6 +103,23 @@ pub fn kind_text(kind: Kind) -> &'static str
     }
 }
 
+/// Appends how many places page request queues have, where that is said, with what stands before it and behind it.
+pub fn put_places(
+    out: &mut Vec<u8>,
+    places: Option<usize>,
+    before: &[u8],
+    behind: &[u8],
+) -> Result<(), AllocError>
+    ensures { OnOk result (out.new.items ≡ out.old.items ++ pieces.places_text before.now behind.now places) }
+{
+    let Some(places) = places else {
+        return Ok(());
+    };
+    out.extend_from_slice(before)?;
+    put_endpoint(out, b"places", places)?;
+    out.extend_from_slice(behind)
+}
+
 /// Appends a count, with the word for one or for more.
 pub fn put_counted(out: &mut Vec<u8>, count: u64, one: &str, more: &str) -> Result<(), AllocError>
     ensures { OnOk result (out.new.items ≡ out.old.items ++ pieces.counted_text count one.now more.now) }

@@ -3,6 +3,7 @@
 ghost use Rattle.std.specs.Prelude.{◌≡◌, ◌++◌, ◌||◌, OnOk};
 ghost use Rattle.sva_driver_words.specs.Platforms as platforms;
 
+use crate::pieces::put_places;
 use crate::units::put_units;
 use std::alloc::AllocError;
 use sva_open::{Link, Settings, Stopped, Timeouts};
@@ -61,8 +62,8 @@ fn put_pairs(out: &mut Vec<u8>, settings: &Settings) -> Result<(), AllocError>
     Ok(())
 }
 
-/// Appends what is cleared, what runs out of time, what is refused and what is allowed, where something is:
-/// `, enables cleared, timeouts on, refuses drain, allow no-group`.
+/// Appends what is cleared, what runs out of time, what is refused and what is allowed, and how many places page
+/// request queues have, where that is said: `, enables cleared, timeouts on, refuses drain, allow no-group, places 2`.
 fn put_unpaired(out: &mut Vec<u8>, settings: &Settings) -> Result<(), AllocError>
     ensures { OnOk result (out.new.items ≡ out.old.items ++ platforms.unpaired_text settings.now) }
 {
@@ -73,13 +74,14 @@ fn put_unpaired(out: &mut Vec<u8>, settings: &Settings) -> Result<(), AllocError
     out.extend_from_slice(refused.as_bytes())?;
     let allowed = one_of(settings.allows_no_group, ", allow no-group", "");
     out.extend_from_slice(allowed.as_bytes())?;
+    put_places(out, settings.places, b", ", b"")?;
     Ok(())
 }
 
 /// Appends a line with each setting of a pair, also where it is the one that holds where nothing is said:
 /// `with link free, waits fence, drain empty, caches off, stopped marker, order queue`; and behind them what is cleared,
-/// what runs out of time, what is refused and what is allowed, where something is, and which units are shared:
-/// `, enables cleared, timeouts on, refuses drain, allow no-group, unit 0 1`.
+/// what runs out of time, what is refused and what is allowed, how many places page request queues have, where that is
+/// said, and which units are shared: `, enables cleared, timeouts on, refuses drain, allow no-group, places 2, unit 0 1`.
 pub fn put_platform(
     out: &mut Vec<u8>,
     settings: &Settings,

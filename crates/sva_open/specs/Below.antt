@@ -7,6 +7,8 @@ use Rattle.sva_open.specs.declared.acts.LocalAct.TheVariants as local
 use Rattle.sva_open.specs.declared.descriptors.Arrived.{Arrived}
 use Rattle.sva_open.specs.declared.descriptors.Descriptor.{Descriptor}
 use Rattle.sva_open.specs.declared.descriptors.Descriptor.TheVariants as descriptor
+use Rattle.sva_open.specs.declared.descriptors.Received.{Received}
+use Rattle.sva_open.specs.declared.descriptors.Received.TheVariants.{Request as Asked, Drain}
 use Rattle.sva_open.specs.World.{Open, Part, without_covered}
 use Rattle.sva_open.specs.Host.{is_whole_under}
 use Rattle.sva_open.specs.Units.{without_entry}
@@ -25,7 +27,7 @@ is_beside units endpoint other = not (other == endpoint) && is_one (slice_get un
 -- ---- at which of them something is done
 
 -- What a unit does it does at the endpoint that it is about: whose translations strikes what it takes from its queue, or who sent the
--- oldest page request.
+-- oldest page request, in the page request queue or received.
 abbrev pub named_or : (endpoint : ℕ) → Option ℕ → ℕ
 named_or endpoint None = endpoint
 named_or endpoint (Some own) = own
@@ -42,22 +44,30 @@ abbrev pub of_arrived : (endpoint : ℕ) → Option Arrived → ℕ
 of_arrived endpoint None = endpoint
 of_arrived endpoint (Some one) = one.endpoint
 
+abbrev pub of_received : (endpoint : ℕ) → Option Received → ℕ
+of_received endpoint None = endpoint
+of_received endpoint (Some (Drain name)) = endpoint
+of_received endpoint (Some (Asked one)) = one.endpoint
+
 -- What of the unit is an act about?
 pub data Matter : Type 0 where
   OwnEndpoint : Matter
   Standing : (place : ℕ) → Matter
   Oldest : Matter
+  OldestReceived : Matter
 
 abbrev pub matter_of : LocalAct → Matter
 matter_of local.Pump = Standing 0
 matter_of (local.PumpAt place) = Standing place
 matter_of local.Serve = Oldest
+matter_of local.Write = OldestReceived
 matter_of its = OwnEndpoint
 
 abbrev pub about_part : (endpoint : ℕ) → Matter → Part → ℕ
 about_part endpoint OwnEndpoint part = endpoint
 about_part endpoint (Standing place) part = of_descriptor endpoint (slice_get part.queue place)
 about_part endpoint Oldest part = of_arrived endpoint (slice_get part.arrived 0)
+about_part endpoint OldestReceived part = of_received endpoint (slice_get part.received 0)
 
 -- where no units are shared an act is at its own endpoint
 abbrev pub about : (units : List ℕ) → (endpoint : ℕ) → LocalAct → Option Part → ℕ
@@ -76,6 +86,7 @@ seen by other =
       issued = by.issued;
       aborted = by.aborted;
       is_stalled = by.is_stalled;
+      has_overflowed = by.has_overflowed;
       received = by.received;
       arrived = by.arrived;
     }

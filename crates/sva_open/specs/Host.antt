@@ -104,9 +104,9 @@ abbrev pub skip : Part → Option ℕ → Option Part
 skip part None = None
 skip part (Some place) = Some (taken_out part place)
 
--- a unit that has stopped at a time-out goes on
+-- a unit that has stopped at a time-out goes on, and one whose page request queue has overflowed writes into it again
 abbrev pub resume : Part → Part
-resume part = record part { is_stalled = false }
+resume part = record part { is_stalled = false; has_overflowed = false }
 
 -- ---- what the host sees
 

@@ -14,7 +14,7 @@ use Rattle.sva_open.specs.declared.settings.Settings.{Settings}
 use Rattle.sva_open.specs.World.{Part, if_so, stopped_by, with_row}
 use Rattle.sva_open.specs.Order.{goes_up, may_deliver}
 use Rattle.sva_open.specs.Devices.{barred, complete, end_group, invalidated, reset_taken}
-use Rattle.sva_open.specs.Units.{answer, answered_stop, complete_itag}
+use Rattle.sva_open.specs.Units.{answer, answered_stop, complete_itag, queued}
 
 -- an endpoint is told of a PASID, by an owner of it
 abbrev pub told : Part → (pasid : ℕ) → State → (owner : ℕ) → Option Row → Part
@@ -34,7 +34,7 @@ arrived_as endpoint one request = record { endpoint = endpoint; request = reques
 abbrev pub arrive : Settings → Part → Sent → PageRequest → Part
 arrive settings part one request =
     if settings.drain_empties
-    then record part { arrived = part.arrived ++ arrived_as part.endpoint one request ∷ [] }
+    then queued settings part (arrived_as part.endpoint one request)
     else record part { received = part.received ++ Asked (arrived_as part.endpoint one request) ∷ [] }
 
 -- a unit that is closed drops all but a status and a reset-done

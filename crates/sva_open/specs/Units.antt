@@ -1,6 +1,6 @@
 -- What a unit does by itself, and what it makes of what comes to it.
 use Rattle.std.specs.Prelude.{ℕ, zero, suc, ◌-◌, ◌==◌, ◌&&◌, ◌||◌, not, if◌then◌else◌, Bool, true, false, List, [], ◌∷◌, ◌++◌, filter, find, drop, length, take}
-use Rattle.std.specs.Prelude.{remove, position, slice_get, slice_set, Option, Some, None, option_map, is_none, is_some}
+use Rattle.std.specs.Prelude.{nat_le, remove, position, slice_get, slice_set, Option, Some, None, option_map, is_none, is_some}
 use Rattle.std.specs.List.{flat_map, list_any}
 use Rattle.sva_step.specs.Limits
 use Rattle.sva_open.specs.declared.frames.Target.{Target}
@@ -15,6 +15,7 @@ use Rattle.sva_open.specs.declared.messages.Message.TheVariants as message
 use Rattle.sva_open.specs.declared.messages.Sent.{Sent}
 use Rattle.sva_open.specs.declared.descriptors.Descriptor.{Descriptor}
 use Rattle.sva_open.specs.declared.descriptors.Descriptor.TheVariants as descriptor
+use Rattle.sva_open.specs.declared.descriptors.Arrived.{Arrived}
 use Rattle.sva_open.specs.declared.descriptors.Issued.{Issued}
 use Rattle.sva_open.specs.declared.descriptors.Issued.TheVariants.{Sent as Issue, Waiting}
 use Rattle.sva_open.specs.declared.descriptors.Received.{Received}
@@ -91,12 +92,38 @@ from_request received (Some place) = drop place received
 abbrev pub without_drains : List Received → List Received
 without_drains received = from_request received (position is_received received)
 
+-- ---- the page request queue
+
+-- Is there no room in the queue? There is none where as many page requests stand in it as it has places, nor once it has overflowed,
+-- until that is cleared (Intel VT-d, "Page Request Status Register", PRO).
+abbrev pub is_full : (places : Option ℕ) → (has_overflowed : Bool) → (count : ℕ) → Bool
+is_full None has_overflowed count = false
+is_full (Some places) has_overflowed count = has_overflowed || nat_le places count
+
+-- the unit answers a page request by itself where that is the last of its group, by Success
+abbrev pub answered_if : (last : Bool) → Part → Arrived → Part
+answered_if false part one = part
+answered_if true part one = sent part 0 one.number (message.Response one.request.index false true)
+
+-- A page request comes into the queue. One that finds no room is dropped, and if it is the last of its group, the unit answers that
+-- (Intel VT-d, "Page Request Queue").
+abbrev pub overflowed : Part → Arrived → Part
+overflowed part one = answered_if one.request.last (record part { has_overflowed = true }) one
+
+abbrev pub queued : Settings → Part → Arrived → Part
+queued settings part one =
+    if is_full settings.places part.has_overflowed (length part.arrived)
+    then overflowed part one
+    else record part { arrived = part.arrived ++ one ∷ [] }
+
 -- the oldest page request that is received is written into the queue; a unit that is closed has none
-abbrev pub write : Part → Option Received → Option Part
-write part None = None
-write part (Some (Drain name)) = None
-write part (Some (Asked one)) =
-    Some (record part { received = without_drains (remove part.received 0); arrived = part.arrived ++ one ∷ [] })
+abbrev pub without_oldest : Part → Part
+without_oldest part = record part { received = without_drains (remove part.received 0) }
+
+abbrev pub write : Settings → Part → Option Received → Option Part
+write settings part None = None
+write settings part (Some (Drain name)) = None
+write settings part (Some (Asked one)) = Some (queued settings (without_oldest part) one)
 
 -- ---- what has left the queue
 

@@ -64,6 +64,8 @@ pub record Part : Type 0 where
   -- the names of the waits that were aborted; and has it stopped at a time-out?
   pub aborted : List ℕ
   pub is_stalled : Bool
+  -- was a page request dropped since the queue had no place for it, and wasn't that cleared since?
+  pub has_overflowed : Bool
   -- what the unit keeps
   pub kept_entries : List KeptEntry
   pub kept : List Translation
@@ -218,6 +220,7 @@ part_opened pasids endpoint conduct =
       issued = [];
       aborted = [];
       is_stalled = false;
+      has_overflowed = false;
       kept_entries = [];
       kept = [];
       received = [];

@@ -66,7 +66,7 @@ pub enum LocalAct {
     /// The host: takes the head out of the invalidation queue, whatever it is: the first that isn't out already.
     Skip,
     /// The host: clears the time-out of a unit that has stopped at one (Intel VT-d, "Fault Status Register", ITE), so that
-    /// it goes on.
+    /// it goes on, and the overflow of its page request queue (Intel VT-d, "Page Request Status Register", PRO).
     Resume,
     /// The host: no wait of a name stands at the unit. That one was submitted is for those to see to who await it.
     AwaitWait {
@@ -219,7 +219,8 @@ pub enum LocalAct {
         /// Whether the endpoint may leave unanswered what has come to it.
         silent: bool,
     },
-    /// The unit: writes the oldest page request that it has received into the page request queue.
+    /// The unit: writes the oldest page request that it has received into the page request queue, or drops it where
+    /// there is no room.
     Write,
     /// The unit: drops an entry that it keeps.
     ForgetEntry {

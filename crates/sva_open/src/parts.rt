@@ -35,6 +35,7 @@ pub struct Part {
     pub issued: Vec<Issued>,
     pub aborted: Vec<usize>,
     pub is_stalled: bool,
+    pub has_overflowed: bool,
     pub kept_entries: Vec<KeptEntry>,
     pub kept: Vec<Translation>,
     pub received: Vec<Received>,
@@ -68,6 +69,7 @@ impl Model for Part {
       issued = part.issued.items;
       aborted = part.aborted.items;
       is_stalled = part.is_stalled;
+      has_overflowed = part.has_overflowed;
       kept_entries = part.kept_entries.items;
       kept = part.kept.items;
       received = part.received.items;

@@ -68,4 +68,7 @@ pub struct Settings {
     pub clears_controls: bool,
     /// What becomes of an invalidation that its endpoint doesn't answer.
     pub timeouts: Timeouts,
+    /// How many page requests have room in the page request queue of a unit, 1 to 65535. Without one there is room for
+    /// any number. One that finds no room is dropped, and so is each that comes before the overflow is cleared.
+    pub places: Option<usize>,
 }

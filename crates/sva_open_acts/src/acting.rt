@@ -102,7 +102,7 @@ fn act_at_part(
         LocalAct::Pump => pump(part, settings),
         LocalAct::PumpAt { place } => pump_at(part, settings, *place),
         LocalAct::Expire { itag, silent } => expire(part, settings, *itag, *silent),
-        LocalAct::Write => write(part),
+        LocalAct::Write => write(part, settings),
         LocalAct::ForgetEntry { place } => Ok(forget_entry(part, *place)),
         LocalAct::Forget { place } => Ok(forget(part, *place)),
         LocalAct::Deliver { place } => deliver(part, settings, mappings, *place),

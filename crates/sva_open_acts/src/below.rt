@@ -7,7 +7,7 @@ ghost use Rattle.sva_open.specs.Host.{is_whole_under};
 
 use crate::pumping::{drop_covered, drop_entry};
 use std::alloc::AllocError;
-use sva_open::{Arrived, Descriptor, LocalAct, Part};
+use sva_open::{Arrived, Descriptor, LocalAct, Part, Received};
 
 fn is_one(unit: Option<usize>, other: Option<usize>) -> bool
     ensures { result ≡ below.is_one unit other }
@@ -59,6 +59,16 @@ fn of_arrived(endpoint: usize, oldest: Option<Arrived>) -> usize
     }
 }
 
+fn of_received(endpoint: usize, oldest: Option<Received>) -> usize
+    ensures { result ≡ below.of_received endpoint oldest }
+{
+    match oldest {
+        None => endpoint,
+        Some(Received::Drain { .. }) => endpoint,
+        Some(Received::Request(one)) => one.endpoint,
+    }
+}
+
 fn about_part(endpoint: usize, act: &LocalAct, part: &Part) -> usize
     ensures { result ≡ below.about_part endpoint (below.matter_of act.now) part.now }
 {
@@ -66,6 +76,7 @@ fn about_part(endpoint: usize, act: &LocalAct, part: &Part) -> usize
         LocalAct::Pump => of_descriptor(endpoint, part.queue.get(0).copied()),
         LocalAct::PumpAt { place } => of_descriptor(endpoint, part.queue.get(*place).copied()),
         LocalAct::Serve => of_arrived(endpoint, part.arrived.get(0).copied()),
+        LocalAct::Write => of_received(endpoint, part.received.get(0).copied()),
         _ => endpoint,
     }
 }
@@ -90,6 +101,7 @@ fn see(other: &mut Part, by: &Part) -> Result<(), AllocError>
     let alloc = *other.queue.allocator();
     other.is_open = by.is_open;
     other.is_stalled = by.is_stalled;
+    other.has_overflowed = by.has_overflowed;
     other.queue = Vec::from_slice(alloc, by.queue.as_slice())?;
     other.issued = Vec::from_slice(alloc, by.issued.as_slice())?;
     other.aborted = Vec::from_slice(alloc, by.aborted.as_slice())?;

@@ -10,6 +10,7 @@ use crate::answering::{answer, put_translation};
 use crate::barriers::bar;
 use crate::order::{goes_up, may_deliver};
 use crate::pumping::{complete_itag, drop_covered};
+use crate::receiving::queue;
 use std::alloc::AllocError;
 use sva_open::{
     Arrived, Mapping, Message, PageRequest, Part, Received, Request, Row, Scope, Sent, Settings,
@@ -174,10 +175,9 @@ fn arrive(
         number: one.number,
     };
     if settings.drain_empties {
-        part.arrived.push(arrived)?;
-    } else {
-        part.received.push(Received::Request(arrived))?;
+        return queue(part, settings, arrived);
     }
+    part.received.push(Received::Request(arrived))?;
     Ok(())
 }
 

@@ -29,11 +29,12 @@ pub(crate) fn expire(
     Ok(true)
 }
 
-/// A unit that has stopped at a time-out goes on.
+/// A unit that has stopped at a time-out goes on, and one whose page request queue has overflowed writes into it again.
 pub(crate) fn resume(part: &mut Part) -> bool
     ensures { IsStep (Some (host.resume part.old)) result part.old part.new }
 {
     part.is_stalled = false;
+    part.has_overflowed = false;
     true
 }
 

@@ -1,4 +1,4 @@
-//! What a unit has received: page requests, and the waits that drain them.
+//! What a unit has received: page requests, and the waits that drain them; and what it makes of one whose turn has come.
 
 ghost use Rattle.std.specs.Prelude.{◌≡◌, IfOk, drop, position, slice_get};
 ghost use Rattle.std.specs.List.{list_any};
@@ -6,7 +6,7 @@ ghost use Rattle.sva_search.specs.Rules.{IsStep};
 ghost use Rattle.sva_open.specs.Units as unit;
 
 use std::alloc::AllocError;
-use sva_open::{Part, Received, drop_at, drop_first};
+use sva_open::{Arrived, Message, Part, Received, Settings, drop_at, drop_first};
 
 /// A wait whose invalidations are done is done, or stands behind the page requests that it drains.
 pub(crate) fn wait(part: &mut Part, name: usize, drain: bool) -> Result<(), AllocError>
@@ -18,16 +18,53 @@ pub(crate) fn wait(part: &mut Part, name: usize, drain: bool) -> Result<(), Allo
     Ok(())
 }
 
-/// Writes the oldest page request into the page request queue.
-pub(crate) fn write(part: &mut Part) -> Result<bool, AllocError>
+/// Whether there is no room in the page request queue.
+fn is_full(places: Option<usize>, has_overflowed: bool, count: usize) -> bool
+    ensures { result ≡ unit.is_full places has_overflowed count }
+{
+    match places {
+        None => false,
+        Some(places) => has_overflowed || places <= count,
+    }
+}
+
+/// Drops a page request, and answers it where it is the last of its group.
+fn drop_request(part: &mut Part, one: Arrived) -> Result<(), AllocError>
+    ensures { IfOk result (λ _. part.new ≡ unit.overflowed part.old one) }
+{
+    part.has_overflowed = true;
+    if one.request.last {
+        let response = Message::Response {
+            index: one.request.index,
+            fails: false,
+            filed: true,
+        };
+        part.send(0, one.number, response)?;
+    }
+    Ok(())
+}
+
+/// A page request comes into the page request queue, or is dropped where there is no room.
+pub(crate) fn queue(part: &mut Part, settings: &Settings, one: Arrived) -> Result<(), AllocError>
+    ensures { IfOk result (λ _. part.new ≡ unit.queued settings.now part.old one) }
+{
+    if is_full(settings.places, part.has_overflowed, part.arrived.len()) {
+        return drop_request(part, one);
+    }
+    part.arrived.push(one)?;
+    Ok(())
+}
+
+/// Writes the oldest page request into the page request queue, or drops it where there is no room.
+pub(crate) fn write(part: &mut Part, settings: &Settings) -> Result<bool, AllocError>
     ensures { IfOk result (λ done.
-        IsStep (unit.write part.old (slice_get part.old.received 0)) done part.old part.new) }
+        IsStep (unit.write settings.now part.old (slice_get part.old.received 0)) done part.old part.new) }
 {
     match part.received.get(0).copied() {
         Some(Received::Request(one)) => {
             drop_at(&mut part.received, 0);
             drop_drains(&mut part.received);
-            part.arrived.push(one)?;
+            queue(part, settings, one)?;
             Ok(true)
         }
         Some(Received::Drain { .. }) => Ok(false),

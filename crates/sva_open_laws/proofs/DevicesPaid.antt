@@ -3,7 +3,7 @@ use Rattle.std.proofs.Common.{◌≡◌, ◌<◌, ◌≤◌, ℕ, ◌+◌, Bool,
 use Rattle.std.proofs.lemmas.Bool.{and_parts, not-true}
 use Rattle.std.proofs.lemmas.List.{take-append-drop}
 use Rattle.std.proofs.lemmas.List.Sums.{sum_by-append, sum_by_push}
-use Rattle.std.specs.Prelude.{◌==◌, ◌&&◌, not, if◌then◌else◌, drop, filter, find, is_none, position, remove, slice_get, slice_set, sum_by, take}
+use Rattle.std.specs.Prelude.{◌==◌, ◌&&◌, not, if◌then◌else◌, drop, filter, find, is_none, length, position, remove, slice_get, slice_set, sum_by, take}
 use Rattle.std.specs.List.{list_any}
 use Rattle.sva_step.specs.Limits
 use Rattle.sva_open.specs.declared.frames.Translation.{Translation}
@@ -17,6 +17,7 @@ use Rattle.sva_open.specs.declared.messages.Message.TheVariants as message
 use Rattle.sva_open.specs.declared.works.Group.{Group}
 use Rattle.sva_open.specs.declared.works.Work.{Work}
 use Rattle.sva_open.specs.declared.works.Work.TheVariants.{Use, Taken, Draining}
+use Rattle.sva_open.specs.declared.descriptors.Arrived.{Arrived}
 use Rattle.sva_open.specs.declared.descriptors.Descriptor.{Descriptor}
 use Rattle.sva_open.specs.declared.descriptors.Descriptor.TheVariants as descriptor
 use Rattle.sva_open.specs.declared.descriptors.Issued.{Issued}
@@ -377,14 +378,33 @@ without_drains received = from (position unit.is_received received)
     from None = omega arith
     from (Some place) = behind received_weight received place
 
-pub write : (part : Part) (o : Option Received) → slice_get part.received 0 ≡ o → IsBelow (part_weight part + 0) (unit.write part o)
-write part None h = tt
-write part (Some (Drain name)) h = tt
-write part (Some (Asked one)) h =
+answered_if : (last : Bool) (part : Part) (one : Arrived) → part_weight (unit.answered_if last part one) ≤ part_weight part + 1
+answered_if true part one =
+    let added = sends part 0 one.number (message.Response one.request.index false true) in
+    omega (arith, added)
+answered_if false part one = omega arith
+
+pub queued : (settings : Settings) (part : Part) (one : Arrived) → part_weight (unit.queued settings part one) ≤ part_weight part + 3
+queued settings part one = by_test (unit.is_full settings.places part.has_overflowed (length part.arrived))
+  where
+    added : sum_by arrived_weight (part.arrived ++ one ∷ []) ≡ sum_by arrived_weight part.arrived + 3
+    added = sum_by_push arrived_weight part.arrived one
+
+    by_test : (b : Bool) → part_weight (if b then unit.overflowed part one else record part { arrived = part.arrived ++ one ∷ [] }) ≤ part_weight part + 3
+    by_test true =
+        let most = answered_if one.request.last (record part { has_overflowed = true }) one in
+        omega (arith, most)
+    by_test false = omega (arith, added)
+
+pub write : (settings : Settings) (part : Part) (o : Option Received) → slice_get part.received 0 ≡ o
+    → IsBelow (part_weight part + 0) (unit.write settings part o)
+write settings part None h = tt
+write settings part (Some (Drain name)) h = tt
+write settings part (Some (Asked one)) h =
     let less = out received_weight part.received 0 (Asked one) h in
     let gone = without_drains (remove part.received 0) in
-    let added = sum_by_push arrived_weight part.arrived one in
-    omega (arith, less, gone, added)
+    let most = queued settings (unit.without_oldest part) one in
+    omega (arith, less, gone, most)
 
 pub forget_entry : (part : Part) (place : ℕ) (o : Option KeptEntry) → slice_get part.kept_entries place ≡ o
     → IsBelow (part_weight part + 0) (unit.forget_entry part place o)

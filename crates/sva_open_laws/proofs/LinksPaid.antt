@@ -27,10 +27,10 @@ use Rattle.sva_open.specs.Devices as device
 use Rattle.sva_open.specs.Links as link
 use Rattle.sva_open.specs.Order.{may_deliver}
 use Rattle.sva_open.specs.Units as unit
-use Rattle.sva_open_laws.specs.Weights.{arrived_weight, descriptor_weight, entry_weight, group_weight, issued_weight, message_weight, part_weight, received_weight}
+use Rattle.sva_open_laws.specs.Weights.{descriptor_weight, entry_weight, group_weight, issued_weight, message_weight, part_weight, received_weight}
 use Rattle.sva_open_laws.specs.Weights.{sent_weight, state_weight, translation_weight, work_weight}
 use Rattle.sva_open_laws.proofs.Weighed.{changed, left_in, less_out, out, put_most}
-use Rattle.sva_open_laws.proofs.DevicesPaid.{off_rows, waited}
+use Rattle.sva_open_laws.proofs.DevicesPaid.{off_rows, queued, waited}
 use Rattle.sva_open_laws.proofs.HostPaid.{IsBelow, same_state, sends, where_so, with_state}
 
 -- ---- to an endpoint
@@ -183,15 +183,14 @@ arrives : (settings : Settings) (part : Part) (one : Sent) (request : PageReques
     → part_weight (link.arrive settings part one request) < part_weight part + 5
 arrives settings part one request = by_test settings.drain_empties
   where
-    queued : sum_by arrived_weight (part.arrived ++ link.arrived_as part.endpoint one request ∷ []) ≡ sum_by arrived_weight part.arrived + 3
-    queued = sum_by_push arrived_weight part.arrived (link.arrived_as part.endpoint one request)
-
     taken : sum_by received_weight (part.received ++ Asked (link.arrived_as part.endpoint one request) ∷ []) ≡ sum_by received_weight part.received + 4
     taken = sum_by_push received_weight part.received (Asked (link.arrived_as part.endpoint one request))
 
-    by_test : (b : Bool) → part_weight (if b then record part { arrived = part.arrived ++ link.arrived_as part.endpoint one request ∷ [] }
+    by_test : (b : Bool) → part_weight (if b then unit.queued settings part (link.arrived_as part.endpoint one request)
         else record part { received = part.received ++ Asked (link.arrived_as part.endpoint one request) ∷ [] }) < part_weight part + 5
-    by_test true = omega (arith, queued)
+    by_test true =
+        let most = queued settings part (link.arrived_as part.endpoint one request) in
+        omega (arith, most)
     by_test false = omega (arith, taken)
 
 stop_answered : (part : Part) (pasid owner : ℕ) (o : Option Row) → slice_get part.rows pasid ≡ o

@@ -1,6 +1,6 @@
 -- What an act leaves of an endpoint: its number, and what it sees of its unit, where the act isn't of that.
 use Rattle.std.proofs.Common.{◌≡◌, ℕ, Bool, true, false, Option, Some, None, List, refl}
-use Rattle.std.specs.Prelude.{⊤, ◌&&◌, if◌then◌else◌, not, position, remove, slice_get}
+use Rattle.std.specs.Prelude.{⊤, ◌&&◌, if◌then◌else◌, length, not, position, remove, slice_get}
 use Rattle.sva_open.specs.declared.acts.Control.{Control}
 use Rattle.sva_open.specs.declared.acts.Control.TheVariants.{Ats, PageRequests, Mastering}
 use Rattle.sva_open.specs.declared.acts.LocalAct.{LocalAct}
@@ -176,10 +176,6 @@ serve : (part : Part) (o : Option Arrived) → Of IsNamed part (host.serve part 
 serve part None = tt
 serve part (Some one) = refl
 
-write : (part : Part) (o : Option Received) → Of IsNamed part (unit.write part o)
-write part None = tt
-write part (Some (Asked one)) = refl
-write part (Some (Drain name)) = tt
 
 issue : (part : Part) (scope : Scope) (o : Option ℕ) → Of IsNamed part (unit.issue part scope o)
 issue part scope None = tt
@@ -189,6 +185,20 @@ named_if : (part one other : Part) (b : Bool) → one.endpoint ≡ part.endpoint
     → (if b then one else other).endpoint ≡ part.endpoint
 named_if part one other true h k = h
 named_if part one other false h k = k
+
+answered_if : (last : Bool) (part : Part) (one : Arrived) → IsNamed part (unit.answered_if last part one)
+answered_if true part one = refl
+answered_if false part one = refl
+
+queued : (settings : Settings) (part : Part) (one : Arrived) → IsNamed part (unit.queued settings part one)
+queued settings part one =
+    named_if part _ _ (unit.is_full settings.places part.has_overflowed (length part.arrived))
+    (answered_if one.request.last (record part { has_overflowed = true }) one) refl
+
+write : (settings : Settings) (part : Part) (o : Option Received) → Of IsNamed part (unit.write settings part o)
+write settings part None = tt
+write settings part (Some (Asked one)) = queued settings (unit.without_oldest part) one
+write settings part (Some (Drain name)) = tt
 
 waited : (part : Part) (name : ℕ) (drain : Bool) → IsNamed part (unit.waited part name drain)
 waited part name drain = named_if part _ _ _ refl refl
@@ -274,7 +284,8 @@ received settings mappings part one (message.Request tag pasid page) =
 received settings mappings part one (message.Invalidated itag) =
     named_if part _ _ part.is_open (completed (unit.without_out part itag) (position (unit.has_itag itag) part.issued)) refl
 received settings mappings part one (message.PageRequest request) =
-    named_if part _ _ part.is_open (named_if part _ _ settings.drain_empties refl refl) refl
+    named_if part _ _ part.is_open
+    (named_if part _ _ settings.drain_empties (queued settings part (link.arrived_as part.endpoint one request)) refl) refl
 received settings mappings part one (message.Marker pasid) =
     named_if part _ _ part.is_open (answered part pasid one.owner (slice_get part.rows pasid)) refl
 received settings mappings part one (message.Status pasid) = answered part pasid one.owner (slice_get part.rows pasid)
@@ -359,7 +370,7 @@ left settings mappings part (local.PumpAt place) =
     (of_if part (settings.is_loose && unit.takes part) _ (pump_there settings part place (slice_get part.queue place)))
 left settings mappings part (local.Expire itag silent) =
     of_unit part (local.Expire itag silent) _ refl (so IsNamed part _ (unit.may_expire settings part itag silent) refl)
-left settings mappings part local.Write = of_unit part local.Write _ refl (write part (slice_get part.received 0))
+left settings mappings part local.Write = of_unit part local.Write _ refl (write settings part (slice_get part.received 0))
 left settings mappings part (local.ForgetEntry place) = still part (local.ForgetEntry place) _ (forget_entry part place (slice_get part.kept_entries place))
 left settings mappings part (local.Forget place) = still part (local.Forget place) _ (forget part place (slice_get part.kept place))
 left settings mappings part (local.Deliver place) =

@@ -1,6 +1,6 @@
 -- What an act at an endpoint leaves, and what of a page: the acts that read nothing of pages.
 use Rattle.std.proofs.Common.{◌≡◌, ℕ, Bool, true, false, Option, Some, None, List, [], ◌∷◌, ◌++◌, map, refl, ap, sym, ◌∙◌}
-use Rattle.std.specs.Prelude.{⊤, ◌&&◌, ◌||◌, if◌then◌else◌, not, remove, position, slice_get, filter}
+use Rattle.std.specs.Prelude.{⊤, ◌&&◌, ◌||◌, if◌then◌else◌, length, not, remove, position, slice_get, filter}
 use Rattle.std.specs.List.{list_any}
 use Rattle.std.proofs.lemmas.List.{map-append}
 use Rattle.sva_open.specs.declared.frames.Mapping.{Mapping}
@@ -192,10 +192,22 @@ respond_all page part pasid fails =
           ∙ ap (λ answers. map (its_sent page) part.flight ++ answers) (answer_to page fails whole)) i;
     }
 
-pub write : (page : ℕ) (part : Part) (o : Option Received) → IsLed page (unit.write part o) (unit.write (its_part page part) o)
-write page part None = tt
-write page part (Some (Drain name)) = tt
-write page part (Some (Asked one)) = refl
+answered_if : (page : ℕ) (last : Bool) (part : Part) (one : Arrived)
+    → its_part page (unit.answered_if last part one) ≡ unit.answered_if last (its_part page part) one
+answered_if page true part one = sends page part 0 one.number (message.Response one.request.index false true)
+answered_if page false part one = refl
+
+pub queued : (page : ℕ) (settings : Settings) (part : Part) (one : Arrived)
+    → its_part page (unit.queued settings part one) ≡ unit.queued settings (its_part page part) one
+queued page settings part one =
+    where_open page (unit.is_full settings.places part.has_overflowed (length part.arrived)) _ _ _ _ refl
+    (answered_if page one.request.last (record part { has_overflowed = true }) one)
+
+pub write : (page : ℕ) (settings : Settings) (part : Part) (o : Option Received)
+    → IsLed page (unit.write settings part o) (unit.write settings (its_part page part) o)
+write page settings part None = tt
+write page settings part (Some (Drain name)) = tt
+write page settings part (Some (Asked one)) = queued page settings (unit.without_oldest part) one
 
 -- ---- the endpoint's that are of no page
 

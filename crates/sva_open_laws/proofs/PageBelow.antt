@@ -11,7 +11,7 @@ use Rattle.sva_open.specs.World.{Open, Part, is_left}
 use Rattle.sva_open.specs.Acts.{at_endpoint, done_at, next_open}
 use Rattle.sva_open.specs.Below.{Matter, about, about_part, awaits_all, closes, head_of, holds_up, is_beside, is_of_unit, left, left_at, matter_of}
 use Rattle.sva_open.specs.Below.{seen, shared, struck, taken_by, told, unfiled, with_told}
-use Rattle.sva_open.specs.Below.Matter.{OwnEndpoint, Standing, Oldest}
+use Rattle.sva_open.specs.Below.Matter.{OwnEndpoint, Standing, Oldest, OldestReceived}
 use Rattle.sva_open_laws.specs.Pages.{is_at, its_part, its_world}
 use Rattle.sva_open_laws.proofs.Filters.{filter_both}
 
@@ -27,6 +27,7 @@ same_matter : (page endpoint : ℕ) (matter : Matter) (part : Part) → about_pa
 same_matter page endpoint OwnEndpoint part = refl
 same_matter page endpoint (Standing place) part = refl
 same_matter page endpoint Oldest part = refl
+same_matter page endpoint OldestReceived part = refl
 
 same_of : (page : ℕ) (units : List ℕ) (endpoint : ℕ) (own : LocalAct) (o : Option Part)
     → about units endpoint own o ≡ about units endpoint own (option_map (its_part page) o)

@@ -33,7 +33,7 @@ use Rattle.sva_open.specs.Links as link
 use Rattle.sva_open_laws.specs.Pages.{is_at, is_work_at, its_message, its_part, its_sent, leads_at, target_if}
 use Rattle.sva_open_laws.proofs.PageLists.{any, less}
 use Rattle.sva_open_laws.proofs.Filters.{filter_both, filter_inner, filter_left, filter_without, find_in, find_none}
-use Rattle.sva_open_laws.proofs.PageActs.{IsLed, also, sends, waits, where_open, where_so}
+use Rattle.sva_open_laws.proofs.PageActs.{IsLed, also, queued, sends, waits, where_open, where_so}
 use Rattle.sva_open_laws.proofs.PageBarriers.{barred}
 use Rattle.sva_open_laws.proofs.PagePlaces.{of_other, of_page, with_kept}
 
@@ -214,7 +214,8 @@ received page settings mappings part one (message.Request tag pasid other) h =
 received page settings mappings part one (message.Invalidated itag) h =
     where_open page part.is_open _ _ _ _ refl (completed page (unit.without_out part itag) (position (unit.has_itag itag) part.issued))
 received page settings mappings part one (message.PageRequest request) h =
-    where_open page part.is_open _ _ _ _ refl (where_open page settings.drain_empties _ _ _ _ refl refl)
+    where_open page part.is_open _ _ _ _ refl
+    (where_open page settings.drain_empties _ _ _ _ refl (queued page settings part (link.arrived_as part.endpoint one request)))
 received page settings mappings part one (message.Marker pasid) h =
     where_open page part.is_open _ _ _ _ refl (answered_stop page part pasid one.owner (slice_get part.rows pasid))
 received page settings mappings part one (message.Status pasid) h = answered_stop page part pasid one.owner (slice_get part.rows pasid)

@@ -123,7 +123,7 @@ act_at page settings mappings part local.Leave h = its.leave page part
 act_at page settings mappings part local.Pump h = place.pump page settings part
 act_at page settings mappings part (local.PumpAt at) h = place.pump_at page settings part at
 act_at page settings mappings part (local.Expire itag silent) h = times.expire page settings part itag silent
-act_at page settings mappings part local.Write h = its.write page part (slice_get part.received 0)
+act_at page settings mappings part local.Write h = its.write page settings part (slice_get part.received 0)
 act_at page settings mappings part (local.ForgetEntry at) h = place.forget_entry page part at (slice_get part.kept_entries at)
 act_at page settings mappings part (local.Forget at) h = place.forget page settings mappings part at (slice_get part.kept at) refl
 act_at page settings mappings part (local.Deliver at) h = link.deliver page settings mappings part at h
@@ -189,6 +189,10 @@ always_there page own h (Some part) = h part
 untagged_serve : (o : Option Part) → IsTaggedIn o local.Serve
 untagged_serve None = tt
 untagged_serve (Some part) = tt
+
+untagged_write : (o : Option Part) → IsTaggedIn o local.Write
+untagged_write None = tt
+untagged_write (Some part) = tt
 
 untagged_pump : (o : Option Part) → IsTaggedIn o local.Pump
 untagged_pump None = tt
@@ -328,7 +332,7 @@ acts_led page now endpoint local.Pump h = unit_led page now endpoint _ (always_t
 acts_led page now endpoint (local.PumpAt place) h =
     unit_led page now endpoint _ (always_there page _ (λ part. refl)) (λ o. untagged_pump_at place o)
 acts_led page now endpoint (local.Expire itag silent) h = own_led page now endpoint _ refl (always_there page _ (λ part. refl)) h
-acts_led page now endpoint local.Write h = own_led page now endpoint _ refl (always_there page _ (λ part. refl)) h
+acts_led page now endpoint local.Write h = unit_led page now endpoint _ (always_there page _ (λ part. refl)) (λ o. untagged_write o)
 acts_led page now endpoint (local.ForgetEntry place) h = own_led page now endpoint _ refl (always_there page _ (λ part. refl)) h
 acts_led page now endpoint (local.Forget place) h =
     quiet_led page now endpoint _ (record { matter = refl; apart = refl; waits = refl }) h (forget_quiet page (slice_get now.parts endpoint) place)

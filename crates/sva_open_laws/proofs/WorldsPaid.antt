@@ -76,7 +76,7 @@ act_at settings mappings part local.Leave = devices.leave part
 act_at settings mappings part local.Pump = devices.pump settings part
 act_at settings mappings part (local.PumpAt place) = devices.pump_at settings part place
 act_at settings mappings part (local.Expire itag silent) = devices.expire settings part itag silent
-act_at settings mappings part local.Write = devices.write part (slice_get part.received 0) refl
+act_at settings mappings part local.Write = devices.write settings part (slice_get part.received 0) refl
 act_at settings mappings part (local.ForgetEntry place) = devices.forget_entry part place (slice_get part.kept_entries place) refl
 act_at settings mappings part (local.Forget place) = devices.forget part place (slice_get part.kept place) refl
 act_at settings mappings part (local.Deliver place) = links.deliver settings mappings part place (slice_get part.flight place) refl
@@ -179,6 +179,7 @@ own_or_free : (own : LocalAct) → (matter_of own ≡ OwnEndpoint) ⊎ (local_pr
 own_or_free local.Pump = inr refl
 own_or_free (local.PumpAt place) = inr refl
 own_or_free local.Serve = inr refl
+own_or_free local.Write = inr refl
 own_or_free own = inl refl
 
 acts_own : (now : Open) (at price : ℕ) (own : LocalAct) → matter_of own ≡ OwnEndpoint → (is_of_unit own ≡ true → AreNumbered now.parts)

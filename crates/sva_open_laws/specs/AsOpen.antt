@@ -302,7 +302,8 @@ filed_of part group =
 
 -- ---- the whole
 
--- nothing is turned off at an endpoint, and none is removed; nor does an invalidation run out of time; each has a unit of its own
+-- nothing is turned off at an endpoint, and none is removed; nor does an invalidation run out of time, or a page request queue overflow;
+-- each has a unit of its own
 abbrev pub part_of : World → (endpoint : ℕ) → Endpoint → Part
 part_of world endpoint part =
     record {
@@ -326,6 +327,7 @@ part_of world endpoint part =
       issued = gather part.orders (λ k. where_so (is_busy (part.order_state k)) (issued.Sent endpoint (part.itag k)));
       aborted = [];
       is_stalled = false;
+      has_overflowed = false;
       kept_entries = [];
       kept = [];
       received = [];
@@ -348,6 +350,7 @@ open_of world =
         has_workers = false;
         clears_controls = false;
         timeouts = timeouts.Off;
+        places = None;
       };
       mappings = gather world.mappings.made (λ m. where_so (is_present (world.mappings.state m)) (mapping_of world.mappings m));
       frames = tabulate world.config.frames (tenure_of world);

@@ -42,6 +42,7 @@ pub record Shown : Type 0 where
   pub issued : List Issued
   pub aborted : List ℕ
   pub is_stalled : Bool
+  pub has_overflowed : Bool
   pub time : ℕ
 
 abbrev pub shown_at : Part → Shown
@@ -59,6 +60,7 @@ shown_at part =
       issued = part.issued;
       aborted = part.aborted;
       is_stalled = part.is_stalled;
+      has_overflowed = part.has_overflowed;
       time = part.time;
     }
 

@@ -88,7 +88,7 @@ sva_driver_words: ACT_WORDS act_words = act
 sva_driver_words: sets_flag = act=NAME - 'await'
 sva_driver_words: set_line = act=NAME - 'await' but one
 sva_driver_words: is_condition_word CONDITION_WORDS condition_words = act.if + condition
-sva_driver_words: condition_at+gone_failed_or_flag_at = condition
+sva_driver_words: condition_at+other_at = condition
 sva_driver_words: looked flag_place = act.if
 sva_driver_words: names_flag = 'if'
 sva_driver_words: SETTING_WORDS setting_words = setting
@@ -107,7 +107,8 @@ sva_driver_words: fault_line = 'new'
 sva_driver_words: is_lock_word = act=L
 sva_driver_words: lock_said = act=L but one
 sva_driver_words: read_plain+read_other+read_own+read_saying plain_by+other_by+own_by+saying_by = act - act=E - act=E_P - act=E_P_PAGE - act=E_on|off - act=L - act=NAME + 'await'
-sva_driver_words: link_words+put_pairs+put_unpaired+put_platform+pairs_text+unpaired_text+platform_text+stopped_words+timeouts_words = 'with' + setting - 'platform' - 'unit' + setting.* - 'vt-d' - 'kept'
+sva_driver_words: link_words+put_pairs+put_unpaired+put_platform+pairs_text+unpaired_text+platform_text+stopped_words+timeouts_words = 'with' + setting - 'platform' - 'places' - 'unit' + setting.* - 'vt-d' - 'kept'
+sva_driver_words: put_places places_text = 'places'
 sva_driver_words: put_unit unit_text = 'unit'
 sva_driver_texts: counted = part/d@budget
 sva_driver_texts: is_flag = part/d - part/d@budget - 'pages'
@@ -144,8 +145,8 @@ sva_driver_texts: refuses_set = setting.refuses
 sva_driver_texts: allow_set = setting.allow
 sva_driver_texts: set+set_other = setting - 'unit' but one
 sva_driver_texts: with_code = place.CODE
-sva_driver_reports/fronts: link_text+stopped_text+timeouts_text+put_pairs+put_unpaired = setting - 'platform' - 'unit' + setting.% - 'vt-d'
-sva_driver_reports/Witness: link_text+stopped_text+timeouts_text+pairs_text+unpaired_text = setting - 'platform' - 'unit' + setting.% - 'vt-d'
+sva_driver_reports/fronts: link_text+stopped_text+timeouts_text+put_pairs+put_unpaired = setting - 'platform' - 'places' - 'unit' + setting.% - 'vt-d'
+sva_driver_reports/Witness: link_text+stopped_text+timeouts_text+pairs_text+unpaired_text = setting - 'platform' - 'places' - 'unit' + setting.% - 'vt-d'
 sva_driver_reports: put_workers_line workers_line = 'workers' + 'success' + 'failure'
 sva_driver_reports: put_conduct_line conduct_line = 'device' + 'lies' + 'awaits'
 sva_driver_reports/events: * = act@endpoint + act@unit + act@link + 'serve' + 'respond' + 'new'

@@ -4,7 +4,7 @@
 import timeouts
 
 # by scripts/words --write: condition
-CONDITIONS = """present stopped filed queued gone failed""".split()
+CONDITIONS = """present stopped filed queued gone overflow failed""".split()
 
 
 def is_of_block(words):
@@ -65,6 +65,8 @@ def is_met(world, words):
         return timeouts.has_failed(port, pasid)
     if what == 'gone':
         return port.gone
+    if what == 'overflow':
+        return port.overflowed
     if what == 'present':
         return pasid in port.entry
     if what == 'stopped':

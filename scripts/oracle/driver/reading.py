@@ -2,6 +2,7 @@
 import barriers
 import branches
 import controls
+import overflows
 import timeouts
 import world as w
 import written
@@ -100,6 +101,8 @@ class Driver:
             setattr(self.settings, first, words[1])
         elif first in Settings.flags:
             self.settings.said |= {first}
+        elif first == 'places':
+            self.settings.places = int(words[1])
         elif first == 'unit':
             self.share([int(x) for x in words[1:]])
         elif first == 'race':
@@ -371,7 +374,7 @@ def do_at(driver, world, port, words, line):
     elif verb == 'serve':
         w.serve(world, port)
     elif verb == 'write':
-        w.write(world, port)
+        w.write(world, port, driver.settings)
     elif verb == 'discard':
         w.discard(port, p)
     elif verb == 'respond':
@@ -407,3 +410,4 @@ def do_at(driver, world, port, words, line):
         timeouts.expire(world, port, p, driver.settings)
     elif verb == 'resume':
         timeouts.resume(port)
+        overflows.clear(port)

@@ -17,7 +17,7 @@ def below_safe(driver, shown):
     found += [f'with link {s.link}, waits {s.waits}, drain {s.drain}, caches {s.caches}, stopped {s.stopped}'
               + ', enables cleared' * (s.enables == 'cleared')
               + f', timeouts {s.timeouts}' * (s.timeouts != 'off') + ', refuses drain' * ('refuses' in s.said)
-              + ', allow no-group' * ('allow' in s.said) + ''.join(f', unit {text}' for text in shared(driver))]
+              + ', allow no-group' * ('allow' in s.said) + (f', places {s.places}' if s.places else '') + ''.join(f', unit {text}' for text in shared(driver))]
     others = not_asked(s)
     found += ['not asked: ' + ', '.join(others)] if others else []
     found += [line for e in sorted(driver.devices) for line in ask_not_made(driver, e)]
@@ -71,8 +71,10 @@ def nevers(driver, shown):
 
 
 def untaken(driver, shown):
-    """Where lines look, those behind `race` that no list takes."""
-    left = [str(x.number) for x in driver.lines if x not in driver.by_thread[0] and ('line', x.serial) not in shown]
+    """Where lines look, the numbers of those behind `race` that no list takes, and which none before it has."""
+    were = driver.begun | {x.number for x in driver.lines if ('line', x.serial) in shown}
+    left = [x.number for x in driver.lines if x not in driver.by_thread[0] and x.number not in were]
+    left = [str(number) for number in dict.fromkeys(left)]
     if not driver.branches or not left:
         return []
     if len(left) == 1:

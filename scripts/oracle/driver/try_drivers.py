@@ -32,7 +32,7 @@ from world import Settings
 MOST = 300          # moments that the program looks at; of one text in twelve 2400
 MOST_LISTS = 3000   # lists of events that are gone one by one
 NAMES = {'wrong': 'an act not permitted', 'leak': 'unsafe before race', 'run not': 'run not permitted'}
-HEADS = {'config', 'workers', 'device', 'unit', *Settings.pairs, *Settings.flags}   # what no act begins
+HEADS = {'config', 'workers', 'device', 'unit', 'places', *Settings.pairs, *Settings.flags}   # what no act begins
 STATUSES = {'safe': 0, 'apart': 0, 'unsafe': 4, 'leak': 4, 'stuck': 4, 'cut': 5, 'wrong': 1, 'right': 0}
 
 

@@ -3,7 +3,8 @@
 
 class Unit:
     """What endpoints below one unit have together. Whatever it holds is replaced when it changes."""
-    parts = ('closed', 'queue', 'busy', 'sent', 'plain', 'covered', 'received', 'prq', 'stalled', 'aborted')
+    parts = ('closed', 'queue', 'busy', 'sent', 'plain', 'covered', 'received', 'prq', 'stalled', 'aborted',
+             'overflowed')
 
     def __init__(self):
         self.closed, self.queue, self.busy = False, (), frozenset()
@@ -12,6 +13,7 @@ class Unit:
         self.received = ()           # (PASID, index, group, last, endpoint), or (wait,) that drains what stands before
         self.prq = ()                           # (PASID, index, group, last, endpoint)
         self.stalled, self.aborted = False, frozenset()   # aborted: the waits that were, at a time-out
+        self.overflowed = False                 # was a page request dropped since `resume`, for want of a place?
 
     def copy(self):
         new = Unit.__new__(Unit)

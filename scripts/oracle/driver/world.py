@@ -6,6 +6,7 @@ its unit and its part of the link. `need` says what an act lacks (None where it 
 A translation is (frame, w, freed, frozen): the last two say what became of the frame since the page led to it.
 """
 import barriers
+import overflows
 from units import Unit, below, of_unit, own, share, struck
 
 UP = {'request', 'invalidated', 'page-request', 'marker', 'status', 'reset-done', 'passed'}
@@ -23,6 +24,7 @@ class Settings:
 
     def __init__(self):
         self.said = frozenset()                 # which of the flags are said, by their first words
+        self.places = None                      # how many places a page request queue has; None, where that isn't said
         for name, words in self.pairs.items():
             setattr(self, name, words[0])
 
@@ -198,9 +200,10 @@ def wait_is_over(world, port, wait, drain):
         world.undone -= {wait}
 
 
-def write(world, port):
+def write(world, port, settings):
     """The oldest page request that was received; the waits right behind it drained nothing else."""
-    port.prq, port.received = port.prq + port.received[:1], port.received[1:]
+    one, port.received = port.received[0], port.received[1:]
+    overflows.queue(world, port, one, settings)
     while port.received and len(port.received[0]) == 1:
         world.undone -= {port.received[0][0]}
         port.received = port.received[1:]
@@ -251,10 +254,11 @@ def response_arrives(world, port, m, settings):
 def page_request_arrives(world, port, m, settings):
     if port.closed:
         return
+    one = m[1:5] + (port.number,)
     if settings.drain == 'arrived':
-        port.received += m[1:5] + (port.number,),
+        port.received += one,
     else:
-        port.prq += m[1:5] + (port.number,),
+        overflows.queue(world, port, one, settings)
 
 
 def answer_arrives(world, port, m, settings):

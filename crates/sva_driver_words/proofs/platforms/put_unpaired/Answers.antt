@@ -4,6 +4,7 @@ use Rattle.sva_driver_words.proofs.platforms.put_unpaired.Goals as goal
 pub returns : goal.returns
 returns c =
     simp (
+      c.in_ok-put_places.ensures,
       c.in_ok-extend_from_slice-4.ensures.items,
       c.as_bytes-4.ensures.value,
       c.one_of-allowed.ensures,

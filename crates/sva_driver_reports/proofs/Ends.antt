@@ -77,7 +77,8 @@ told_stuck text wanted out fit told = end_by text wanted.most wanted.lines_alone
 abbrev EndsIn : Read → (out : List ℕ) → Type 0
 EndsIn read out = (behind : Text) × IsText read behind × HasEnd behind out
 
-module _ (text : List ℕ) (from : DriverRead) (read : Read) (wanted : Wanted) (wrongs out : List ℕ) (is : driver_of text ≡ Ok from) (reads : IsRead from read) where
+module _ (text : List ℕ) (from : DriverRead) (read : Read) (wanted : Wanted) (wrongs out : List ℕ)
+    (is : driver_of text ≡ Ok from) (reads : IsRead from read) where
   ended_at : (led : Result Spot Halt) (to : Begun) → StandsAt read led to wrongs → IsTold to wanted wrongs (Some ruling.Stuck) out → EndsIn read out
   ended_at (Ok spot) (begun.Stands behind) stands told =
       (behind, stands.0, told_stuck behind wanted out (fits text from read behind is reads stands.0) told)
@@ -96,8 +97,8 @@ module _ (text : List ℕ) (from : DriverRead) (read : Read) (wanted : Wanted) (
       let faulted = subst (λ (it : Begun). IsTold it wanted wrongs (Some ruling.Stuck) out) stands.0 told in
       absurd (cc faulted.0)
 
-ended : (text : List ℕ) (led : Result DriverRead (List ℕ)) (wanted : Wanted) (to : Begun) (wrongs out : List ℕ) → driver_of text ≡ led → ReadsDriver led to wrongs
-    → IsTold to wanted wrongs (Some ruling.Stuck) out → HasRead text (λ (read : Read). EndsIn read out)
+ended : (text : List ℕ) (led : Result DriverRead (List ℕ)) (wanted : Wanted) (to : Begun) (wrongs out : List ℕ)
+    → driver_of text ≡ led → ReadsDriver led to wrongs → IsTold to wanted wrongs (Some ruling.Stuck) out → HasRead text (λ (read : Read). EndsIn read out)
 ended text (Err said) wanted to wrongs out is reads told =
     let faulted = subst (λ (it : Begun). IsTold it wanted wrongs (Some ruling.Stuck) out) reads.0 told in
     absurd (cc faulted.0)

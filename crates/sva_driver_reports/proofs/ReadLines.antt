@@ -29,7 +29,8 @@ use Rattle.sva_driver_texts.specs.Blocks.{BlockSaid, branched}
 use Rattle.sva_driver_texts.specs.Readings.{Reading, act_line, begins_branch, behind, behind_lines, behind_words, branch_line, device_line, headed}
 use Rattle.sva_driver_texts.specs.Readings.{heading_line, is_misspelt, is_of_act}
 use Rattle.sva_driver_texts.specs.Readings.{line_by, nothing, other_before, other_behind, other_line, race_line, role_of, set_line}
-use Rattle.sva_driver_texts.specs.Readings.{is_of_endpoint, is_of_unit, is_told, is_word, thread_of, told_by, told_by_parts, unit_line, with_wrong_block, workers_line}
+use Rattle.sva_driver_texts.specs.Readings.{is_of_endpoint, is_of_unit, is_told, is_word, thread_of, told_by}
+use Rattle.sva_driver_texts.specs.Readings.{told_by_parts, unit_line, with_wrong_block, workers_line}
 use Rattle.sva_driver_texts.specs.Units.{units_of, units_or_own}
 use Rattle.sva_driver_texts.specs.Devices.{DeviceSaid, setting_line}
 use Rattle.sva_driver_texts.specs.WrittenOut.{Worded, written_out}

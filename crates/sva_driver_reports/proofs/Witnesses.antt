@@ -378,8 +378,8 @@ module _ (text : List ℕ) (from : DriverRead) (read : Read) (wanted : Wanted) (
       let faulted = subst (λ (it : Begun). IsTold it wanted wrongs (Some ruling.Unsafe) out) stands.0 told in
       absurd (cc faulted.0)
 
-shown : (text : List ℕ) (led : Result DriverRead (List ℕ)) (wanted : Wanted) (to : Begun) (wrongs out : List ℕ) → driver_of text ≡ led → ReadsDriver led to wrongs
-    → wanted.all ≡ false → IsTold to wanted wrongs (Some ruling.Unsafe) out
+shown : (text : List ℕ) (led : Result DriverRead (List ℕ)) (wanted : Wanted) (to : Begun) (wrongs out : List ℕ)
+    → driver_of text ≡ led → ReadsDriver led to wrongs → wanted.all ≡ false → IsTold to wanted wrongs (Some ruling.Unsafe) out
     → HasRead text (λ (read : Read). HasLeak read.opening read.before out ⊎ ((behind : Text) × IsText read behind × HasWitness behind out))
 shown text (Err said) wanted to wrongs out is reads one told =
     let faulted = subst (λ (it : Begun). IsTold it wanted wrongs (Some ruling.Unsafe) out) reads.0 told in

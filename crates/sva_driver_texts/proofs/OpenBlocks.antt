@@ -10,7 +10,8 @@ use Rattle.sva_driver_words.specs.declared.faults.BranchWanted.TheVariants as br
 use Rattle.sva_driver_words.specs.declared.faults.DriverWanted.TheVariants as wanted
 use Rattle.sva_driver_words.specs.declared.faults.DriverWrong.{DriverWrong}
 use Rattle.sva_driver_words.specs.declared.kept.Under.{Under}
-use Rattle.sva_driver_texts.specs.Blocks.{BlockSaid, block_seen, branched, else_at, end_at, has_line_of, last_of, open_text, open_texts, turned, turned_at, under_of, under_one}
+use Rattle.sva_driver_texts.specs.Blocks.{BlockSaid, block_seen, branched, else_at, end_at, has_line_of, last_of}
+use Rattle.sva_driver_texts.specs.Blocks.{open_text, open_texts, turned, turned_at, under_of, under_one}
 use Rattle.sva_driver_texts.specs.declared.blocks.Block.{Block}
 use Rattle.sva_driver_texts.proofs.Anys.{put_seen}
 

@@ -21,7 +21,8 @@ use Rattle.sva_driver_words.specs.Awaits.{LineSaid, await_line, thread_number}
 use Rattle.sva_driver_words.specs.Controls.{turn_line, turns}
 use Rattle.sva_driver_words.specs.Descriptors.{submit_line}
 use Rattle.sva_driver_words.specs.Sayings.{SayingSaid, deliver_line, discard_line, end_line, endpoint_line, entry_line, fault_line, finish_line, forget_line}
-use Rattle.sva_driver_words.specs.Sayings.{free_line, freeze_line, mark_line, page_line, pasid_line, pass_line, pump_line, replace_line, respond_line, table_line}
+use Rattle.sva_driver_words.specs.Sayings.{free_line, freeze_line, mark_line, page_line, pasid_line, pass_line}
+use Rattle.sva_driver_words.specs.Sayings.{pump_line, replace_line, respond_line, table_line}
 use Rattle.sva_driver_words.specs.Sayings.{takes_endpoint, takes_page, takes_pasid}
 use Rattle.sva_driver_words.specs.Sayings.SayingSaid.{LocksSaid, LooksSaid, SetsSaid, UnlocksSaid}
 use Rattle.sva_driver_words.specs.Timeouts.{expire_line, failed_at, failed_behind}

@@ -5,13 +5,12 @@ ghost use Rattle.sva_driver_words.specs.Descriptors as descriptors;
 ghost use Rattle.sva_driver_words.specs.Faults.{placed};
 ghost use Rattle.sva_driver_words.specs.Sayings.{saying_seen};
 ghost use Rattle.sva_driver_words.specs.Taking.{Adds, Gives};
-ghost use Rattle.sva_open.specs.Below.{named_or};
 
 use crate::faults::{DriverStop, DriverWanted, DriverWrong, SubmitWanted, wrong_at};
 use crate::fields::{endpoint_at, has_word, number_at, order_at, page_by, pasid_at, says};
 use crate::units::is_below;
 use std::alloc::{AllocError, Global};
-use sva_open::{Act, Descriptor, LocalAct, Saying, Scope};
+use sva_open::{Act, Descriptor, LocalAct, Saying, Scope, named_or};
 use sva_race_texts::{count_of, piece_len, words_at, words_from};
 use sva_step::Config;
 
@@ -101,16 +100,6 @@ fn of_at(
         return other_at(words, at, units, endpoint);
     }
     none_at(words, at)
-}
-
-/// The endpoint that is named, or the line's.
-fn named_or(endpoint: usize, other: Option<usize>) -> usize
-    ensures { result ≡ named_or endpoint other }
-{
-    match other {
-        None => endpoint,
-        Some(own) => own,
-    }
 }
 
 /// Reads `range P PAGE K [of F]`.

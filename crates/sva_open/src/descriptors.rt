@@ -1,5 +1,8 @@
 //! What a unit has in its queues.
 
+ghost use Rattle.std.specs.Prelude.{◌≡◌};
+ghost use Rattle.sva_open.specs.Below.{named_or};
+
 use crate::messages::PageRequest;
 use crate::scopes::Scope;
 
@@ -42,6 +45,16 @@ pub enum Descriptor {
         /// Its ITag.
         itag: usize,
     },
+}
+
+/// The endpoint that a descriptor names, or this one, where it names none.
+pub fn named_or(endpoint: usize, own: Option<usize>) -> usize
+    ensures { result ≡ named_or endpoint own }
+{
+    match own {
+        None => endpoint,
+        Some(own) => own,
+    }
 }
 
 impl Descriptor {

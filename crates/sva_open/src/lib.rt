@@ -21,7 +21,7 @@ mod settings;
 mod works;
 
 pub use acts::{Act, Control, LocalAct};
-pub use descriptors::{Arrived, Descriptor, Filed, Issued, Received};
+pub use descriptors::{Arrived, Descriptor, Filed, Issued, Received, named_or};
 pub use drivers::{Budget, Condition, Device, Driver, Fault, Line, Page, Saying, Workers};
 pub use finding::{found, is_draining, is_of_kind, is_taken, is_use, kind_of};
 pub use frames::{Mapping, Target, Tenure, Translation};

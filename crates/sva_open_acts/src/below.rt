@@ -7,7 +7,7 @@ ghost use Rattle.sva_open.specs.Host.{is_whole_under};
 
 use crate::pumping::{drop_covered, drop_entry};
 use std::alloc::AllocError;
-use sva_open::{Arrived, Descriptor, LocalAct, Part, Received};
+use sva_open::{Arrived, Descriptor, LocalAct, Part, Received, named_or};
 
 fn is_one(unit: Option<usize>, other: Option<usize>) -> bool
     ensures { result ≡ below.is_one unit other }
@@ -26,15 +26,6 @@ fn is_beside(units: &[usize], endpoint: usize, other: usize) -> bool
     ensures { result ≡ below.is_beside units.now endpoint other }
 {
     other != endpoint && is_one(units.get(endpoint).copied(), units.get(other).copied())
-}
-
-fn named_or(endpoint: usize, own: Option<usize>) -> usize
-    ensures { result ≡ below.named_or endpoint own }
-{
-    match own {
-        None => endpoint,
-        Some(own) => own,
-    }
 }
 
 fn of_descriptor(endpoint: usize, head: Option<Descriptor>) -> usize

@@ -318,7 +318,8 @@ safe_for_workers now e part q =
 safe_part : (now : Open) (e : ℕ) (part : Part) → Quiet now e part → is_safe_part now.settings now.frames now.freed now.domains part ≡ true
 safe_part now e part q =
     and _ _ (safe_device now e part q) (and _ _ (safe_unit now e part q)
-    (and _ _ (safe_for_workers now e part q) (and _ _ (flight now e part ∙ and _ _ q.freed.2 (and _ _ q.frozen.2 (and _ _ q.left.1.1 (and _ _ q.responses q.answers))))
+    (and _ _ (safe_for_workers now e part q) (and _ _
+    (flight now e part ∙ and _ _ q.freed.2 (and _ _ q.frozen.2 (and _ _ q.left.1.1 (and _ _ q.responses q.answers))))
     (rows now.freed part ∙ and _ _ q.left.2.0 (and _ _ q.left.2.1 (and _ _ q.goes q.walks.0))))))
 
 quiet_part : (now : Open) (e : ℕ) (part : Part) → is_safe_part now.settings now.frames now.freed now.domains part ≡ true → Quiet now e part
@@ -376,7 +377,8 @@ none_from : (now : Open) (of : Sort) (e : ℕ) (parts : List Part) → list_all 
 unfolding wrongs.first_from
 none_from now of e [] h = refl
 none_from now of e (part ∷ parts) h =
-    let each = both (is_safe_part now.settings now.frames now.freed now.domains part) (list_all (is_safe_part now.settings now.frames now.freed now.domains) parts) h in
+    let each = both (is_safe_part now.settings now.frames now.freed now.domains part)
+    (list_all (is_safe_part now.settings now.frames now.freed now.domains) parts) h in
     none (wrongs.wrong_at now of e part) _ (none_at now e part (quiet_part now e part each.0) of)
     (none_from now of (e + 1) parts each.1)
 

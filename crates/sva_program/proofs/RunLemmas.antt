@@ -126,7 +126,8 @@ run_status strict found ended is = subst (λ e. status_of strict e ≤ 2) (sym i
 
 -- of a command on steps
 pub steps_status : (asked : Asked) (input old new : Option (List ℕ)) (ended : Result Ending DriveFault)
-    → ((most : ℕ) (whys few_ends : Bool) → asked ≡ Explore most whys few_ends → ⊥) → ((run : Bool) (most : ℕ) (strict all : Bool) → asked ≡ Judge run most strict all → ⊥)
+    → ((most : ℕ) (whys few_ends : Bool) → asked ≡ Explore most whys few_ends → ⊥)
+    → ((run : Bool) (most : ℕ) (strict all : Bool) → asked ≡ Judge run most strict all → ⊥)
     → Reports asked input old new ended → status_of (is_strict asked) ended ≤ 2
 steps_status Replay input old new ended other one h = run_status false h.0 ended h.1
 steps_status Check input old new ended other one h = run_status false h.0 ended h.1

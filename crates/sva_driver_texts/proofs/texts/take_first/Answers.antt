@@ -27,10 +27,12 @@ returns-in-Ok c =
 pub returns-in-Err-Refused : goal.returns-in-Err-Refused
 returns-in-Err-Refused c =
     let has : c.args.read.is_race ≡ true = search rules in
-    refused c.args.read c.in-Err-Refused.place c.args.out.now.items c.put_refused.new.out.items has (ap Err (sym c.in-Err-Refused.field-0-is) ∙ sym c.in-Err-Refused.is ∙ c.in_ok-spot.ensures)
+    refused c.args.read c.in-Err-Refused.place c.args.out.now.items c.put_refused.new.out.items has
+    (ap Err (sym c.in-Err-Refused.field-0-is) ∙ sym c.in-Err-Refused.is ∙ c.in_ok-spot.ensures)
     c.requires c.in_ok-put_refused-in-Err-Refused.ensures
 
 pub returns : goal.returns
 returns c =
     let has : c.args.read.is_race ≡ true = search rules in
-    leaks c.args.read c.in-Err-Leaks.number c.in-Err-Leaks.wrong c.args.out.now.items has (ap Err (sym c.in-Err-Leaks.field-0-is) ∙ sym c.in-Err-Leaks.is ∙ c.in_ok-spot.ensures) c.requires
+    leaks c.args.read c.in-Err-Leaks.number c.in-Err-Leaks.wrong c.args.out.now.items has
+    (ap Err (sym c.in-Err-Leaks.field-0-is) ∙ sym c.in-Err-Leaks.is ∙ c.in_ok-spot.ensures) c.requires

@@ -14,7 +14,8 @@ returns-in-Some c =
 pub loop-place-preserved : goal.loop-place-preserved
 loop-place-preserved c =
     let inside : c.loop-place.place < length c.args.list.now = search rules in
-    sym (in_later (wrongs.received_left c.args.part.now c.args.endpoint) c.args.list.now c.loop-place.place _ inside (sym c.received_left.ensures ∙ c.in-None.is))
+    sym (in_later (wrongs.received_left c.args.part.now c.args.endpoint) c.args.list.now c.loop-place.place _ inside
+    (sym c.received_left.ensures ∙ c.in-None.is))
     ∙ c.loop-place.invariant
 
 pub returns : goal.returns

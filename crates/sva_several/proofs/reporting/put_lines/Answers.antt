@@ -11,7 +11,8 @@ returns-then-place-names c =
 pub loop-place-preserved : goal.loop-place-preserved
 loop-place-preserved c =
     let out = c.loop-place.out.items in
-    told_next c.args.search c.args.names.now c.args.all.now c.loop-place.place c.index-names-place.result c.index-all-place.result out c.put_named.new.out.items _
+    told_next c.args.search c.args.names.now c.args.all.now c.loop-place.place c.index-names-place.result c.index-all-place.result
+    out c.put_named.new.out.items _
     (omega (arith, c.if-place-names.false)) c.loop-place-test.true c.index-names-place.is c.index-all-place.is
     (c.in_ok-put_named.ensures ∙ ap (λ name. out ++ named name true c.said_of.result.now) c.as_bytes.ensures.value
     ∙ ap (λ text. out ++ named (string_bytes c.index-names-place.result) true text) c.said_of.ensures)

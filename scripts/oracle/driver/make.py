@@ -7,6 +7,7 @@ import written
 from branches import is_of_block
 from make_barriers import act_of_barriers, make_barriers
 from make_controls import act_of_controls, make_controls
+from make_overflows import make_overflows
 from make_timeouts import make_timeouts
 from make_units import make_units
 from make_written import folded
@@ -376,8 +377,9 @@ def make_apart(rng):
 
 def make_any(rng):
     made = rng.choice((make_mutant, make_mutant, make_driver, make_driver, make_groups, make_looks, make_looks,
-                       make_controls, make_apart, make_timeouts, make_units, make_barriers))
-    text = made(Maker(rng) if made in (make_looks, make_controls, make_timeouts, make_units, make_barriers) else rng)
+                       make_controls, make_apart, make_timeouts, make_units, make_barriers, make_overflows))
+    small_ones = (make_looks, make_controls, make_timeouts, make_units, make_barriers, make_overflows)
+    text = made(Maker(rng) if made in small_ones else rng)
     return folded(Maker(rng), text) if rng.random() < 0.12 else text
 
 
@@ -394,6 +396,11 @@ def timed(theme):
 def drained(theme):
     """What makes small drivers in which an endpoint drains a PASID."""
     return lambda rng: make_barriers(Maker(rng), theme)
+
+
+def filled(theme):
+    """What makes small drivers in which a page request queue may overflow."""
+    return lambda rng: make_overflows(Maker(rng), theme)
 
 
 def together(theme):

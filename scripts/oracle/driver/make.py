@@ -7,6 +7,7 @@ import written
 from branches import is_of_block
 from make_barriers import act_of_barriers, make_barriers
 from make_controls import act_of_controls, make_controls
+from make_loose import loosened, make_loose
 from make_overflows import make_overflows
 from make_timeouts import make_timeouts
 from make_units import make_units
@@ -38,9 +39,9 @@ class Maker:
         return self.one(0, 1, 1, 1, 1, 2)
 
     def settings(self):
-        pairs = ('link posted', 'waits plain', 'drain arrived', 'caches on', None)
+        pairs = ('link posted', 'waits plain', 'drain arrived', 'caches on', 'order loose')
         found = [f'platform {self.one("vt-d", "vt-d", "free")}'] if self.chance(0.2) else []
-        found += [s for s in pairs if s and self.chance(0.35)]
+        found += [s for s in pairs if self.chance(0.35)]
         found += [self.one('stopped status', 'stopped known')] if self.chance(0.5) else []
         chances = (('refuses drain', .15), ('allow no-group', .2), ('enables cleared', .1),
                    (f'timeouts {self.one("on", "stop")}', .12))
@@ -117,7 +118,7 @@ class Maker:
         n = self.one('', '', ' 0', ' 1')
         return self.one(
             f'ask {e} {p} {page}', f'ask {e} {p} {page}', f'use {e} {p} {page}', f'evict {e} {p} {page}', f'end {e}{n}',
-            f'finish {e}{n}', f'pass {e}{n}', f'quit {e} {p}', f'pump {e}', f'pump {e}', f'write {e}',
+            f'finish {e}{n}', f'pass {e}{n}', f'quit {e} {p}', f'pump {e}', f'pump {e} {self.one(0, 0, 1, 2)}', f'write {e}',
             f'forget {e} {p}' + self.one('', f' {page}'), f'expire {e} {self.one(0, 0, 1)}',
             f'fault {e} {p} {page} {self.one("r", "w", "rw")} {self.one("new", "new", 0)} {self.one("more", "last")}',
             *[f'deliver {kind} {e}{n}'] * 6)
@@ -377,9 +378,11 @@ def make_apart(rng):
 
 def make_any(rng):
     made = rng.choice((make_mutant, make_mutant, make_driver, make_driver, make_groups, make_looks, make_looks,
-                       make_controls, make_apart, make_timeouts, make_units, make_barriers, make_overflows))
-    small_ones = (make_looks, make_controls, make_timeouts, make_units, make_barriers, make_overflows)
-    text = made(Maker(rng) if made in small_ones else rng)
+                       make_controls, make_apart, make_timeouts, make_units, make_barriers, make_overflows, make_loose,
+                       make_loose))
+    with_maker = make_looks, make_controls, make_timeouts, make_units, make_barriers, make_overflows, make_loose
+    text = made(Maker(rng) if made in with_maker else rng)
+    text = loosened(Maker(rng), text) if rng.random() < 0.2 else text
     return folded(Maker(rng), text) if rng.random() < 0.12 else text
 
 
@@ -401,6 +404,11 @@ def drained(theme):
 def filled(theme):
     """What makes small drivers in which a page request queue may overflow."""
     return lambda rng: make_overflows(Maker(rng), theme)
+
+
+def unordered(theme):
+    """What makes small drivers in which a unit takes descriptors out of order."""
+    return lambda rng: make_loose(Maker(rng), theme)
 
 
 def together(theme):

@@ -1,5 +1,6 @@
 """Wrong readings of the rules of drivers, each of which has to be found by chance."""
 
+import loose
 import reading
 import report
 import search
@@ -90,7 +91,7 @@ def skipped_is_undone(old):
 def skipped_is_all(old):
     """With its head the whole queue goes."""
     def skip(moment, port):
-        while port.queue:
+        while loose.unsent(port.queue):
             old(moment, port)
     return skip
 

@@ -3,6 +3,7 @@ are some."""
 
 import reading
 import timeouts
+import units
 import world
 from make import together
 from trying import Reading
@@ -70,8 +71,8 @@ OF_UNITS = [
     Reading('a page request of another endpoint isn\'t in the queue', world, 'share', nothing, REQUESTS),
     Reading('another endpoint\'s time-out aborts no wait', world, 'share', nothing, TIMED),
     Reading('`of F` is ignored', reading, 'of_other', is_ignored, FLUSH),
-    Reading('what the unit keeps of another endpoint stays', world, 'struck', its_alone, KEPT),
-    Reading('what the unit keeps of each goes, where one is named', world, 'struck', each_below, KEPT),
+    Reading('what the unit keeps of another endpoint stays', units, 'struck', its_alone, KEPT),
+    Reading('what the unit keeps of each goes, where one is named', units, 'struck', each_below, KEPT),
     Reading('`await groups E` and `close E` are of E\'s groups alone', world, 'below', itself, REQUESTS),
     Reading('`await wait E` is of what was submitted at E', reading.Driver, 'are_below_one', own_waits, FLUSH),
     Reading('a page request of another endpoint is its own', world, 'own', all_of_unit, REQUESTS),

@@ -2,6 +2,7 @@
 import barriers
 import branches
 import controls
+import loose
 import overflows
 import timeouts
 import world as w
@@ -28,7 +29,8 @@ NEEDS = {
     'serve': 'serve needs a page request in the queue', 'lock': 'lock needs a free lock',
     'unlock': 'unlock needs a taken lock',
     'deliver': 'deliver needs such a message in flight, behind none that it may not overtake',
-    'pump': 'pump needs an open unit, and a descriptor at the head that may go',
+    'pump': 'pump without a place needs order queue, an open unit, and a descriptor at the head that may go',
+    'pump N': 'pump with a place needs order loose, an open unit, and a descriptor there that none before it bars',
     'forget': 'forget needs the entry kept by the unit',
     'forget PAGE': 'forget needs the translation kept by the unit',
     'ask': 'ask needs the PASID, ATS and bus mastering on at the endpoint',
@@ -193,7 +195,7 @@ class Driver:
 
 def set_platform(settings, name):
     """Each setting but `stopped`, which is the device's."""
-    for pair, word in zip(('link', 'waits', 'drain', 'caches'), Settings.platforms[name]):
+    for pair, word in zip(('link', 'waits', 'drain', 'caches', 'order'), Settings.platforms[name]):
         setattr(settings, pair, word)
 
 
@@ -251,6 +253,10 @@ def may_forget(driver, port, device, words, line):
     return tuple(words[2:4]) in port.kept if len(words) > 3 else words[2] in port.kept_entry
 
 
+def may_pump(driver, port, device, words, line):
+    return loose.may_take(port, driver.settings, words[2]) if len(words) > 2 else w.may_pump(port, driver.settings)
+
+
 # What an act needs, by FORMAT's table of what is told; an act that isn't here needs nothing. Of a line that submits no
 # wait nothing is told.
 MAY = {
@@ -258,11 +264,11 @@ MAY = {
     'submit': lambda d, port, device, x, line: not port.closed and len(port.queue) + len(descriptors(line)) <= w.PLACES,
     'close': lambda d, port, device, x, line: not port.closed,
     'open': lambda d, port, device, x, line: port.closed,
-    'skip': lambda d, port, device, x, line: bool(port.queue),
+    'skip': lambda d, port, device, x, line: bool(loose.unsent(port.queue)),
     'write': lambda d, port, device, x, line: bool(port.received) and len(port.received[0]) > 1,
     'serve': lambda d, port, device, x, line: bool(port.prq),
     'expire': lambda d, port, device, x, line: timeouts.may_expire(port, x[2], d.settings, bool(line) or device.silent),
-    'pump': lambda d, port, device, x, line: w.may_pump(port, d.settings),
+    'pump': may_pump,
     'ask': lambda d, port, device, x, line: w.may_access(port, x[2]),
     'use': lambda d, port, device, x, line: w.may_access(port, x[2]) and (x[2], x[3]) in port.held,
     'evict': lambda d, port, device, x, line: (x[2], x[3]) in port.held,
@@ -288,6 +294,8 @@ def need(driver, world, words, line=None):
         return None
     if verb == 'fault':
         return 'fault new' if words[5] == 'new' else 'fault G'
+    if verb == 'pump' and len(words) > 2:
+        return 'pump N'
     return 'forget PAGE' if verb == 'forget' and len(words) > 3 else verb
 
 
@@ -379,6 +387,8 @@ def do_at(driver, world, port, words, line):
         w.discard(port, p)
     elif verb == 'respond':
         w.respond(port, p, words[3], words[4] == 'failure')
+    elif verb == 'pump' and len(words) > 2:
+        loose.take(world, port, driver.settings, p)
     elif verb == 'pump':
         w.pump(world, port, driver.settings)
     elif verb == 'skip':

@@ -15,6 +15,7 @@ def below_safe(driver, shown):
     found = [within(driver, e) for e in sorted(driver.devices)]
     s = driver.settings
     found += [f'with link {s.link}, waits {s.waits}, drain {s.drain}, caches {s.caches}, stopped {s.stopped}'
+              + f', order {s.order}'
               + ', enables cleared' * (s.enables == 'cleared')
               + f', timeouts {s.timeouts}' * (s.timeouts != 'off') + ', refuses drain' * ('refuses' in s.said)
               + ', allow no-group' * ('allow' in s.said) + (f', places {s.places}' if s.places else '') + ''.join(f', unit {text}' for text in shared(driver))]
@@ -34,7 +35,8 @@ def not_asked(s):
     """What leaves more open than a setting that holds; `link free` isn't told."""
     kinder = {'waits plain': s.waits == 'fence', 'drain arrived': s.drain == 'empty', 'caches on': s.caches == 'off',
               'stopped status': s.stopped == 'marker',
-              'stopped known': s.stopped == 'marker' or s.stopped == 'status' and s.link == 'posted'}
+              'stopped known': s.stopped == 'marker' or s.stopped == 'status' and s.link == 'posted',
+              'order loose': s.order == 'queue'}
     return [word for word, so in kinder.items() if so]
 
 

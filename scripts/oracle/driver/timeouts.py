@@ -1,4 +1,5 @@
 """Invalidations that are not answered in time (docs/DRIVERS.md, "Time-outs"; crates/sva_open/specs/Units.antt)."""
+import loose
 import world as w
 
 FAILED_OF = 'an await of a wait above in this thread, the last on each way to here'
@@ -14,20 +15,27 @@ def is_answered(port, itag, silent):
 
 def may_expire(port, itag, settings, silent):
     """"Time is long: before, the unit takes all that it can.\""""
-    if settings.timeouts == 'off' or port.closed or port.stalled or w.may_pump(port, settings):
+    if settings.timeouts == 'off' or not w.takes(port):
+        return False
+    if w.may_pump(port, settings) or loose.takes_some(port, settings):
         return False
     return itag in port.busy and port.sent[itag] == port.number and not is_answered(port, itag, silent)
 
 
 def expire(world, port, itag, settings):
     """Its ITag is free, and nothing of it is left. Waits that the unit has taken are aborted, and so is a fence at the
-    head."""
+    head; out of order, all that it has fetched."""
     forget(port, itag)
-    waits, fence = waits_out(port, itag), fence_at_head(port, settings)
-    port.queue = port.queue[len(fence):]
-    free_itag(port, itag)
-    port.plain = tuple((wait, left - {itag}, drain) for wait, left, drain in port.plain if wait not in waits)
-    abort(world, port, waits + fence)
+    if loose.is_loose(settings):
+        aborted = loose.abort_fetched(port, settings)
+        port.busy -= {itag}
+        loose.answered(port, {itag})
+    else:
+        waits, fence = waits_out(port, itag), fence_at_head(port, settings)
+        port.queue, aborted = port.queue[len(fence):], waits + fence
+        free_itag(port, itag)
+        port.plain = tuple((wait, left - {itag}, drain) for wait, left, drain in port.plain if wait not in waits)
+    abort(world, port, aborted)
     port.stalled = has_to_stop(settings)
 
 

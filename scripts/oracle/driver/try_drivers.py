@@ -19,6 +19,7 @@ import planted_in_branches
 import planted_in_controls
 import planted_in_drivers
 import planted_in_findings
+import planted_in_loose
 import planted_in_overflows
 import planted_in_timeouts
 import planted_in_units
@@ -321,5 +322,5 @@ if __name__ == '__main__':
     sys.exit(trying.main('drivers', trial, planted_in_apart.OF_APART + planted_in_findings.OF_FINDINGS
                          + planted_in_barriers.OF_BARRIERS + planted_in_controls.OF_CONTROLS
                          + planted_in_branches.OF_BRANCHES + planted_in_timeouts.OF_TIMEOUTS
-                         + planted_in_units.OF_UNITS + planted_in_overflows.OF_OVERFLOWS
+                         + planted_in_units.OF_UNITS + planted_in_overflows.OF_OVERFLOWS + planted_in_loose.OF_LOOSE
                          + planted_in_drivers.OF_DRIVERS))

@@ -1,4 +1,5 @@
 """A unit, and the endpoints below one (docs/DRIVERS.md, "Endpoints below one unit")."""
+import world as w
 
 
 class Unit:
@@ -45,3 +46,32 @@ def struck(world, port, named):
 def own(port, requests):
     """The page requests that the endpoint has sent, of those of its unit."""
     return [one for one in requests if len(one) > 1 and one[4] == port.number]
+
+
+def takes(port):
+    return not port.closed and not port.stalled
+
+
+def is_fence(one, settings):
+    return one[0] == 'wait' and (settings.waits == 'fence' or one[2])
+
+
+def is_refused(one, settings):
+    return one[0] == 'wait' and one[1] and 'refuses' in settings.said
+
+
+def send(world, port, one):
+    """Sends an invalidation to its endpoint, under the lowest free ITag."""
+    itag, port = w.lowest(port.busy), world.ports[one[3]]
+    port.busy, port.sent = port.busy | {itag}, w.put(port.sent, itag, port.number)
+    port.link += ('invalidate', itag, one[1], one[2]),
+    return itag
+
+
+def strike(world, port, one):
+    """What the unit keeps goes at once."""
+    for it in struck(world, port, one[-1]):
+        if one[0] == 'entry':
+            it.kept_entry = w.without(it.kept_entry, one[1])
+        else:
+            it.kept = {(p, page): tr for (p, page), tr in it.kept.items() if p != one[1] or not w.covers(one[2], page)}

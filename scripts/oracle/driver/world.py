@@ -6,8 +6,9 @@ its unit and its part of the link. `need` says what an act lacks (None where it 
 A translation is (frame, w, freed, frozen): the last two say what became of the frame since the page led to it.
 """
 import barriers
+import loose
 import overflows
-from units import Unit, below, of_unit, own, share, struck
+from units import Unit, below, is_fence, is_refused, of_unit, own, send, share, strike, takes
 
 UP = {'request', 'invalidated', 'page-request', 'marker', 'status', 'reset-done', 'passed'}
 NON_POSTED = {'request', 'completion'}          # "Posted are all but a request and a completion"
@@ -18,8 +19,9 @@ class Settings:
     """The first word of each is the one that holds where the line is missing."""
     pairs = {'link': ('free', 'posted'), 'waits': ('fence', 'plain'), 'drain': ('empty', 'arrived'),
              'caches': ('off', 'on'), 'stopped': ('marker', 'status', 'known'), 'enables': ('kept', 'cleared'),
-             'timeouts': ('off', 'on', 'stop')}
-    platforms = {'vt-d': ('posted', 'plain', 'arrived', 'on'), 'free': ('free', 'fence', 'empty', 'off')}
+             'timeouts': ('off', 'on', 'stop'), 'order': ('queue', 'loose')}
+    platforms = {'vt-d': ('posted', 'plain', 'arrived', 'on', 'loose'),
+                 'free': ('free', 'fence', 'empty', 'off', 'queue')}
     flags = {'refuses': 'drain', 'allow': 'no-group'}   # "two settings are no pair"
 
     def __init__(self):
@@ -184,6 +186,7 @@ def invalidated_arrives(world, port, m, settings):
 def free_itags(world, port, itags):
     """A wait "covers what stands behind the wait before it, and is done when the invalidations among these are"."""
     port.busy, port.covered = port.busy - itags, port.covered - itags
+    loose.answered(port, itags)
     waiting, port.plain = port.plain, ()
     for wait, left, drain in waiting:
         if left <= itags:
@@ -274,37 +277,30 @@ ARRIVES = {'request': request_arrives, 'completion': completion_arrives, 'invali
 
 # ---------------------------------------------------------------------------------------------- the unit
 
-def may_pump(port, settings):
+def may_go(port, one, settings):
     """"A descriptor may go where an ITag is free for its invalidation; a fence, where all before it is done; and
     one with `drain`, where `drain empty` holds, once the page request queue is empty, and where `refuses drain` holds,
     never."""
-    if port.closed or port.stalled or not port.queue:
-        return False
-    head = port.queue[0]
-    if head[0] in ('range', 'pasid'):
+    if one[0] in ('range', 'pasid'):
         return len(port.busy) < ITAGS
-    if head[0] != 'wait':
+    if one[0] != 'wait':
         return True
-    if head[1] and 'refuses' in settings.said:
+    if is_refused(one, settings) or is_fence(one, settings) and port.busy:
         return False
-    if (settings.waits == 'fence' or head[2]) and port.busy:
-        return False
-    return not (head[1] and settings.drain == 'empty' and port.prq)
+    return not (one[1] and settings.drain == 'empty' and port.prq)
+
+
+def may_pump(port, settings):
+    """In the order of the queue its head is taken."""
+    return settings.order == 'queue' and takes(port) and bool(port.queue) and may_go(port, port.queue[0], settings)
 
 
 def pump(world, port, settings):
     head, port.queue = port.queue[0], port.queue[1:]
     if head[0] in ('range', 'pasid'):
-        itag, port = lowest(port.busy), world.ports[head[3]]
-        port.busy, port.covered = port.busy | {itag}, port.covered | {itag}
-        port.sent = put(port.sent, itag, port.number)
-        port.link += ('invalidate', itag, head[1], head[2]),
-    elif head[0] == 'iotlb':
-        for it in struck(world, port, head[3]):
-            it.kept = {(p, page): tr for (p, page), tr in it.kept.items() if p != head[1] or not covers(head[2], page)}
-    elif head[0] == 'entry':
-        for it in struck(world, port, head[2]):
-            it.kept_entry = without(it.kept_entry, head[1])
+        port.covered |= {send(world, port, head)}
+    elif head[0] != 'wait':
+        strike(world, port, head)
     elif port.covered:
         port.plain, port.covered = port.plain + ((head[3], port.covered, head[1]),), frozenset()
     else:
@@ -312,9 +308,10 @@ def pump(world, port, settings):
 
 
 def skip(world, port):
-    """"Takes the head out .., whatever it is. What it asked for is never done; a wait that is taken out counts as
-    done."""
-    head, port.queue = port.queue[0], port.queue[1:]
+    """"Takes the head out", or the first that wasn't sent, "whatever it is. What it asked for is never done; a wait that
+    is taken out counts as done."""
+    n = loose.unsent(port.queue)[0]
+    head, port.queue = port.queue[n], drop(port.queue, n)
     if head[0] == 'wait':
         world.undone -= {head[3]}
 

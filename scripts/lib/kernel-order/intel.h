@@ -18,6 +18,8 @@ struct intel_iommu {
   spinlock_t lock;
   struct q_inval *qi;
   struct page_req_dsc *prq;
+  struct mutex iopf_lock;
+  unsigned long prq_seq_number;
   struct completion prq_complete;
   struct { void (*flush_iotlb)(struct intel_iommu *, u16, u64, unsigned int, u64); } flush;
   struct iopf_queue *iopf_queue;
@@ -27,7 +29,7 @@ struct dmar_domain {
   struct list_head devices, dev_pasids, cache_tags;
   struct mmu_notifier notifier;
   struct iommu_domain domain;
-  bool use_first_level;
+  bool use_first_level, iotlb_sync_map;
   struct qi_batch *qi_batch;
 };
 struct device_domain_info {
@@ -40,6 +42,7 @@ struct device_domain_info {
   struct device *dev;
   struct intel_iommu *iommu;
   struct dmar_domain *domain;
+  struct list_head link;
 };
 struct dev_pasid_info {
   struct list_head link_domain;
@@ -59,10 +62,16 @@ struct dev_pasid_info {
 #define pci_ats_queue_depth(p) 0
 #define domain_id_iommu(d, i) 7
 #define intel_domain_is_fs_paging(d) true
+#define intel_domain_is_ss_paging(d) false
+#define dev_is_real_dma_subdevice(d) false
+#define sm_supported(i) true
+#define domain_need_iotlb_sync_map(...) false
+#define is_canonical_address(a) true
+#define trace_prq_report(...) ((void)0)
 #define trace_qi_submit(...) ((void)0)
 #define trace_cache_tag_flush_range(...) ((void)0)
 #define qi_dump_fault(...) ((void)0)
-#define device_rbtree_find(...) NULL
+#define device_rbtree_find(i, sid) ((sid) == 0x100 ? &the_device.dev : NULL)
 #define dmar_latency_enabled(...) false
 #define dmar_latency_update(...) ((void)0)
 #define ktime_get() 0
@@ -79,9 +88,13 @@ static struct pasid_entry *entry_of(void);
 /* the host spins: what the unit has got is done now */
 static void spun(void);
 #define cpu_relax() spun()
+typedef int irqreturn_t;
+#define IRQ_RETVAL(x) (x)
 #define reinit_completion(c) ((c)->done = 0)
-static void slept(void);
-#define wait_for_completion(c) slept()
+#define completion_done(c) ((c)->done > 0)
+#define complete(c) ((c)->done++, act("the page request thread completes"))
+static void slept(struct completion *on);
+#define wait_for_completion(c) slept(c)
 
 static u64 read_register(void *at);
 static void write_register(u64 value, void *at);

@@ -11,13 +11,21 @@ struct iommu_page_response;
 struct iommu_fault_param;
 struct dev_iommu { struct mutex lock; struct iommu_fault_param *fault_param; };
 struct device { struct dev_iommu *iommu; void *iommu_group; };
-struct iommu_domain { int type; struct mm_struct *mm; int (*iopf_handler)(struct iopf_group *group); };
+struct iommu_domain {
+  int type, users;
+  struct mm_struct *mm;
+  struct list_head next;
+  int (*iopf_handler)(struct iopf_group *group);
+};
 struct iommu_ops {
   void (*page_response)(struct device *dev, struct iopf_fault *fault, struct iommu_page_response *response);
   bool user_pasid_table;
 };
 
 static struct iommu_ops the_operations;
+static struct mutex iommu_sva_lock;
+static struct list_head iommu_sva_mms = {&iommu_sva_mms, &iommu_sva_mms};
+static bool iommu_sva_present = true;
 static void queued(struct work_struct *work);
 static void flushed(void);
 static void *handle_of(ioasid_t pasid);

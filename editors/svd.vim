@@ -13,7 +13,7 @@ syntax match svdName /^\s*\zs\l[[:alnum:]_-]*:\ze\s/
 " by scripts/words --write: act
 syntax match svdAct /\%(^\s*\|^\s*\l[[:alnum:]_-]*:\s\+\)\@<=\%(pte\|entry\|replace\|start\|stop\|barrier\|reset\|submit\|await\|free\|freeze\|serve\|respond\|discard\|close\|open\|skip\|resume\|ats\|pri\|mastering\|lock\|unlock\|mark\|set\|clear\|if\|deliver\|pump\|expire\|write\|forget\|end\|finish\|pass\|quit\|gone\|fault\|ask\|use\|evict\)\ze\%(\s\|$\)/
 " by scripts/words --write: heading/d - 'else' - 'end' + body + setting
-syntax match svdLine /^\s*\zs\%(config\|race\|thread\|workers\|device\|def\|call\|repeat\|platform\|link\|waits\|drain\|caches\|stopped\|enables\|timeouts\|refuses\|allow\|places\|unit\)\ze\%(\s\|$\)/
+syntax match svdLine /^\s*\zs\%(config\|race\|thread\|workers\|device\|def\|call\|repeat\|platform\|link\|waits\|drain\|caches\|stopped\|order\|enables\|timeouts\|refuses\|allow\|places\|unit\)\ze\%(\s\|$\)/
 " by scripts/words --write: act.if + condition
 syntax match svdKind /\%(\<if\s\+\|\<if\s\+not\s\+\)\@20<=\%(not\|present\|stopped\|filed\|queued\|gone\|overflow\|failed\)\ze\s/
 " the words of blocks: `end` with an endpoint behind it is an act
@@ -22,7 +22,7 @@ syntax match svdBlock /^\s*\zs\%(else\|end\)\ze\s*\%(#\|$\)/
 " a parameter of a definition
 syntax match svdName /\%(\s\)\@1<=\$\a[[:alnum:]_-]*\ze\%(\s\|$\)/
 " by scripts/words --write: setting | setting.*
-syntax match svdWord /\%(^\s*\%(platform\|link\|waits\|drain\|caches\|stopped\|enables\|timeouts\|refuses\|allow\|places\|unit\)\s\+\)\@<=\%(free\|vt-d\|posted\|fence\|plain\|empty\|arrived\|off\|on\|marker\|status\|known\|kept\|cleared\|stop\|drain\|no-group\)\ze\%(\s\|$\)/
+syntax match svdWord /\%(^\s*\%(platform\|link\|waits\|drain\|caches\|stopped\|order\|enables\|timeouts\|refuses\|allow\|places\|unit\)\s\+\)\@<=\%(free\|vt-d\|posted\|fence\|plain\|empty\|arrived\|off\|on\|marker\|status\|known\|queue\|loose\|kept\|cleared\|stop\|drain\|no-group\)\ze\%(\s\|$\)/
 " by scripts/words --write: part/d
 syntax match svdWord /\%(^\s*device\s.*\)\@<=\<\%(asks\|uses\|faults\|evicts\|pages\|silent\|lies\|awaits\|leaves\)\ze\%(\s\|$\)/
 " by scripts/words --write: act.pte + act.fault + place.CODE

@@ -308,17 +308,18 @@ without a PASID; pages may be hexadecimal:
     set NAME, clear NAME   the flag is set, or clear as at first
 
 Settings stand above the first act: `link free` or `posted`, `waits fence` or `plain`, `drain empty` or
-`arrived`, `caches off` or `on`, `stopped marker`, `status` or `known`, `enables kept` or `cleared` by a
-reset, `timeouts off`, `on` or `stop`; and before these `platform vt-d`, which is `link posted`, `waits
-plain`, `drain arrived` and `caches on`, or `platform free`. By `refuses drain` the unit takes no wait with
-`drain`, by `allow no-group` a response that finds no group is no finding, by `places N` a page request
-queue has N places, and overflows where there is none, and by `unit E E ..` devices stand below one unit,
-and share its queues. Threads, workers and devices are as in a race, but that a device
-may have `lies`, `awaits` and `leaves` too. The lines from `def NAME $X` to its `end` stand where `call NAME
-WORD` does, with the word for `$X`; those from `repeat N` to its `end` stand N times. A unit, as a link or a
-device, acts by itself: `pump E`; `write E`, the oldest page request that it has received comes into the
-queue; `forget E P`; `expire E T`, an invalidation that isn't answered runs out of time; and a device that
-`leaves` is removed at some moment: `gone E`.
+`arrived`, `caches off` or `on`, `stopped marker`, `status` or `known`, `order queue` or `loose`,
+`enables kept` or `cleared` by a reset, `timeouts off`, `on` or `stop`; and before these `platform
+vt-d`, which is `link posted`, `waits plain`, `drain arrived`, `caches on` and `order loose`, or
+`platform free`. By `refuses drain` the unit takes no wait with `drain`, by `allow no-group` a response
+that finds no group is no finding, by `places N` a page request queue has N places, and overflows where
+there is none, and by `unit E E ..` devices stand below one unit, and share its queues. Threads, workers
+and devices are as in a race, but that a device may have `lies`, `awaits` and `leaves` too. The lines
+from `def NAME $X` to its `end` stand where `call NAME WORD` does, with the word for `$X`; those from
+`repeat N` to its `end` stand N times. A unit, as a link or a device, acts by itself: `pump E`, or with
+`order loose` `pump E N`, which takes what stands at place N of its queue; `write E`, the oldest page
+request that it has received comes into the queue; `forget E P`; `expire E T`, an invalidation that
+isn't answered runs out of time; and a device that `leaves` is removed at some moment: `gone E`.
 
 These steps send a message, and no others. Behind it stands what its delivery is answered:
 

@@ -12,7 +12,7 @@ from lib.words.table import expanded
 # and of a number by its name; and what a field of a script's line is.
 READ_AT = {"endpoint": "E", "pasid": "P", "some_pasid": "[P]", "page": "PAGE", "space": "S", "frame": "F", "index": "I", "order": "K",
            "fails": "CODE", "access": "r|w", "asked": "r|w|rw", "last": "more|last", "kind": "KIND", "older": "[N]", "on": "on|off",
-           "itag": "T", "of": "[of F]"}
+           "itag": "T", "place": "N", "of": "[of F]"}
 READ_AS = {"access": "r|w", "verdict": "V", "flags": "A", "group": "G", "is_last": "L", "vector": "VECTOR"}
 NUMBERS = {"space": "S", "page": "PAGE", "endpoint": "E", "binding": "B", "pasid": "P", "frame": "F", "order": "K",
            "worker": "W", "slot": "U", "message": "M", "count": "COUNT", "endpoints": "E", "frames": "N", "workers": "W"}

@@ -1,5 +1,5 @@
 -- An invalidation that runs out of time: `expire E T`; and what `if failed` looks at: the waits that this thread has awaited last.
-use Rattle.std.specs.Prelude.{ℕ, ◌+◌, ◌==◌, ◌&&◌, not, if◌then◌else◌, Bool, true, false, List, slice_get, Option, Some, None, is_some, Result, Ok}
+use Rattle.std.specs.Prelude.{ℕ, ◌+◌, ◌==◌, ◌&&◌, ◌||◌, not, if◌then◌else◌, Bool, true, false, List, slice_get, Option, Some, None, Result, Ok}
 use Rattle.std.specs.List.{list_all, list_any}
 use Rattle.std.specs.Str.{bytes_eq}
 use Rattle.sva_step.specs.declared.limits.Config.{Config}
@@ -11,7 +11,7 @@ use Rattle.sva_driver_words.specs.Awaits.{LineSaid, last_from, stands_in}
 use Rattle.sva_driver_words.specs.Faults.{wrong_at, no_more}
 use Rattle.sva_driver_words.specs.Fields.{endpoint_at, itag_at}
 use Rattle.sva_driver_words.specs.Sayings.{SayingSaid, did}
-use Rattle.sva_driver_words.specs.Sayings.SayingSaid.{AwaitsWaitsSaid}
+use Rattle.sva_driver_words.specs.Sayings.SayingSaid.{AwaitsWaitsSaid, LooksSaid}
 use Rattle.sva_driver_words.specs.declared.kept.Under.{Under}
 use Rattle.sva_driver_words.specs.declared.faults.BranchWanted.TheVariants as branch
 use Rattle.sva_driver_words.specs.declared.faults.DriverWanted.TheVariants as wanted
@@ -28,13 +28,9 @@ expire_line config words = do
 
 -- ---- `failed`: were the waits aborted that this thread has awaited last?
 
--- what is looked at behind a line that awaits waits
-abbrev pub failed_by : SayingSaid → Option Condition
-failed_by (AwaitsWaitsSaid endpoint line) = Some (condition.Failed endpoint line)
-failed_by _ = None
-
 abbrev pub awaits_waits : SayingSaid → Bool
-awaits_waits saying = is_some (failed_by saying)
+awaits_waits (AwaitsWaitsSaid endpoint line) = true
+awaits_waits _ = false
 
 -- does a line that stands in these blocks stand in the other branch of that one? No way leads from the one to the other then.
 abbrev pub is_across : Under → Under → Bool
@@ -51,17 +47,42 @@ awaits_before thread under line =
 abbrev pub last_await : (thread : List ℕ) → (under : List Under) → List LineSaid → Option ℕ
 last_await thread under lines = last_from (awaits_before thread under) 0 None lines
 
--- the last one, if each way to here takes it: on another way else another line, or none, awaited waits last
-abbrev pub failed_of : (under : List Under) → LineSaid → Option Condition
-failed_of under line = if list_all (stands_in under) line.under then failed_by line.saying else None
+-- is a branch of an `if` the one that is gone where the waits were aborted that were awaited last before it?
+abbrev pub asks_failed : (so : Bool) → SayingSaid → Bool
+asks_failed so (LooksSaid (condition.Failed endpoint line) holds) = if so then holds else not holds
+asks_failed so _ = false
 
-abbrev pub failed_in : (under : List Under) → Option LineSaid → Option Condition
-failed_in under None = None
-failed_in under (Some line) = failed_of under line
+abbrev pub is_where_failed : (so : Bool) → Option LineSaid → Bool
+is_where_failed so None = false
+is_where_failed so (Some line) = asks_failed so line.saying
+
+-- does the line at a place stand in a block?
+abbrev pub is_in_block : Under → Option LineSaid → Bool
+is_in_block block None = false
+is_in_block block (Some line) = stands_in line.under block
+
+-- Waits that are submitted in such a branch, and awaited there: on a way that leaves it out none was aborted, neither of those that were
+-- awaited before it nor of these.
+abbrev pub is_retry : List LineSaid → (line : ℕ) → Under → Bool
+is_retry lines line block = is_where_failed block.so (slice_get lines block.line) && is_in_block block (slice_get lines line)
+
+abbrev pub is_of_each_way : List LineSaid → (under : List Under) → (line : ℕ) → Under → Bool
+is_of_each_way lines under line block = stands_in under block || is_retry lines line block
+
+-- the last one, if it says of each way to here whether the waits were aborted that were awaited last: else on another way another line
+-- awaited waits last, or none
+abbrev pub failed_of : List LineSaid → (under : List Under) → (blocks : List Under) → SayingSaid → Option Condition
+failed_of lines under blocks (AwaitsWaitsSaid endpoint line) =
+    if list_all (is_of_each_way lines under line) blocks then Some (condition.Failed endpoint line) else None
+failed_of lines under blocks _ = None
+
+abbrev pub failed_in : List LineSaid → (under : List Under) → Option LineSaid → Option Condition
+failed_in lines under None = None
+failed_in lines under (Some line) = failed_of lines under line.under line.saying
 
 abbrev pub failed_from : (under : List Under) → List LineSaid → Option ℕ → Option Condition
 failed_from under lines None = None
-failed_from under lines (Some place) = failed_in under (slice_get lines place)
+failed_from under lines (Some place) = failed_in lines under (slice_get lines place)
 
 abbrev pub failed_behind : (thread : List ℕ) → (under : List Under) → List LineSaid → Option Condition
 failed_behind thread under lines = failed_from under lines (last_await thread under lines)

@@ -146,14 +146,14 @@ fn is_block(block: Under, own: Under) -> bool
 }
 
 /// Whether a line that stands in these blocks stands in that one.
-fn stands_in(under: &[Under], block: Under) -> bool
+pub(crate) fn stands_in(under: &[Under], block: Under) -> bool
     ensures { result ≡ awaits.stands_in under.now block }
 {
     under.iter().any(|own| is_block(block, *own))
 }
 
 /// Whether a line that stands in these blocks stands in each of those.
-pub(crate) fn stands_in_all(under: &[Under], blocks: &[Under]) -> bool
+fn stands_in_all(under: &[Under], blocks: &[Under]) -> bool
     ensures { result ≡ list_all (awaits.stands_in under.now) blocks.now }
 {
     blocks.iter().all(|block| stands_in(under, *block))

@@ -1,12 +1,13 @@
 //! The line of an invalidation that runs out of time, and what `if failed` looks at.
 
 ghost use Rattle.std.specs.Prelude.{◌≡◌, ◌≤◌, map, slice_get};
-ghost use Rattle.std.specs.List.{list_any};
+ghost use Rattle.std.specs.List.{list_all, list_any};
 ghost use Rattle.sva_driver_words.specs.Awaits.{line_seen};
 ghost use Rattle.sva_driver_words.specs.Sayings.{read_seen, saying_seen};
+ghost use Rattle.sva_driver_words.specs.Sayings.SayingSaid.{LooksSaid};
 ghost use Rattle.sva_driver_words.specs.Timeouts as timeouts;
 
-use crate::awaits::stands_in_all;
+use crate::awaits::stands_in;
 use crate::faults::{BranchWanted, DriverWanted, DriverWrong, judge_end, wrong_at};
 use crate::fields::{endpoint_at, itag_at};
 use crate::kept::{LineRead, Under};
@@ -29,30 +30,20 @@ pub(crate) fn expire_line(config: &Config, words: &[&[u8]]) -> Result<Saying, Dr
     })
 }
 
-/// What is looked at behind a line that awaits waits: whether they were aborted.
-fn failed_by(saying: &Saying) -> Option<Condition>
-    ensures { result ≡ timeouts.failed_by (saying_seen saying.now) }
+/// Whether a line awaits waits.
+fn awaits_waits(saying: &Saying) -> bool
+    ensures { result ≡ timeouts.awaits_waits (saying_seen saying.now) }
 {
     match saying {
-        Saying::AwaitsWaits { endpoint, line } => Some(Condition::Failed {
-            endpoint: *endpoint,
-            line: *line,
-        }),
+        Saying::AwaitsWaits { .. } => true,
         Saying::Does { .. }
         | Saying::Names { .. }
         | Saying::AwaitsLine { .. }
         | Saying::Locks { .. }
         | Saying::Unlocks { .. }
         | Saying::Sets { .. }
-        | Saying::Looks { .. } => None,
+        | Saying::Looks { .. } => false,
     }
-}
-
-/// Whether a line awaits waits.
-fn awaits_waits(saying: &Saying) -> bool
-    ensures { result ≡ timeouts.awaits_waits (saying_seen saying.now) }
-{
-    failed_by(saying).is_some()
 }
 
 /// Whether one is the other branch of the `if` of a block.
@@ -97,18 +88,106 @@ fn last_await(thread: &[u8], under: &[Under], lines: &[LineRead]) -> Option<usiz
     None
 }
 
-/// What is looked at behind a line, if each way to these blocks takes it.
-fn failed_of(under: &[Under], line: &LineRead) -> Option<Condition>
-    ensures { result ≡ timeouts.failed_of under.now (line_seen line.now) }
+/// Whether a branch is the one that is gone where waits were aborted, by what its `if` looks at and finds.
+fn is_failed(so: bool, condition: &Condition, holds: bool) -> bool
+    ensures { result ≡ timeouts.asks_failed so (LooksSaid condition.now holds) }
 {
-    if !stands_in_all(under, line.under.as_slice()) {
-        return None;
+    match condition {
+        Condition::Failed { .. } => { if so { holds } else { !holds } }
+        Condition::Flag { .. }
+        | Condition::Present { .. }
+        | Condition::Stopped { .. }
+        | Condition::Filed { .. }
+        | Condition::Queued { .. }
+        | Condition::Gone { .. }
+        | Condition::Overflowed { .. } => false,
     }
-    failed_by(&line.saying)
 }
 
-/// What `failed` looks at in these blocks, behind these lines: the waits that one line awaits which each way to here
-/// takes last.
+/// Whether a branch of an `if` is the one that is gone where the waits were aborted that were awaited last before it.
+fn asks_failed(so: bool, saying: &Saying) -> bool
+    ensures { result ≡ timeouts.asks_failed so (saying_seen saying.now) }
+{
+    match saying {
+        Saying::Looks {
+            condition,
+            so: holds,
+        } => is_failed(so, condition, *holds),
+        Saying::Does { .. }
+        | Saying::Names { .. }
+        | Saying::AwaitsLine { .. }
+        | Saying::AwaitsWaits { .. }
+        | Saying::Locks { .. }
+        | Saying::Unlocks { .. }
+        | Saying::Sets { .. } => false,
+    }
+}
+
+fn is_where_failed(lines: &[LineRead], block: Under) -> bool
+    ensures { result ≡ timeouts.is_where_failed block.so (slice_get (map line_seen lines.now) block.line) }
+{
+    match lines.get(block.line) {
+        None => false,
+        Some(line) => asks_failed(block.so, &line.saying),
+    }
+}
+
+/// Whether the line at a place stands in a block.
+fn is_in_block(lines: &[LineRead], place: usize, block: Under) -> bool
+    ensures { result ≡ timeouts.is_in_block block (slice_get (map line_seen lines.now) place) }
+{
+    match lines.get(place) {
+        None => false,
+        Some(line) => stands_in(line.under.as_slice(), block),
+    }
+}
+
+/// Whether waits that a line submits in a block are a retry: the block is gone where others were aborted.
+fn is_retry(lines: &[LineRead], place: usize, block: Under) -> bool
+    ensures { result ≡ timeouts.is_retry (map line_seen lines.now) place block }
+{
+    is_where_failed(lines, block) && is_in_block(lines, place, block)
+}
+
+fn is_of_each_way(lines: &[LineRead], under: &[Under], place: usize, block: Under) -> bool
+    ensures { result ≡ timeouts.is_of_each_way (map line_seen lines.now) under.now place block }
+{
+    stands_in(under, block) || is_retry(lines, place, block)
+}
+
+/// Whether it is so of each of these blocks.
+fn are_of_each_way(lines: &[LineRead], under: &[Under], place: usize, blocks: &[Under]) -> bool
+    ensures { result ≡ list_all (timeouts.is_of_each_way (map line_seen lines.now) under.now place) blocks.now }
+{
+    blocks
+        .iter()
+        .all(|block| is_of_each_way(lines, under, place, *block))
+}
+
+/// What is looked at behind a line that stands in blocks, if that says of each way to here whether the waits were
+/// aborted that were awaited last.
+fn failed_of(
+    lines: &[LineRead],
+    under: &[Under],
+    blocks: &[Under],
+    saying: &Saying,
+) -> Option<Condition>
+    ensures { result ≡ timeouts.failed_of (map line_seen lines.now) under.now blocks.now (saying_seen saying.now) }
+{
+    let Saying::AwaitsWaits { endpoint, line } = saying else {
+        return None;
+    };
+    if !are_of_each_way(lines, under, *line, blocks) {
+        return None;
+    }
+    Some(Condition::Failed {
+        endpoint: *endpoint,
+        line: *line,
+    })
+}
+
+/// What `failed` looks at in these blocks, behind these lines: the waits that the last line awaits which a way to here
+/// takes. On each way they have to be the last, or to be the retry of those that are.
 pub(crate) fn failed_behind(thread: &[u8], under: &[Under], lines: &[LineRead]) -> Option<Condition>
     ensures { result ≡ timeouts.failed_behind thread.now under.now (map line_seen lines.now) }
 {
@@ -117,7 +196,7 @@ pub(crate) fn failed_behind(thread: &[u8], under: &[Under], lines: &[LineRead]) 
     };
     match lines.get(place) {
         None => None,
-        Some(line) => failed_of(under, line),
+        Some(line) => failed_of(lines, under, line.under.as_slice(), &line.saying),
     }
 }
 

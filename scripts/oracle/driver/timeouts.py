@@ -89,8 +89,24 @@ def find_failed(nodes, wrong, last=frozenset([None])):
                 line.looks = look(line, its)
                 if its is None:
                     wrong.append((line.number, 'failed', FAILED_OF))
-            last = find_failed(yes, wrong, last) | find_failed(no, wrong, last)
+            last = behind_if(line, last, (yes, find_failed(yes, wrong, last)), (no, find_failed(no, wrong, last)))
     return last
+
+
+def behind_if(line, last, *branches):
+    """What may be the last behind an `if`. Where it asks whether waits were aborted, and the branch for that awaits
+    others last, which it submits itself, `failed` is of these, whichever branch was gone: the other awaits none, so on it
+    none was aborted."""
+    (retry, tried), (_, kept) = reversed(branches) if 'not' in line.words else branches
+    if line.words[-1] == 'failed' and kept == last and len(tried) == 1 and tried != last:
+        its, = tried
+        if its and is_within(its.awaited[0], retry):
+            return tried
+    return tried | kept
+
+
+def is_within(line, nodes):
+    return any(line is own or is_within(line, yes) or is_within(line, no) for own, yes, no in nodes)
 
 
 def behind_await(last, line):

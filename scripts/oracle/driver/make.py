@@ -43,7 +43,7 @@ class Maker:
         found += [s for s in pairs if s and self.chance(0.35)]
         found += [self.one('stopped status', 'stopped known')] if self.chance(0.5) else []
         chances = (('refuses drain', .15), ('allow no-group', .2), ('enables cleared', .1),
-                   (f'timeouts {self.one("on", "stop")}', .12))
+                   (f'timeouts {self.one("on", "stop")}', .12), (f'places {self.one(1, 2)}', .1))
         return found + [s for s, p in chances if self.chance(p)]
 
     def devices(self):

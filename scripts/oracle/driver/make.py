@@ -44,7 +44,7 @@ class Maker:
         found += [s for s in pairs if self.chance(0.35)]
         found += [self.one('stopped status', 'stopped known')] if self.chance(0.5) else []
         chances = (('refuses drain', .15), ('allow no-group', .2), ('enables cleared', .1),
-                   (f'timeouts {self.one("on", "stop")}', .12))
+                   (f'timeouts {self.one("on", "stop")}', .12), (f'places {self.one(1, 2)}', .1))
         return found + [s for s, p in chances if self.chance(p)]
 
     def devices(self):
@@ -237,7 +237,7 @@ def make_mutant(rng):
     lines = [' '.join(words) for _, words in written.out(rng.choice(EXAMPLES).read_text(encoding='utf-8'))]
     m = Maker(rng)
     m.ends = int(lines[0].split()[1])
-    settings = ('platform', 'unit', *Settings.pairs, *Settings.flags)
+    settings = ('platform', 'unit', 'places', *Settings.pairs, *Settings.flags)
     head, rest = lines[:1], [x for x in lines[1:] if x.split()[0] not in settings]
     old = [x for x in lines[1:] if x not in rest]
     settings = old if m.chance(0.6) else m.settings() + [x for x in old if x.split()[0] == 'unit']

@@ -45,7 +45,8 @@ def look(m):
     e, p = m.e(), m.p()
     of = m.one('', f' {p}')
     return 'if ' + m.one('', 'not ') + m.one(m.one(*FLAGS), m.one(*FLAGS), f'present {e} {p}', f'present {e} {p}',
-                                             f'stopped {e} {p}', f'filed {e}{of}', f'filed {e}{of}', f'queued {e}{of}')
+                                             f'stopped {e} {p}', f'filed {e}{of}', f'filed {e}{of}', f'queued {e}{of}',
+                                             f'overflow {e}')
 
 
 def flag(m):

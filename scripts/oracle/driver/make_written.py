@@ -2,7 +2,7 @@
 
 from world import Settings
 
-HEADS = {'config', 'platform', 'race', 'thread', 'device', 'workers', 'def', *Settings.pairs, *Settings.flags}
+HEADS = {'config', 'platform', 'race', 'thread', 'device', 'workers', 'places', 'unit', 'def', *Settings.pairs, *Settings.flags}
 PARAMETERS = ('$x', '$xy', '$x-1', '$e')
 OTHERS = {'16': '17', '17': '16', '0x10': '0x11', 'on': 'off', 'off': 'on', 'x': 'y-2', 'success': 'invalid'}
 BEGIN = ('if', 'repeat')

@@ -5,7 +5,7 @@ import collections
 
 from .pages import MOST_ACTS
 
-SETTINGS = ("link posted", "waits plain", "drain arrived", "caches on", "stopped status")
+SETTINGS = ("platform vt-d", "stopped status")
 PAGES = "config 1 %d 1\n%sdevice 0 %d asks %d uses pages 16"
 OTHERS = "config 1 %d 1\nworkers success\n%sdevice 0 1 asks 1 uses 1 faults pages 16"
 MOST_SHAPES = 4096

@@ -181,7 +181,7 @@ def quoted(text, words):
 
 def needs_in_python(text):
     """The texts of what an act needs."""
-    for it in re.compile(r"'([a-z]+ needs [^']*)'").finditer(text, *block_in_python("NEEDS", text)):
+    for it in re.compile(r"'([a-z]+ (?:with(?:out)? a place )?needs [^']*)'").finditer(text, *block_in_python("NEEDS", text)):
         yield it[1], it.end(1) - 1, it.end(1)
 
 

@@ -10,7 +10,7 @@ from make_controls import act_of_controls, make_controls
 from make_loose import loosened, make_loose
 from make_overflows import make_overflows
 from make_timeouts import make_timeouts
-from make_units import make_units
+from make_units import make_units, some_below_one
 from make_written import folded
 from make_branches import Blocks, branched, make_looks, mend, taken_in_block, with_branches
 from reading import CODES, KINDS, Driver, need
@@ -26,8 +26,9 @@ AWAITED = set("""wait stopped passed queue groups reset idle gone""".split())
 class Maker:
     def __init__(self, rng):
         self.rng = rng
-        self.ends = 1 if rng.random() < 0.9 else 2
-        self.head = [f'config {self.ends} 4 1'] + self.settings()
+        self.ends = rng.choices((1, 2, 3), (45, 40, 15))[0]
+        text = '\n'.join([f'config {self.ends} 4 1'] + self.settings())
+        self.head = (some_below_one(self, text) if self.chance(0.65) else text).split('\n')
 
     def one(self, *words):
         return self.rng.choice(words)
@@ -383,6 +384,7 @@ def make_any(rng):
     with_maker = make_looks, make_controls, make_timeouts, make_units, make_barriers, make_overflows, make_loose
     text = made(Maker(rng) if made in with_maker else rng)
     text = loosened(Maker(rng), text) if rng.random() < 0.2 else text
+    text = some_below_one(Maker(rng), text) if rng.random() < 0.7 else text
     return folded(Maker(rng), text) if rng.random() < 0.12 else text
 
 

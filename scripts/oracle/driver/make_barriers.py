@@ -98,7 +98,7 @@ def settings(m):
 def make_barriers(m, theme=None):
     theme = theme or m.one(*THEMES)
     its, recipes = THEMES[theme]
-    m.ends = m.one(1, 1, 1, 1, 1, 2)
+    m.ends = m.one(1, 1, 1, 2)
     head, devices, before = settings(m), [], ['pte 0 16 0 w']
     for e in range(m.ends):
         acts, budget = its(m, e)

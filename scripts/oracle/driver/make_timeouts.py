@@ -111,7 +111,7 @@ def device(m, e, theme):
 
 def make_timeouts(m, theme=None):
     theme = theme or m.one(*THEMES)
-    m.ends = m.one(1, 1, 1, 1, 1, 2)
+    m.ends = m.one(1, 1, 1, 2)
     before = ['pte 0 16 0 w'] + [x for e in range(m.ends)
                                  for x in [f'entry {e} 1 0', f'start {e} 1', f'deliver start {e}'] + begun(m, e, theme)]
     threads = [m.one(*THEMES[theme])(m, m.e())]

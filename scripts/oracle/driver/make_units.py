@@ -12,6 +12,17 @@ def shared(m):
     return 'unit ' + ' '.join(str(e) for e in m.below)
 
 
+def some_below_one(m, text):
+    """The same text, where each endpoint has a unit of its own, with some that share one."""
+    lines = text.split('\n')
+    ends = int(lines[0].split()[1])
+    if ends < 2 or any(x.startswith('unit ') for x in lines):
+        return text
+    below = range(ends) if ends < 3 or m.chance(0.3) else m.rng.sample(range(ends), 2)
+    at = 2 if lines[1:] and lines[1].startswith('platform') else 1
+    return '\n'.join(lines[:at] + ['unit ' + ' '.join(str(e) for e in below)] + lines[at:])
+
+
 def any_below(m):
     return m.one(*m.below)
 

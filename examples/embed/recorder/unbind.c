@@ -11,7 +11,7 @@
  *     $ cc -I../../../include -DMENDED unbind.c -o mended
  *     $ ./mended > mended.svd
  *     $ svahost judge < mended.svd | head -n 1
- *     safe in all 3045 moments
+ *     safe in all 2967 moments
  *
  * The driver's own code (below) knows nothing of the recorder: macros tell the line of each call, and what is called is a
  * stub that records. In the report of `svahost judge < faulty.svd` a witness names lines of faulty.svd; which line of this

@@ -119,7 +119,8 @@ class Maker:
         n = self.one('', '', ' 0', ' 1')
         return self.one(
             f'ask {e} {p} {page}', f'ask {e} {p} {page}', f'use {e} {p} {page}', f'evict {e} {p} {page}', f'end {e}{n}',
-            f'finish {e}{n}', f'pass {e}{n}', f'quit {e} {p}', f'pump {e}', f'pump {e} {self.one(0, 0, 1, 2)}', f'write {e}',
+            f'finish {e}{n}', f'pass {e}{n}', f'quit {e} {p}', f'pump {e}', f'pump {e} {self.one(0, 0, 1, 2)}',
+            f'write {e}',
             f'forget {e} {p}' + self.one('', f' {page}'), f'expire {e} {self.one(0, 0, 1)}',
             f'fault {e} {p} {page} {self.one("r", "w", "rw")} {self.one("new", "new", 0)} {self.one("more", "last")}',
             *[f'deliver {kind} {e}{n}'] * 6)

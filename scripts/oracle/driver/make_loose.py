@@ -30,8 +30,9 @@ def batch(m, theme, most):
 def act(m):
     """What may come next at a unit that has taken some."""
     n = m.rng.randrange(6)
-    return m.one(*[f'pump 0 {n}'] * 8, 'deliver invalidate 0', 'finish 0', 'deliver invalidated 0', 'skip 0', 'expire 0 0',
-                 'expire 0 1', f'submit 0 {batch(m, "places", 2)}', 'resume 0', 'pump 0', 'ats 0 off', 'ats 0 on')
+    return m.one(*[f'pump 0 {n}'] * 8, 'deliver invalidate 0', 'finish 0', 'deliver invalidated 0', 'skip 0',
+                 'expire 0 0', 'expire 0 1', f'submit 0 {batch(m, "places", 2)}', 'resume 0', 'pump 0', 'ats 0 off',
+                 'ats 0 on')
 
 
 def places(m):
@@ -56,7 +57,8 @@ def kept(m):
     if m.chance(0.35):
         m.rng.shuffle(which)
     which = [x for x in which if m.chance(0.85)]
-    lines = change + submitted(m, which) + ['await wait 0'] + m.one(['free 0'], ['free 0'], ['free space 0'], ['freeze 0'])
+    lines = change + submitted(m, which) + ['await wait 0']
+    lines += m.one(['free 0'], ['free 0'], ['free space 0'], ['freeze 0'])
     return head(m, 'kept') + [f'device 0 {asks} asks pages 16'] + before + ['race'] + lines
 
 

@@ -104,8 +104,10 @@ PLACES, KEPT, LATE = (unordered(theme) for theme in ('places', 'kept', 'late'))
 OF_LOOSE = [
     Reading('an invalidation in an endpoint goes ahead of one in the IOTLB', loose, 'bars', bars_less('device'), KEPT),
     Reading('one in the IOTLB goes ahead of one of an entry', loose, 'bars', bars_less('iotlb'), PLACES),
-    Reading('an invalidation in an endpoint awaits that of an entry', loose, 'bars', bars_more('device', 'entry'), PLACES),
-    Reading('that of an entry awaits what stands before it', loose, 'bars', bars_more('entry', 'iotlb', 'device'), PLACES),
+    Reading('an invalidation in an endpoint awaits that of an entry', loose, 'bars', bars_more('device', 'entry'),
+            PLACES),
+    Reading('that of an entry awaits what stands before it', loose, 'bars', bars_more('entry', 'iotlb', 'device'),
+            PLACES),
     Reading('one awaits others of its kind', loose, 'bars', bars_more('device', 'device'), PLACES),
     Reading('what stands behind a fence is taken', loose, 'bars_all', of_waits(world.is_refused), PLACES),
     Reading('what stands behind a refused wait is taken', loose, 'bars_all', of_waits(world.is_fence), PLACES),

@@ -81,8 +81,9 @@ def compare(text, report, by_lists=True):
     if kind == 'apart' or apart.comes_apart(driver, world):
         fault = compare_apart(driver, world, report, (verdict, shown), most_of(text))
         if fault or kind == 'apart':
-            by_lists = by_lists and verdict != 'cut'
-            return fault or by_lists and compare_lists(driver, world, verdict, events, shown) or None, 'endpoint by endpoint'
+            if not fault and by_lists and verdict != 'cut':
+                fault = compare_lists(driver, world, verdict, events, shown)
+            return fault, 'endpoint by endpoint'
     if verdict == 'cut' or kind == 'cut':
         return compare_cut(verdict, events, kind, number, counts), 'cut off'
     fault = compare_lists(driver, world, verdict, events, shown) if by_lists else None

@@ -308,8 +308,7 @@ def pump(world, port, settings):
 
 
 def skip(world, port):
-    """"Takes the head out", or the first that wasn't sent, "whatever it is. What it asked for is never done; a wait that
-    is taken out counts as done."""
+    """"Takes the head out", or the first that wasn't sent; "it is never done, but a wait counts as done"."""
     n = loose.unsent(port.queue)[0]
     head, port.queue = port.queue[n], drop(port.queue, n)
     if head[0] == 'wait':

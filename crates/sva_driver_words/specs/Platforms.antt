@@ -27,15 +27,17 @@ timeouts_words timeouts.Off = codes ""
 timeouts_words timeouts.On = codes ", timeouts on"
 timeouts_words timeouts.Stop = codes ", timeouts stop"
 
--- the settings of a pair
-abbrev pub pairs_text : Settings → List ℕ
-pairs_text settings =
+-- the settings of a pair, of which the order of descriptors is the last
+unfoldable pub first_pairs : Settings → List ℕ
+first_pairs settings =
     link_words settings.link
     ++ one_of settings.all_fence (codes ", waits fence") (codes ", waits plain")
     ++ one_of settings.drain_empties (codes ", drain empty") (codes ", drain arrived")
     ++ one_of settings.has_caches (codes ", caches on") (codes ", caches off")
     ++ stopped_words settings.stopped
-    ++ one_of settings.is_loose (codes ", order loose") (codes ", order queue")
+
+abbrev pub pairs_text : Settings → List ℕ
+pairs_text settings = first_pairs settings ++ one_of settings.is_loose (codes ", order loose") (codes ", order queue")
 
 -- the settings that are told only where they are said
 abbrev pub unpaired_text : Settings → List ℕ
@@ -80,15 +82,23 @@ other_text is_begun so word = if so then mark is_begun ++ word else []
 abbrev pub others_end : (is_begun : Bool) → List ℕ
 others_end is_begun = if is_begun then 10 ∷ [] else []
 
-abbrev pub others_by : (waits drain caches status known order : Bool) → List ℕ
-others_by waits drain caches status known order =
+-- the order of descriptors is the last of these too
+unfoldable pub first_others : (waits drain caches status known : Bool) → List ℕ
+first_others waits drain caches status known =
     other_text false waits (codes "waits plain")
     ++ other_text waits drain (codes "drain arrived")
     ++ other_text (waits || drain) caches (codes "caches on")
     ++ other_text ((waits || drain) || caches) status (codes "stopped status")
     ++ other_text (((waits || drain) || caches) || status) known (codes "stopped known")
-    ++ other_text ((((waits || drain) || caches) || status) || known) order (codes "order loose")
-    ++ others_end (((((waits || drain) || caches) || status) || known) || order)
+
+abbrev pub is_any_other : (waits drain caches status known : Bool) → Bool
+is_any_other waits drain caches status known = (((waits || drain) || caches) || status) || known
+
+abbrev pub others_by : (waits drain caches status known order : Bool) → List ℕ
+others_by waits drain caches status known order =
+    first_others waits drain caches status known
+    ++ other_text (is_any_other waits drain caches status known) order (codes "order loose")
+    ++ others_end (is_any_other waits drain caches status known || order)
 
 abbrev pub not_asked_text : Settings → List ℕ
 not_asked_text settings =

@@ -44,9 +44,9 @@ fn timeouts_words(timeouts: Timeouts) -> &'static str
     }
 }
 
-/// Appends each setting of a pair, also where it is the one that holds where nothing is said.
-fn put_pairs(out: &mut Vec<u8>, settings: &Settings) -> Result<(), AllocError>
-    ensures { OnOk result (out.new.items ≡ out.old.items ++ platforms.pairs_text settings.now) }
+/// Appends each setting of a pair but the order of descriptors.
+fn put_first_pairs(out: &mut Vec<u8>, settings: &Settings) -> Result<(), AllocError>
+    ensures { OnOk result (out.new.items ≡ out.old.items ++ platforms.first_pairs settings.now) }
 {
     out.extend_from_slice(link_words(settings.link).as_bytes())?;
     let waits = one_of(settings.all_fence, ", waits fence", ", waits plain");
@@ -56,6 +56,14 @@ fn put_pairs(out: &mut Vec<u8>, settings: &Settings) -> Result<(), AllocError>
     let caches = one_of(settings.has_caches, ", caches on", ", caches off");
     out.extend_from_slice(caches.as_bytes())?;
     out.extend_from_slice(stopped_words(settings.stopped).as_bytes())?;
+    Ok(())
+}
+
+/// Appends each setting of a pair, also where it is the one that holds where nothing is said.
+fn put_pairs(out: &mut Vec<u8>, settings: &Settings) -> Result<(), AllocError>
+    ensures { OnOk result (out.new.items ≡ out.old.items ++ platforms.pairs_text settings.now) }
+{
+    put_first_pairs(out, settings)?;
     let order = one_of(settings.is_loose, ", order loose", ", order queue");
     out.extend_from_slice(order.as_bytes())?;
     Ok(())
@@ -149,6 +157,36 @@ fn put_others_end(out: &mut Vec<u8>, is_begun: bool) -> Result<(), AllocError>
     out.extend_from_slice(b"\n")
 }
 
+/// Whether one of these is there.
+fn is_any_other(waits: bool, drain: bool, caches: bool, status: bool, known: bool) -> bool
+    ensures { result ≡ platforms.is_any_other waits drain caches status known }
+{
+    waits || drain || caches || status || known
+}
+
+/// Appends those of these that are there.
+fn put_first_others(
+    out: &mut Vec<u8>,
+    waits: bool,
+    drain: bool,
+    caches: bool,
+    status: bool,
+    known: bool,
+) -> Result<(), AllocError>
+    ensures { OnOk result (out.new.items
+        ≡ out.old.items ++ platforms.first_others waits drain caches status known) }
+{
+    let behind_drain = either(waits, drain);
+    let behind_caches = either(behind_drain, caches);
+    let behind_status = either(behind_caches, status);
+    put_other(out, false, waits, "waits plain")?;
+    put_other(out, waits, drain, "drain arrived")?;
+    put_other(out, behind_drain, caches, "caches on")?;
+    put_other(out, behind_caches, status, "stopped status")?;
+    put_other(out, behind_status, known, "stopped known")?;
+    Ok(())
+}
+
 /// Appends a line with what leaves more open than these settings do, and so wasn't asked, where there is such a thing:
 /// `not asked: waits plain, drain arrived, caches on, stopped status, stopped known, order loose`.
 pub fn put_not_asked(out: &mut Vec<u8>, settings: &Settings) -> Result<(), AllocError>
@@ -159,18 +197,11 @@ pub fn put_not_asked(out: &mut Vec<u8>, settings: &Settings) -> Result<(), Alloc
     let caches = !settings.has_caches;
     let status = may_be_status(settings.stopped);
     let known = may_be_known(settings.link, settings.stopped);
-    let behind_drain = either(waits, drain);
-    let behind_caches = either(behind_drain, caches);
-    let behind_status = either(behind_caches, status);
     let order = !settings.is_loose;
-    let behind_known = either(behind_status, known);
-    let behind_order = either(behind_known, order);
-    put_other(out, false, waits, "waits plain")?;
-    put_other(out, waits, drain, "drain arrived")?;
-    put_other(out, behind_drain, caches, "caches on")?;
-    put_other(out, behind_caches, status, "stopped status")?;
-    put_other(out, behind_status, known, "stopped known")?;
-    put_other(out, behind_known, order, "order loose")?;
-    put_others_end(out, behind_order)?;
+    let is_begun = is_any_other(waits, drain, caches, status, known);
+    let is_any = either(is_begun, order);
+    put_first_others(out, waits, drain, caches, status, known)?;
+    put_other(out, is_begun, order, "order loose")?;
+    put_others_end(out, is_any)?;
     Ok(())
 }

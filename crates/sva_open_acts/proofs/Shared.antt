@@ -33,7 +33,7 @@ pub quiet_step : (endpoint : ℕ) (its : LocalAct) (now mid : Open) (done : Bool
     → IsStep (at_endpoint now endpoint its) done now mid
     → IsStep (shared_by now.units endpoint its now.parts (at_endpoint now endpoint its)) done now mid
 quiet_step endpoint its now mid done free quiet h =
-    let tells = with_told now.units endpoint its (head_of (slice_get now.parts endpoint)) in
+    let tells = with_told now.units endpoint its (head_of its (slice_get now.parts endpoint)) in
     let next = at_endpoint now endpoint its in
     subst (λ (o : Option Open). IsStep o done now mid)
     (sym (chosen (awaits_all its && list_any (holds_up now.units endpoint) now.parts) (is_of_unit its) (option_map tells next) next free))

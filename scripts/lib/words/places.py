@@ -107,7 +107,7 @@ sva_driver_words: fault_line = 'new'
 sva_driver_words: is_lock_word = act=L
 sva_driver_words: lock_said = act=L but one
 sva_driver_words: read_plain+read_other+read_own+read_saying plain_by+other_by+own_by+saying_by = act - act=E - act=E_P - act=E_P_PAGE - act=E_on|off - act=L - act=NAME + 'await'
-sva_driver_words: link_words+put_pairs+put_unpaired+put_platform+pairs_text+unpaired_text+platform_text+stopped_words+timeouts_words = 'with' + setting - 'platform' - 'unit' + setting.* - 'vt-d' - 'kept'
+sva_driver_words: link_words+put_first_pairs+put_pairs+put_unpaired+put_platform+first_pairs+pairs_text+unpaired_text+platform_text+stopped_words+timeouts_words = 'with' + setting - 'platform' - 'unit' + setting.* - 'vt-d' - 'kept'
 sva_driver_words: put_unit unit_text = 'unit'
 sva_driver_texts: counted = part/d@budget
 sva_driver_texts: is_flag = part/d - part/d@budget - 'pages'

@@ -1,6 +1,7 @@
 //! The program svahost: it hands its words, its streams and the files that it names to the commands.
 #![tactic(auto)]
 
+mod cutting;
 mod files;
 mod reading;
 mod telling;
@@ -9,7 +10,7 @@ ghost use Rattle.std.specs.Prelude.{◌≤◌};
 
 use crate::files::{Files, files_in};
 use crate::reading::Disk;
-use crate::telling::{mistaken, run_on, search_on};
+use crate::telling::{mistaken, run_one, search_on};
 use std::io;
 use std::io::IsTerminal;
 use std::process::ExitCode;
@@ -46,20 +47,21 @@ fn main(rt: HostRuntime) -> ExitCode {
     let mut watch = Progress::new(alloc, rt.stderr(), &rt, is_terminal);
     let mut output = Told::new(rt.stdout());
     let disk = Disk { rt: &rt };
+    let mut input = Told::new(rt.stdin());
     let status = match files_in(alloc, processors(&rt), words) {
         Ok(Files::Input { own }) => {
             let own = own.as_slice();
-            let mut input = Told::new(rt.stdin());
             main_with(&rt, own, &mut input, &mut output, &mut errors, &mut watch)
         }
-        Ok(Files::One { own, file }) => {
-            let (own, file) = (own.as_slice(), file.as_str());
-            run_on(&rt, &disk, own, file, &mut output, &mut errors, &mut watch)
+        Ok(Files::One(one)) => {
+            let (input, output, errors) = (&mut input, &mut output, &mut errors);
+            run_one(&rt, &disk, &one, input, output, errors, &mut watch)
         }
         Ok(Files::Several(several)) => {
             let count = several.names.len();
             let meter = Searched::new(&rt, alloc, count, rt.stderr(), &rt, is_terminal);
-            search_on(&rt, &disk, &several, &mut output, &mut errors, &meter)
+            let (input, output, errors) = (&mut input, &mut output, &mut errors);
+            search_on(&rt, &disk, &several, input, output, errors, &meter)
         }
         Ok(Files::Wrong { said }) => mistaken(Ok(said), &mut errors),
         Err(_) => faulted(DriveFault::Memory, &mut errors),

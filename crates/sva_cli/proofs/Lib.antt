@@ -1,2 +1,2 @@
+mod InputLemmas
 mod ReadLemmas
-mod TellLemmas

@@ -1,3 +1,4 @@
+pub mod Inputs
 pub mod Spoken
 pub mod Cutting
 pub mod Reading

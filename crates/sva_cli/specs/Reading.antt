@@ -1,10 +1,11 @@
 -- What is read of files by their names. That a name opens a file, or that its file can't be read, is said by whoever opens it.
 use Rattle.std.specs.Global.{Global}
 use Rattle.std.specs.List.{AllZip}
-use Rattle.std.specs.Prelude.{◌≡◌, ◌⊎◌, ℕ, Bool, true, false, List, codes, any, take, IfSome, Option, Result, Ok, Err, String, string_bytes, Vec}
-use Rattle.std.specs.Str.{bytes_eq}
+use Rattle.std.specs.Prelude.{◌≡◌, ◌⊎◌, ℕ, Bool, true, false, List, nat_lt, take, IfSome, Option, Result, Ok, Err, String, string_bytes, Vec}
 use Rattle.std.specs.declared.alloc.AllocError.{AllocError}
 use Rattle.clap.specs.Words.{Text}
+use Rattle.sva_command.specs.Command.{texts}
+use Rattle.sva_cli.specs.Inputs.{inputs_in, is_input}
 use Rattle.sva_streams.specs.declared.reading.TheConstants.{MOST_KEPT}
 use Rattle.sva_streams.specs.declared.streams.DriveFault.{DriveFault}
 use Rattle.sva_streams.specs.declared.streams.DriveFault.TheVariants.{Read, Write, Memory}
@@ -34,12 +35,9 @@ IsReadOf remaining fails file (given.Unread why) = fails why
 
 -- ---- Standard input
 
--- `-` is its name
-abbrev pub is_input : Text → Bool
-is_input name = bytes_eq name (codes "-")
-
+-- one of the names is its own
 abbrev pub names_input : List (String Global) → Bool
-names_input names = any (λ name. is_input (string_bytes name)) names
+names_input names = nat_lt 0 (inputs_in (texts names))
 
 -- it is read where one of the names is its own
 abbrev pub IsStandard : (input : Option (List ℕ)) → (is_named : Bool) → Given → Type 0

@@ -1,7 +1,5 @@
 -- What the words of a command line say of files. How each word is taken is said by the definitions of sva_command, which part
 -- and how many at once too.
-use Rattle.std.specs.List.{count_by}
-use Rattle.std.specs.Str.{bytes_eq}
 use Rattle.std.specs.Prelude.{◌≡◌, ◌≢◌, ◌⊎◌, ℕ, ◌&&◌, ◌||◌, nat_lt, not, is_some, unwrap_or, Bool, true, false, codes, if◌then◌else◌}
 use Rattle.std.specs.Prelude.{List, [], ◌∷◌, ◌++◌, Option, Some, None, Result, Ok, Err, string_bytes}
 use Rattle.clap.specs.Words.{Text}
@@ -15,6 +13,7 @@ use Rattle.sva_command.specs.declared.files.Part.{Part}
 use Rattle.sva_command.specs.declared.files.Takes.{Takes}
 use Rattle.sva_command.specs.declared.files.Takes.TheVariants.{Many}
 use Rattle.sva_several.specs.declared.driving.Wanted.{Wanted}
+use Rattle.sva_cli.specs.Inputs.{inputs_in}
 use Rattle.sva_several.specs.declared.searching.Search.{Search}
 use Rattle.sva_several.specs.declared.searching.Search.TheVariants.{Drivers, Lines, Races, Steps, Tests, Whys}
 use Rattle.sva_cli.specs.declared.files.Files.{Files}
@@ -79,10 +78,6 @@ abbrev pub takes_one : List ℕ
 takes_one = codes "svahost: this command takes one file, and not one more, '"
 
 -- ---- Which files
-
--- how many of them are standard input
-abbrev pub inputs_in : List Text → ℕ
-inputs_in files = count_by (λ file. bytes_eq file (codes "-")) files
 
 abbrev pub are_none : List Text → Bool
 are_none [] = true

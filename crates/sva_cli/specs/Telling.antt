@@ -17,7 +17,8 @@ use Rattle.sva_several.specs.Told.{TellsAll}
 use Rattle.sva_program.specs.declared.run.Ending.{Ending}
 use Rattle.sva_program.specs.Run.{Reports, RunsOnText, Says, complaint, fault_line, is_streamed, is_strict, status_of}
 use Rattle.sva_cli.specs.Cutting.{cut}
-use Rattle.sva_cli.specs.Reading.{AreGiven, IsRead, IsStandard, is_input, names_input}
+use Rattle.sva_cli.specs.Inputs.{is_input}
+use Rattle.sva_cli.specs.Reading.{AreGiven, IsRead, IsStandard, names_input}
 use Rattle.sva_cli.specs.declared.files.One.{One}
 
 -- the line that tells of a file that can't be read

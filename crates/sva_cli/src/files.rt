@@ -4,12 +4,12 @@ ghost use Rattle.std.specs.Prelude.{◌≡◌, ◌++◌, IfOk, codes, string_byt
 ghost use Rattle.sva_command.specs.Command.{texts};
 ghost use Rattle.sva_cli.specs.Spoken as spoken;
 
+use crate::inputs::inputs_in;
 use clap::error::ErrorKind;
 use std::alloc::{AllocError, Global};
 use sva_command::{
     Asked, Awaited, Named, Takes, after_of, files_of, jobs_of, named_in, parse, part_of,
 };
-use sva_script::is;
 use sva_several::{Search, Wanted};
 
 /// One file, and what is wanted of it.
@@ -134,16 +134,6 @@ fn one_of(asked: Asked, after: Option<u64>, file: String) -> Files
     ensures { spoken.means result ≡ spoken.One asked after (string_bytes file) }
 {
     Files::One(One { asked, after, file })
-}
-
-/// How many of the names are `-`.
-fn inputs_in(files: &[String]) -> usize
-    ensures { result ≡ spoken.inputs_in (texts files.now) }
-{
-    files
-        .iter()
-        .filter(|file| is(file.as_str().as_bytes(), b"-"))
-        .count()
 }
 
 /// All files: one is read in the place of standard input, and several are searched.

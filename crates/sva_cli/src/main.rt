@@ -3,6 +3,7 @@
 
 mod cutting;
 mod files;
+mod inputs;
 mod reading;
 mod telling;
 

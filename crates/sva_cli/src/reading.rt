@@ -2,14 +2,14 @@
 
 ghost use Rattle.std.specs.Prelude.{◌≡◌, IfErr, IfOk, List, ℕ};
 ghost use Rattle.sva_streams.specs.Streams.{IsNew};
-ghost use Rattle.sva_cli.specs.Reading.{AreGiven, IsGiven, IsInput, IsOfFile, IsReadOf, IsRead, IsSame, IsStandard, given_by, is_input, names_input};
+ghost use Rattle.sva_cli.specs.Reading.{AreGiven, IsGiven, IsInput, IsOfFile, IsReadOf, IsRead, IsSame, IsStandard, given_by, names_input};
 
+use crate::inputs::{inputs_in, is_input};
 use std::alloc::{AllocError, Global};
 use std::fs::OpenFile;
 use std::io::{ErrorKind, Read};
 use std::rt::Files as FileSystem;
 use std::{fs, io};
-use sva_script::is;
 use sva_several::{Given, Lack};
 use sva_streams::{DriveFault, Told, read_all};
 
@@ -93,13 +93,6 @@ impl<'a, R: FileSystem> Opens for Disk<'a, R> {
     }
 }
 
-/// Whether a name is that of standard input.
-pub fn is_input(name: &str) -> bool
-    ensures { result ≡ is_input name.now }
-{
-    is(name.as_bytes(), b"-")
-}
-
 /// What the file of a name gives.
 fn read_file<S: Opens>(opens: &S, alloc: Global, name: &str) -> Result<Given, AllocError>
     ensures { IfOk result (IsOfFile (S.opened opens.now) S.File.remaining (S.fails opens.now) name.now) }
@@ -174,7 +167,7 @@ pub fn give_all<S: Opens>(
 fn names_input(names: &[String]) -> bool
     ensures { result ≡ names_input names.now }
 {
-    names.iter().any(|name| is_input(name.as_str()))
+    inputs_in(names) > 0
 }
 
 /// What standard input gives, if one of the names is its own. Else it isn't read.

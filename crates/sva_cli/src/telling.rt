@@ -6,7 +6,8 @@ ghost use Rattle.sva_cli.specs.Telling.{EndsSo, HaveGiven, RunsOne, SearchesName
 
 use crate::cutting::cut;
 use crate::files::{One, Several};
-use crate::reading::{Opens, give_all, is_input, read_input, read_one};
+use crate::inputs::is_input;
+use crate::reading::{Opens, give_all, read_input, read_one};
 use std::alloc::{AllocError, Global};
 use std::io::{Read, Write};
 use std::sync::Wait;
@@ -40,7 +41,7 @@ pub fn mistaken<E: Write>(said: Result<Vec<u8>, AllocError>, errors: &mut Told<E
             let _ = write_all(errors, said.as_slice());
             MISTAKE
         }
-        Err(_) => faulted(DriveFault::Memory, errors),
+        Err(AllocError) => faulted(DriveFault::Memory, errors),
     }
 }
 

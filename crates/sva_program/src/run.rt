@@ -95,7 +95,10 @@ pub fn main_with<X: AllocGlobal + Threads + Wait + Sync, R: Read, W: Write, E: W
         ⊎ ((result ≡ UNTRIED) × AsksStrict (texts words.now)) }
 {
     match parse(rt.alloc(), words) {
-        Ok(asked) => main_of(rt, asked, reader, writer, errors, watch),
+        Ok(asked) => {
+            let ended = perform(rt, asked, reader, writer, watch);
+            finish(is_strict(asked), ended, errors)
+        }
         Err(error) => answer(rt.alloc(), error.kind(), &error, writer, errors),
     }
 }

@@ -6,7 +6,7 @@ use Rattle.std.specs.List.{position}
 use Rattle.std.specs.declared.alloc.AllocError.{AllocError}
 use Rattle.sva_race_reports.specs.declared.judging.Judged.TheVariants as judged
 use Rattle.sva_driver_reports.specs.declared.reports.Ruling.TheVariants as ruling
-use Rattle.sva_located.specs.Located.{located}
+use Rattle.sva_located.specs.Located.{located, shown_name}
 use Rattle.sva_located.specs.declared.languages.Language.{Language}
 use Rattle.sva_located.specs.declared.languages.Language.TheVariants.{Scenario, Script, Race, Driver}
 use Rattle.sva_several.specs.declared.given.Given.{Given}
@@ -70,11 +70,11 @@ language_of Whys = Script
 -- what is said of a text that is wrong stands behind the places of its lines
 abbrev pub wrong_or_said : Search → (name text : List ℕ) → Said → Verdict → List ℕ
 wrong_or_said search name text said Wrong = located (language_of search) name text said.text.items
-wrong_or_said search name text said verdict = named name true (told search said.verdict said.text.items)
+wrong_or_said search name text said verdict = named (shown_name name) true (told search said.verdict said.text.items)
 
 abbrev pub told_text : Search → (name : List ℕ) → Given → Result Said AllocError → List ℕ
 told_text search name (given.Text text) (Ok said) = wrong_or_said search name text.items said said.verdict
-told_text search name given found = named name true (said_of search found)
+told_text search name given found = named (shown_name name) true (said_of search found)
 
 unfoldable pub lines_of : Search → (names : List (String Global)) → List Given → List (Result Said AllocError) → List ℕ
 lines_of search (name ∷ names) (given ∷ texts) (found ∷ all) = told_text search (string_bytes name) given found ++ lines_of search names texts all

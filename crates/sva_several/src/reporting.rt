@@ -10,7 +10,7 @@ use crate::searching::{Said, Search};
 use crate::verdicts::{Verdict, count};
 use std::alloc::{AllocError, Global};
 use sva_driver_reports::Ruling;
-use sva_located::{Language, located};
+use sva_located::{Language, located, shown_name};
 use sva_race_reports::Judged;
 use sva_script_reading::put_number;
 
@@ -105,7 +105,7 @@ fn put_told(
             text.as_slice(),
             report.as_slice(),
         ),
-        _ => put_named(out, name, said_of(search, found)),
+        _ => put_named(out, shown_name(name), said_of(search, found)),
     }
 }
 
@@ -121,11 +121,20 @@ fn put_lines(
     ensures { OnOk result (out.new.items ≡ out.old.items ++ lines.lines_of search names.now texts.now all.now) }
 {
     for place in 0..all.len() {
-        if place >= names.len() || place >= texts.len() {
+        if place >= names.len() {
             return Ok(());
         }
-        let name = names[place].as_bytes();
-        put_told(alloc, out, search, name, &texts[place], &all[place])?;
+        if place >= texts.len() {
+            return Ok(());
+        }
+        put_told(
+            alloc,
+            out,
+            search,
+            names[place].as_bytes(),
+            &texts[place],
+            &all[place],
+        )?;
     }
     Ok(())
 }

@@ -163,12 +163,7 @@ fn all_of(
 }
 
 /// What the words say of files, where this is wanted of several.
-fn of_files(
-    alloc: Global,
-    asked: Asked,
-    wanted: Wanted,
-    named: Named,
-) -> Result<Files, AllocError>
+fn of_files(alloc: Global, asked: Asked, wanted: Wanted, named: Named) -> Result<Files, AllocError>
     ensures { IfOk result (λ files. spoken.means files ≡ spoken.of_files asked wanted named) }
 {
     let Named {

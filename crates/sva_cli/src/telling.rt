@@ -160,14 +160,7 @@ fn texts_of<S: Opens, I: Read>(
 }
 
 /// A command on several files.
-pub fn search_on<
-    X: AllocGlobal + Threads + Sync,
-    S: Opens,
-    I: Read,
-    O: Write,
-    E: Write,
-    M: Meter,
->(
+pub fn search_on<X: AllocGlobal + Threads + Sync, S: Opens, I: Read, O: Write, E: Write, M: Meter>(
     rt: &X,
     opens: &S,
     several: &Several,

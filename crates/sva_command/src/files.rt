@@ -178,12 +178,7 @@ impl Model for Named {
 
 impl Named {
     /// Before the words behind a command.
-    fn begun(
-        alloc: Global,
-        takes: Takes,
-        name: &str,
-        command: &str,
-    ) -> Result<Named, AllocError>
+    fn begun(alloc: Global, takes: Takes, name: &str, command: &str) -> Result<Named, AllocError>
         ensures { IfOk result (λ named. named ≡ files.begun takes name.now command.now) }
     {
         let mut own = Vec::new(alloc);

@@ -12,14 +12,16 @@ pub const ABOUT: &str =
 pub const REPLAY: &str = "Runs the scenario on standard input or in a FILE, and prints its report";
 
 /// What `-h` says of `check`.
-pub const CHECK: &str = "Reads the scenario on standard input or in a FILE, and prints how many steps it has";
+pub const CHECK: &str =
+    "Reads the scenario on standard input or in a FILE, and prints how many steps it has";
 
 /// What `-h` says of `storm`.
 pub const STORM: &str =
     "Plays the scenario on standard input or in a FILE by threads, and prints what an audit of their calls says";
 
 /// What `-h` says of `plain`.
-pub const PLAIN: &str = "Prints the scenario that the script on standard input or in a FILE stands for";
+pub const PLAIN: &str =
+    "Prints the scenario that the script on standard input or in a FILE stands for";
 
 /// What `-h` says of `test`.
 pub const TEST: &str =
@@ -34,7 +36,8 @@ pub const WHY: &str =
     "Runs the script on standard input or in a FILE, and prints what holds each refused step back";
 
 /// What `-h` says of `chart`.
-pub const CHART: &str = "Runs the script on standard input or in a FILE, and draws it as a sequence chart";
+pub const CHART: &str =
+    "Runs the script on standard input or in a FILE, and draws it as a sequence chart";
 
 /// What `-h` says of `explore`.
 pub const EXPLORE: &str =

@@ -70,13 +70,7 @@ fn head_of<'a>(words: &[&'a [u8]]) -> &'a [u8]
     match words {
         [] => b"",
         [first] => *first,
-        [first, second, ..] => {
-            if is_label(*first) {
-                *second
-            } else {
-                *first
-            }
-        }
+        [first, second, ..] => { if is_label(*first) { *second } else { *first } }
     }
 }
 

@@ -310,7 +310,11 @@ fn untried(strict: bool) -> u8
 }
 
 /// The status of a run that ended so. A fault is told to `errors`.
-pub(crate) fn finish<E: Write>(strict: bool, ended: Result<Ending, DriveFault>, errors: &mut Told<E>) -> u8
+pub(crate) fn finish<E: Write>(
+    strict: bool,
+    ended: Result<Ending, DriveFault>,
+    errors: &mut Told<E>,
+) -> u8
     requires { IsNew errors.old }
     ensures status { result ≡ status_of strict ended }
     ensures said { Says E.contents errors.old errors.new (complaint ended) }

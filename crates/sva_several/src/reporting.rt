@@ -93,18 +93,13 @@ fn put_told(
     match (given, found) {
         (
             Given::Text(text),
-            Ok(Said {
-                verdict: Verdict::Wrong,
-                text: report,
-            }),
-        ) => put_located(
-            alloc,
-            out,
-            search,
-            name,
-            text.as_slice(),
-            report.as_slice(),
-        ),
+            Ok(
+                Said {
+                    verdict: Verdict::Wrong,
+                    text: report,
+                },
+            ),
+        ) => put_located(alloc, out, search, name, text.as_slice(), report.as_slice()),
         _ => put_named(out, shown_name(name), said_of(search, found)),
     }
 }

@@ -258,11 +258,7 @@ fn unread_one(alloc: Global, lack: Lack) -> Result<Tried, AllocError>
 }
 
 /// Searches the text of a file, or says why it can't be read.
-pub(crate) fn search_one(
-    alloc: Global,
-    search: Search,
-    given: &Given,
-) -> Result<Tried, AllocError>
+pub(crate) fn search_one(alloc: Global, search: Search, given: &Given) -> Result<Tried, AllocError>
     ensures { IfOk result (λ tried. searches.Tries search given.now tried.said tried.is_whole) }
 {
     match given {

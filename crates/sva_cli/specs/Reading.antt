@@ -1,27 +1,17 @@
 -- What is read of files by their names. That a name opens a file, or that its file can't be read, is said by whoever opens it.
 use Rattle.std.specs.Global.{Global}
 use Rattle.std.specs.List.{AllZip}
-use Rattle.std.specs.Prelude.{◌≡◌, ◌⊎◌, ℕ, Bool, true, false, List, nat_lt, take, IfSome, Option, Result, Ok, Err, String, string_bytes, Vec}
-use Rattle.std.specs.declared.alloc.AllocError.{AllocError}
+use Rattle.std.specs.Prelude.{◌≡◌, ◌⊎◌, ℕ, Bool, true, false, List, nat_lt, take, IfSome, Option, String, string_bytes}
 use Rattle.clap.specs.Words.{Text}
 use Rattle.sva_command.specs.Command.{texts}
 use Rattle.sva_cli.specs.Inputs.{inputs_in, is_input}
 use Rattle.sva_streams.specs.declared.reading.TheConstants.{MOST_KEPT}
-use Rattle.sva_streams.specs.declared.streams.DriveFault.{DriveFault}
-use Rattle.sva_streams.specs.declared.streams.DriveFault.TheVariants.{Read, Write, Memory}
 use Rattle.sva_several.specs.declared.given.Given.{Given}
 use Rattle.sva_several.specs.declared.given.Given.TheVariants as given
 use Rattle.sva_several.specs.declared.given.Lack.{Lack}
 use Rattle.sva_several.specs.declared.given.Lack.TheVariants as lack
 
 -- ---- A stream
-
--- what a stream gives that was read so
-abbrev pub given_by : Result (Vec ℕ Global) DriveFault → Result Given AllocError
-given_by (Ok text) = Ok (given.Text text)
-given_by (Err Read) = Ok (given.Unread lack.Broken)
-given_by (Err Write) = Ok (given.Unread lack.Broken)
-given_by (Err Memory) = Err AllocError.AllocError
 
 -- all that it has, or its first 1,048,577 bytes, where its bytes are known; or reading it fails
 abbrev pub IsInput : Option (List ℕ) → Given → Type 0

@@ -2,7 +2,7 @@
 
 ghost use Rattle.std.specs.Prelude.{◌≡◌, IfErr, IfOk, List, ℕ};
 ghost use Rattle.sva_streams.specs.Streams.{IsNew};
-ghost use Rattle.sva_cli.specs.Reading.{AreGiven, IsGiven, IsInput, IsOfFile, IsReadOf, IsRead, IsSame, IsStandard, given_by, names_input};
+ghost use Rattle.sva_cli.specs.Reading.{AreGiven, IsGiven, IsInput, IsOfFile, IsReadOf, IsRead, IsSame, IsStandard, names_input};
 
 use crate::inputs::{inputs_in, is_input};
 use std::alloc::{AllocError, Global};
@@ -51,23 +51,16 @@ fn lack_of(error: &io::Error) -> Lack {
     }
 }
 
-/// What a stream gives that was read so.
-fn given_by(read: Result<Vec<u8>, DriveFault>) -> Result<Given, AllocError>
-    ensures { result ≡ given_by read }
-{
-    match read {
-        Ok(text) => Ok(Given::Text(text)),
-        Err(DriveFault::Memory) => Err(AllocError),
-        Err(_) => Ok(Given::Unread(Lack::Broken)),
-    }
-}
-
 /// Reads a stream to its end.
 fn read_stream<R: Read>(alloc: Global, reader: &mut Told<R>) -> Result<Given, AllocError>
     requires { IsNew reader.old }
     ensures { IfOk result (IsInput (R.remaining reader.old.inner)) }
 {
-    given_by(read_all(alloc, reader))
+    match read_all(alloc, reader) {
+        Ok(text) => Ok(Given::Text(text)),
+        Err(DriveFault::Memory) => Err(AllocError),
+        Err(_) => Ok(Given::Unread(Lack::Broken)),
+    }
 }
 
 impl<'a, R: FileSystem> Opens for Disk<'a, R> {
@@ -89,7 +82,11 @@ impl<'a, R: FileSystem> Opens for Disk<'a, R> {
     }
 
     fn read(&self, alloc: Global, _name: &str, file: R::File) -> Result<Given, AllocError> {
-        read_stream(alloc, &mut Told::new(file))
+        match read_all(alloc, &mut Told::new(file)) {
+            Ok(text) => Ok(Given::Text(text)),
+            Err(DriveFault::Memory) => Err(AllocError),
+            Err(_) => Ok(Given::Unread(Lack::Broken)),
+        }
     }
 }
 

@@ -84,7 +84,7 @@ fn stream_one<
         return main_of(rt, asked, input, writer, errors, watch);
     }
     match opens.open(file) {
-        Ok(opened) => main_of(rt, asked, &mut Told::new(opened), writer, errors, watch),
+        Ok(stream) => main_of(rt, asked, &mut Told::new(stream), writer, errors, watch),
         Err(lack) => mistaken(unreadable(rt.alloc(), file, lack), errors),
     }
 }

@@ -58,7 +58,7 @@ fn told_on(
         Ending::Ran(Outcome::Faulted) => {
             located(alloc, language_of(asked), name, text, said.as_slice())
         }
-        _ => Ok(said),
+        Ending::Ran(Outcome::Done) | Ending::Explored(_) | Ending::Ruled(_) => Ok(said),
     }
 }
 

@@ -1,5 +1,5 @@
 -- Where in a line the word stands that is told wrong.
-use Rattle.std.specs.Prelude.{ℕ, ◌==◌, ◌+◌, ◌++◌, ◌&&◌, nat_le, Bool, true, false, List, [], ◌∷◌, Option, Some, None, codes, if◌then◌else◌}
+use Rattle.std.specs.Prelude.{ℕ, ◌==◌, ◌+◌, ◌++◌, ◌&&◌, nat_le, Bool, true, List, [], ◌∷◌, Option, Some, None, codes, if◌then◌else◌}
 use Rattle.std.specs.Prelude.{length, take}
 use Rattle.std.specs.List.{position}
 use Rattle.std.specs.Str.{bytes_eq}

@@ -198,7 +198,7 @@ language_of asked = Script
 -- neither a text nor a buffer fails but for want of memory
 abbrev pub kept_of : Result Ending DriveFault → Result Ending AllocError
 kept_of (Ok ending) = Ok ending
-kept_of (Err fault) = Err AllocError.AllocError
+kept_of (Err fault) = Err (record {})
 
 -- where the text is wrong each line that is wrong stands behind its place
 abbrev pub told_on : Asked → (name text : List ℕ) → Ending → (said : List ℕ) → List ℕ

@@ -70,3 +70,7 @@ module _ {F : Type 0} (opened : Text → F → Type 0) (remaining : F → Option
   -- each of them gave this, in order
   abbrev pub AreGiven : (standard : Given) → (names : List (String Global)) → List Given → Type 0
   AreGiven standard names all = AllZip (λ name given. IsGiven standard (string_bytes name) given) names all
+
+  -- standard input is read where one of the names is its own, and each of them gave this
+  abbrev pub HaveGiven : (input : Option (List ℕ)) → (names : List (String Global)) → List Given → Type 0
+  HaveGiven input names all = (standard : Given) × IsStandard input (names_input names) standard × AreGiven standard names all

@@ -184,7 +184,7 @@ only_of asked after (file ∷ []) = One asked after file
 only_of asked after (file ∷ next ∷ files) = no_meaning takes_one next
 
 abbrev pub by_after : Asked → Named → Result (Option ℕ) (Unit {0}) → Spoken
-by_after asked named (Err no) = no_meaning takes_after (after_text named)
+by_after asked named (Err nothing) = no_meaning takes_after (after_text named)
 by_after asked named (Ok after) = only_of asked after named.files
 
 abbrev pub file_by : Asked → Named → Spoken

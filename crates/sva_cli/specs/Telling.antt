@@ -18,7 +18,7 @@ use Rattle.sva_program.specs.declared.run.Ending.{Ending}
 use Rattle.sva_program.specs.Run.{Reports, RunsOnText, Says, complaint, fault_line, is_streamed, is_strict, status_of}
 use Rattle.sva_cli.specs.Cutting.{cut}
 use Rattle.sva_cli.specs.Inputs.{is_input}
-use Rattle.sva_cli.specs.Reading.{AreGiven, IsRead, IsStandard, names_input}
+use Rattle.sva_cli.specs.Reading.{HaveGiven, IsRead}
 use Rattle.sva_cli.specs.declared.files.One.{One}
 
 -- the line that tells of a file that can't be read
@@ -107,15 +107,10 @@ module _ {F O E : Type 0} (opened : Text → F → Type 0) (remaining : F → Op
 
   -- ---- Several
 
-  -- standard input is read where one of the names is its own, and each file gave this
-  abbrev pub HaveGiven : (names : List (String Global)) → List Given → Type 0
-  HaveGiven names all =
-      (standard : Given) × IsStandard input (names_input names) standard × AreGiven opened remaining fails standard names all
-
   -- of what the files of these names give, in order, is told what is told of several
   abbrev pub TellsFound : Wanted → (names : List (String Global)) → Type 0
   TellsFound wanted names =
-      (texts : List Given) × HaveGiven names texts × (told : Result ℕ DriveFault)
+      (texts : List Given) × HaveGiven opened remaining fails input names texts × (told : Result ℕ DriveFault)
       × TellsAll wanted names texts (written old.inner) (written new.inner) told
       × Tells old new told
       × EndsSo noted before after status told

@@ -48,24 +48,25 @@ fn main(rt: HostRuntime) -> ExitCode {
     let mut watch = Progress::new(alloc, rt.stderr(), &rt, is_terminal);
     let mut output = Told::new(rt.stdout());
     let disk = Disk { rt: &rt };
-    let mut input = Told::new(rt.stdin());
+    let out = &mut output;
+    let told = &mut errors;
     let status = match files_in(alloc, processors(&rt), words) {
         Ok(Files::Input { own }) => {
-            let own = own.as_slice();
-            main_with(&rt, own, &mut input, &mut output, &mut errors, &mut watch)
+            let mut input = Told::new(rt.stdin());
+            main_with(&rt, own.as_slice(), &mut input, out, told, &mut watch)
         }
         Ok(Files::One(one)) => {
-            let (input, output, errors) = (&mut input, &mut output, &mut errors);
-            run_one(&rt, &disk, &one, input, output, errors, &mut watch)
+            let mut input = Told::new(rt.stdin());
+            run_one(&rt, &disk, &one, &mut input, out, told, &mut watch)
         }
         Ok(Files::Several(several)) => {
             let count = several.names.len();
             let meter = Searched::new(&rt, alloc, count, rt.stderr(), &rt, is_terminal);
-            let (input, output, errors) = (&mut input, &mut output, &mut errors);
-            search_on(&rt, &disk, &several, input, output, errors, &meter)
+            let mut input = Told::new(rt.stdin());
+            search_on(&rt, &disk, &several, &mut input, out, told, &meter)
         }
-        Ok(Files::Wrong { said }) => mistaken(Ok(said), &mut errors),
-        Err(_) => faulted(DriveFault::Memory, &mut errors),
+        Ok(Files::Wrong { said }) => mistaken(Ok(said), told),
+        Err(_) => faulted(DriveFault::Memory, told),
     };
     ExitCode::from(status)
 }

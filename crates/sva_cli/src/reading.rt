@@ -2,6 +2,7 @@
 
 ghost use Rattle.std.specs.Prelude.{◌≡◌, IfErr, IfOk, List, ℕ};
 ghost use Rattle.sva_streams.specs.Streams.{IsNew};
+ghost use Rattle.sva_several.specs.declared.given.Lack as lacks;
 ghost use Rattle.sva_cli.specs.Reading.{AreGiven, IsGiven, IsInput, IsOfFile, IsReadOf, IsRead, IsSame, IsStandard, names_input};
 
 use crate::inputs::{inputs_in, is_input};
@@ -22,7 +23,7 @@ pub trait Opens {
     ghost opened: { Self → List ℕ → Self.File → Type 0 };
 
     /// The file of that name can't be opened, or reading it fails, and so.
-    ghost fails: { Self → List ℕ → Lack → Type 0 };
+    ghost fails: { Self → List ℕ → lacks.Lack → Type 0 };
 
     /// Opens a file, which may be a pipe, but no folder.
     fn open(&self, name: &str) -> Result<Self::File, Lack>

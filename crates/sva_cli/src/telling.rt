@@ -2,7 +2,8 @@
 
 ghost use Rattle.std.specs.Prelude.{◌≡◌, IfOk};
 ghost use Rattle.sva_streams.specs.Streams.{IsNew};
-ghost use Rattle.sva_cli.specs.Telling.{EndsSo, HaveGiven, RunsOne, SearchesNamed, StreamsOne, TellsMistake, TellsText, unreadable_line};
+ghost use Rattle.sva_cli.specs.Reading.{HaveGiven};
+ghost use Rattle.sva_cli.specs.Telling.{EndsSo, RunsOne, SearchesNamed, StreamsOne, TellsMistake, TellsText, unreadable_line};
 
 use crate::cutting::cut;
 use crate::files::{One, Several};

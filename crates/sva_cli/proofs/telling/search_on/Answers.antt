@@ -1,6 +1,6 @@
 use Rattle.std.proofs.Common.{inl, inr, refl, subst}
 use Rattle.sva_several.specs.Told.{TellsAll}
-use Rattle.sva_cli.specs.Telling.{HaveGiven}
+use Rattle.sva_cli.specs.Reading.{HaveGiven}
 use Rattle.sva_cli.proofs.telling.search_on.Goals as goal
 
 pub returns-in-Ok : goal.returns-in-Ok

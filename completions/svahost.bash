@@ -12,33 +12,29 @@ _svahost() {
     words='replay check storm plain test show why chart explore judge trace --help --version'
     # the script of the repository proves too
     [[ $1 == */* ]] && words+=' prove'
-  elif [ "$command" = trace ]; then
-    words='--live --why --help'
-  elif [ "$command" = chart ]; then
-    words='--svg --help'
-  elif [[ $command == explore || $command == judge ]]; then
+  else
     # readline takes the = of --most=N for a word
-    [[ $before == --most || $before == --part || $before == --jobs || $before == = ]] && return
-    words='--most --part --jobs --help'
-    if [ "$command" = judge ]; then words="--run --strict --all $words"; else words="--why --ends $words"; fi
+    [[ $before == --@(most|part|jobs|turns|after) || $before == = ]] && return
     if [[ $current != -* ]]; then
+      local kind='[as]'
+      case $command in
+        judge) kind=d ;;
+        explore) kind=r ;;
+        replay | check | storm) kind=a ;;
+      esac
       compopt -o filenames 2> /dev/null
-      local kind=r
-      [ "$command" = judge ] && kind=d
       mapfile -t COMPREPLY < <(compgen -f -X "!*.sv$kind" -- "$current"; compgen -d -- "$current")
       return
     fi
-  elif [ "$command" = storm ]; then
-    [[ $before == --turns || $before == = ]] && return
-    words='--turns --help'
-  elif [[ $1 == */* && $command == show ]]; then
-    # the script of the repository takes --after and files too, and an installed program doesn't
-    [[ $before == --after || $before == = ]] && return
-    words='--after --help'
-  elif [[ $1 == */* && $command == test ]]; then
-    compopt -o filenames 2> /dev/null
-    mapfile -t COMPREPLY < <(compgen -f -X '!*.sv[as]' -- "$current"; compgen -d -- "$current")
-    return
+    case $command in
+      check | test | why) words='--part --jobs --help' ;;
+      judge) words='--run --strict --all --most --part --jobs --help' ;;
+      explore) words='--why --ends --most --part --jobs --help' ;;
+      trace) words='--live --why --help' ;;
+      chart) words='--svg --help' ;;
+      storm) words='--turns --help' ;;
+      show) words='--after --help' ;;
+    esac
   fi
   mapfile -t COMPREPLY < <(compgen -W "$words" -- "$current")
 }

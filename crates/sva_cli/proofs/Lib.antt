@@ -1,2 +1,3 @@
+mod CutLemmas
+mod InputLemmas
 mod ReadLemmas
-mod TellLemmas

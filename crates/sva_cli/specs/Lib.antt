@@ -1,3 +1,5 @@
+pub mod Inputs
 pub mod Spoken
+pub mod Cutting
 pub mod Reading
 pub mod Telling

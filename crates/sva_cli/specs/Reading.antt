@@ -1,55 +1,76 @@
 -- What is read of files by their names. That a name opens a file, or that its file can't be read, is said by whoever opens it.
 use Rattle.std.specs.Global.{Global}
 use Rattle.std.specs.List.{AllZip}
-use Rattle.std.specs.Prelude.{◌≡◌, ◌⊎◌, ◌<◌, ℕ, List, get_or, length, take, IfSome, Option, Result, Ok, Err, String, string_bytes, Vec}
+use Rattle.std.specs.Prelude.{◌≡◌, ◌⊎◌, ℕ, Bool, true, false, List, nat_lt, take, IfSome, Option, String, string_bytes}
 use Rattle.clap.specs.Words.{Text}
+use Rattle.sva_command.specs.Command.{texts}
+use Rattle.sva_cli.specs.Inputs.{inputs_in, is_input}
 use Rattle.sva_streams.specs.declared.reading.TheConstants.{MOST_KEPT}
-use Rattle.sva_streams.specs.declared.streams.DriveFault.{DriveFault}
-use Rattle.sva_streams.specs.declared.streams.DriveFault.TheVariants.{Read, Write, Memory}
-use Rattle.sva_cli.specs.declared.reading.Unread.{Unread}
-use Rattle.sva_cli.specs.declared.reading.Unread.TheVariants as unread
+use Rattle.sva_several.specs.declared.given.Given.{Given}
+use Rattle.sva_several.specs.declared.given.Given.TheVariants as given
+use Rattle.sva_several.specs.declared.given.Lack.{Lack}
+use Rattle.sva_several.specs.declared.given.Lack.TheVariants as lack
 
--- all that an opened file has, or its first 1,048,577 bytes, where its bytes are known; or reading it fails; or memory lacks, where
--- it has a byte
-abbrev pub IsReadOf : {F : Type 0} → (remaining : F → Option (List ℕ)) → (fails : Type 0) → F → Result (Vec ℕ Global) DriveFault → Type 0
-IsReadOf remaining fails file (Ok text) = IfSome (remaining file) (λ input. text.items ≡ take MOST_KEPT input)
-IsReadOf remaining fails file (Err Read) = fails
-IsReadOf remaining fails file (Err Write) = ⊥
-IsReadOf remaining fails file (Err Memory) = IfSome (remaining file) (λ input. 0 < length input)
+-- ---- A stream
 
--- a fault in reading the file at this place: it can't be read, or memory lacks
-abbrev pub unread_by : (place : ℕ) → DriveFault → Unread
-unread_by place Read = unread.At place
-unread_by place Write = unread.At place
-unread_by place Memory = unread.Memory
+-- all that it has, or its first 1,048,577 bytes, where its bytes are known; or reading it fails
+abbrev pub IsInput : Option (List ℕ) → Given → Type 0
+IsInput input (given.Text text) = IfSome input (λ bytes. text.items ≡ take MOST_KEPT bytes)
+IsInput input (given.Unread why) = why ≡ lack.Broken
 
--- ---- Files by their names: which file a name opens, and what a file has
+-- the same of a file that was opened, which fails in the ways that are its own
+abbrev pub IsReadOf : {F : Type 0} → (remaining : F → Option (List ℕ)) → (fails : Lack → Type 0) → F → Given → Type 0
+IsReadOf remaining fails file (given.Text text) = IfSome (remaining file) (λ input. text.items ≡ take MOST_KEPT input)
+IsReadOf remaining fails file (given.Unread why) = fails why
 
-module _ {F : Type 0} (opened : Text → F → Type 0) (remaining : F → Option (List ℕ)) where
-  -- the file of that name has this text
-  abbrev pub HasText : (name text : Text) → Type 0
-  HasText name text = (file : F) × opened name file × IfSome (remaining file) (λ input. text ≡ take MOST_KEPT input)
+-- ---- Standard input
 
-  -- the files of these names have these texts, in order
-  abbrev pub HaveTexts : (names : List (String Global)) → (texts : List (Vec ℕ Global)) → Type 0
-  HaveTexts names texts = AllZip (λ name text. HasText (string_bytes name) text.items) names texts
+-- one of the names is its own
+abbrev pub names_input : List (String Global) → Bool
+names_input names = nat_lt 0 (inputs_in (texts names))
 
--- ---- And of which name the file can't be read
+-- it is read where one of the names is its own
+abbrev pub IsStandard : (input : Option (List ℕ)) → (is_named : Bool) → Given → Type 0
+IsStandard input true given = IsInput input given
+IsStandard input false given = Unit {0}
 
-module _ {F : Type 0} (opened : Text → F → Type 0) (remaining : F → Option (List ℕ)) (fails : Text → Type 0) where
-  -- the file of that name was opened and read, or can't be opened
-  abbrev pub ReadsOne : (name : Text) → Result (Vec ℕ Global) DriveFault → Type 0
-  ReadsOne name read = ((file : F) × opened name file × IsReadOf remaining (fails name) file read) ⊎ (fails name × (read ≡ Err Read))
+abbrev pub IsSame : Given → Given → Type 0
+IsSame (given.Text one) (given.Text other) = other.items ≡ one.items
+IsSame (given.Unread one) (given.Unread other) = other ≡ one
+IsSame one other = ⊥
 
-  -- that of the name at this place can't be read, and all before it were read
-  abbrev pub IsFirstUnread : (names : List (String Global)) → (place : ℕ) → Type 0
-  IsFirstUnread names place =
-      (place < length names)
-      × ((texts : List (Vec ℕ Global)) × HaveTexts opened remaining (take place names) texts)
-      × ((name : String Global) × (name ≡ get_or names place name) × fails (string_bytes name))
+-- ---- Files by their names
 
-  -- all were read, in order; or the first that can't be read is told; or memory lacks
-  abbrev pub ReadsAll : (names : List (String Global)) → Result (Vec (Vec ℕ Global) Global) Unread → Type 0
-  ReadsAll names (Ok texts) = HaveTexts opened remaining names texts.items
-  ReadsAll names (Err (unread.At place)) = IsFirstUnread names place
-  ReadsAll names (Err unread.Memory) = Unit {0}
+-- it can't be opened
+abbrev pub IsUnopened : (fails : Lack → Type 0) → Given → Type 0
+IsUnopened fails (given.Text text) = ⊥
+IsUnopened fails (given.Unread why) = fails why
+
+module _ {F : Type 0} (opened : Text → F → Type 0) (remaining : F → Option (List ℕ)) (fails : Text → Lack → Type 0) where
+  -- the file of that name was opened, and gave this; or it can't be opened
+  abbrev pub IsOfFile : (name : Text) → Given → Type 0
+  IsOfFile name given = ((file : F) × opened name file × IsReadOf remaining (fails name) file given) ⊎ IsUnopened (fails name) given
+
+  -- so did standard input, where that is the name
+  abbrev pub IsReadBy : (input : Option (List ℕ)) → (name : Text) → (is_input : Bool) → Given → Type 0
+  IsReadBy input name true given = IsInput input given
+  IsReadBy input name false given = IsOfFile name given
+
+  abbrev pub IsRead : (input : Option (List ℕ)) → (name : Text) → Given → Type 0
+  IsRead input name given = IsReadBy input name (is_input name) given
+
+  -- among several, what standard input gave before
+  abbrev pub IsGivenBy : (standard : Given) → (name : Text) → (is_input : Bool) → Given → Type 0
+  IsGivenBy standard name true given = IsSame standard given
+  IsGivenBy standard name false given = IsOfFile name given
+
+  abbrev pub IsGiven : (standard : Given) → (name : Text) → Given → Type 0
+  IsGiven standard name given = IsGivenBy standard name (is_input name) given
+
+  -- each of them gave this, in order
+  abbrev pub AreGiven : (standard : Given) → (names : List (String Global)) → List Given → Type 0
+  AreGiven standard names all = AllZip (λ name given. IsGiven standard (string_bytes name) given) names all
+
+  -- standard input is read where one of the names is its own, and each of them gave this
+  abbrev pub HaveGiven : (input : Option (List ℕ)) → (names : List (String Global)) → List Given → Type 0
+  HaveGiven input names all = (standard : Given) × IsStandard input (names_input names) standard × AreGiven standard names all

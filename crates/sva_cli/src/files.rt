@@ -1,13 +1,27 @@
 //! The files that a command line names.
 
-ghost use Rattle.std.specs.Prelude.{◌≡◌, ◌++◌, IfOk, codes};
+ghost use Rattle.std.specs.Prelude.{◌≡◌, ◌++◌, IfOk, codes, string_bytes};
 ghost use Rattle.sva_command.specs.Command.{texts};
 ghost use Rattle.sva_cli.specs.Spoken as spoken;
 
+use crate::inputs::inputs_in;
 use clap::error::ErrorKind;
 use std::alloc::{AllocError, Global};
-use sva_command::{Asked, Awaited, Named, files_of, jobs_of, named_in, parse, part_of};
+use sva_command::{
+    Asked, Awaited, Named, Takes, after_of, files_of, jobs_of, named_in, parse, part_of,
+};
 use sva_several::{Search, Wanted};
+
+/// One file, and what is wanted of it.
+#[derive(Drop)]
+pub struct One {
+    /// The command.
+    pub asked: Asked,
+    /// The line behind which `show` looks, if one is said.
+    pub after: Option<u64>,
+    /// Its name; `-` is standard input.
+    pub file: String,
+}
 
 /// Several files, and what is wanted of them.
 #[derive(Drop)]
@@ -28,15 +42,10 @@ pub enum Files {
         own: Vec<String>,
     },
     /// It names one, which is read in the place of standard input.
-    One {
-        /// The words without it.
-        own: Vec<String>,
-        /// Its name.
-        file: String,
-    },
+    One(One),
     /// It names several, or asks for a part of them.
     Several(Several),
-    /// What it says of a part, or of how many are searched at once, can't be meant.
+    /// What it says of files can't be meant.
     Wrong {
         /// What is told of that.
         said: Vec<u8>,
@@ -56,7 +65,10 @@ fn search_of(asked: Asked) -> Search
             all,
         } => Search::Drivers { most, all, strict },
         Asked::Explore { most, .. } => Search::Races { most },
-        // No other command takes files.
+        Asked::Check => Search::Steps,
+        Asked::Test => Search::Tests,
+        Asked::Why => Search::Whys,
+        // No other command takes several files.
         _ => Search::Lines,
     }
 }
@@ -102,6 +114,12 @@ fn part_in(
             "svahost: --part is a part of several files, and none is named\n",
         );
     }
+    if inputs_in(files) > 1 {
+        return no_files(
+            alloc,
+            "svahost: '-' is standard input, and is named more than once\n",
+        );
+    }
     Ok(Files::Several(Several {
         wanted: Wanted {
             is_part: true,
@@ -111,27 +129,44 @@ fn part_in(
     }))
 }
 
+/// A file that is read in the place of standard input.
+fn one_of(asked: Asked, after: Option<u64>, file: String) -> Files
+    ensures { spoken.means result ≡ spoken.One asked after (string_bytes file) }
+{
+    Files::One(One { asked, after, file })
+}
+
 /// All files: one is read in the place of standard input, and several are searched.
-fn all_of(wanted: Wanted, own: Vec<String>, mut files: Vec<String>) -> Files
-    ensures { spoken.means result ≡ spoken.all_of wanted (texts own.items) (texts files.items) }
+fn all_of(
+    alloc: Global,
+    asked: Asked,
+    wanted: Wanted,
+    mut files: Vec<String>,
+) -> Result<Files, AllocError>
+    ensures { IfOk result (λ found. spoken.means found ≡ spoken.all_of asked wanted (texts files.items)) }
 {
     if files.len() == 1 {
         if let Some(file) = files.pop() {
-            return Files::One { own, file };
+            return Ok(one_of(asked, None, file));
         }
     }
-    Files::Several(Several {
+    if inputs_in(files.as_slice()) > 1 {
+        return no_files(
+            alloc,
+            "svahost: '-' is standard input, and is named more than once\n",
+        );
+    }
+    Ok(Files::Several(Several {
         wanted,
         names: files,
-    })
+    }))
 }
 
 /// What the words say of files, where this is wanted of several.
-fn of_files(alloc: Global, wanted: Wanted, named: Named) -> Result<Files, AllocError>
-    ensures { IfOk result (λ files. spoken.means files ≡ spoken.of_files wanted named) }
+fn of_files(alloc: Global, asked: Asked, wanted: Wanted, named: Named) -> Result<Files, AllocError>
+    ensures { IfOk result (λ files. spoken.means files ≡ spoken.of_files asked wanted named) }
 {
     let Named {
-        own,
         files,
         part,
         awaited,
@@ -143,7 +178,7 @@ fn of_files(alloc: Global, wanted: Wanted, named: Named) -> Result<Files, AllocE
     }
     match part {
         Some(text) => part_in(alloc, wanted, text.as_slice(), files.as_slice()),
-        None => Ok(all_of(wanted, own, files)),
+        None => all_of(alloc, asked, wanted, files),
     }
 }
 
@@ -178,7 +213,7 @@ fn names_nothing(named: &Named) -> bool
     named.files.is_empty() && named.part.is_none()
 }
 
-/// What the words say of files, where the others are this command.
+/// What the words say of several files, where the others are this command.
 fn files_by(alloc: Global, asked: Asked, usual: u64, named: Named) -> Result<Files, AllocError>
     ensures { IfOk result (λ files. spoken.means files ≡ spoken.files_by asked usual named) }
 {
@@ -200,14 +235,97 @@ fn files_by(alloc: Global, asked: Asked, usual: u64, named: Named) -> Result<Fil
         jobs,
         is_part: false,
     };
-    of_files(alloc, wanted, named)
+    of_files(alloc, asked, wanted, named)
+}
+
+/// What is said of the line behind which is looked: its number, nothing, or what can't be meant.
+fn after_in(named: &Named) -> Result<Option<u64>, ()>
+    ensures { result ≡ spoken.after_in named.now }
+{
+    // No word is behind the last `--after`.
+    if matches!(named.awaited, Awaited::After) {
+        return Err(());
+    }
+    match &named.after {
+        None => Ok(None),
+        Some(text) => match after_of(text.as_slice()) {
+            Some(line) => Ok(Some(line)),
+            None => Err(()),
+        },
+    }
+}
+
+/// The text behind `--after`.
+fn after_text(named: &Named) -> &[u8]
+    ensures { result.now ≡ spoken.after_text named.entry.now }
+{
+    match &named.after {
+        Some(text) if !matches!(named.awaited, Awaited::After) => text.as_slice(),
+        _ => b"",
+    }
+}
+
+/// What is told where a command that takes one file is given another one too.
+fn too_many(alloc: Global, file: &[u8]) -> Result<Files, AllocError>
+    ensures { IfOk result (λ files. spoken.means files ≡ spoken.no_meaning spoken.takes_one file.now) }
+{
+    no_meaning(
+        alloc,
+        "svahost: this command takes one file, and not one more, '",
+        file,
+    )
+}
+
+/// The one file, where no more are named; standard input, where none is.
+fn only_of(
+    alloc: Global,
+    asked: Asked,
+    after: Option<u64>,
+    mut files: Vec<String>,
+) -> Result<Files, AllocError>
+    ensures { IfOk result (λ found. spoken.means found ≡ spoken.only_of asked after (texts files.items)) }
+{
+    if files.len() > 1 {
+        return too_many(alloc, files[1].as_str().as_bytes());
+    }
+    match files.pop() {
+        Some(file) => Ok(one_of(asked, after, file)),
+        None => Ok(one_of(asked, after, String::from_str(alloc, "-")?)),
+    }
+}
+
+/// What the words say of one file, where the others are this command.
+fn file_by(alloc: Global, asked: Asked, named: Named) -> Result<Files, AllocError>
+    ensures { IfOk result (λ files. spoken.means files ≡ spoken.file_by asked named) }
+{
+    let Ok(after) = after_in(&named) else {
+        return no_meaning(
+            alloc,
+            "svahost: --after takes the number of a line, 1 to 999999999, and not '",
+            after_text(&named),
+        );
+    };
+    only_of(alloc, asked, after, named.files)
+}
+
+/// What the words say of files, where the others are this command.
+fn meant(alloc: Global, asked: Asked, usual: u64, named: Named) -> Result<Files, AllocError>
+    ensures { IfOk result (λ files. spoken.means files ≡ spoken.meant asked usual named) }
+{
+    match named.takes {
+        Takes::Many => files_by(alloc, asked, usual, named),
+        Takes::One | Takes::Shown => file_by(alloc, asked, named),
+    }
 }
 
 /// Whether no file is named, and nothing is said of any.
 fn is_bare(named: &Named) -> bool
     ensures { result ≡ spoken.is_bare named.now }
 {
-    names_nothing(named) && named.jobs.is_none() && !matches!(named.awaited, Awaited::Jobs)
+    names_nothing(named)
+        && named.jobs.is_none()
+        && named.after.is_none()
+        && !matches!(named.awaited, Awaited::Jobs | Awaited::After)
 }
 
 /// What the words of a command line say of files, the program's name first. So many are searched at once where they
@@ -222,7 +340,7 @@ pub fn files_in(alloc: Global, usual: u64, words: Vec<String>) -> Result<Files, 
         return Ok(Files::Input { own: words });
     }
     match parse(alloc, named.own.as_slice()) {
-        Ok(asked) => files_by(alloc, asked, usual, named),
+        Ok(asked) => meant(alloc, asked, usual, named),
         Err(error) => match error.kind() {
             ErrorKind::OutOfMemory => Err(AllocError),
             _ => Ok(Files::Input { own: named.own }),

@@ -1,7 +1,9 @@
 //! The program svahost: it hands its words, its streams and the files that it names to the commands.
 #![tactic(auto)]
 
+mod cutting;
 mod files;
+mod inputs;
 mod reading;
 mod telling;
 
@@ -9,7 +11,7 @@ ghost use Rattle.std.specs.Prelude.{◌≤◌};
 
 use crate::files::{Files, files_in};
 use crate::reading::Disk;
-use crate::telling::{mistaken, run_on, search_on};
+use crate::telling::{mistaken, run_one, search_on};
 use std::io;
 use std::io::IsTerminal;
 use std::process::ExitCode;
@@ -46,23 +48,25 @@ fn main(rt: HostRuntime) -> ExitCode {
     let mut watch = Progress::new(alloc, rt.stderr(), &rt, is_terminal);
     let mut output = Told::new(rt.stdout());
     let disk = Disk { rt: &rt };
+    let out = &mut output;
+    let told = &mut errors;
     let status = match files_in(alloc, processors(&rt), words) {
         Ok(Files::Input { own }) => {
-            let own = own.as_slice();
             let mut input = Told::new(rt.stdin());
-            main_with(&rt, own, &mut input, &mut output, &mut errors, &mut watch)
+            main_with(&rt, own.as_slice(), &mut input, out, told, &mut watch)
         }
-        Ok(Files::One { own, file }) => {
-            let (own, file) = (own.as_slice(), file.as_str());
-            run_on(&rt, &disk, own, file, &mut output, &mut errors, &mut watch)
+        Ok(Files::One(one)) => {
+            let mut input = Told::new(rt.stdin());
+            run_one(&rt, &disk, &one, &mut input, out, told, &mut watch)
         }
         Ok(Files::Several(several)) => {
             let count = several.names.len();
             let meter = Searched::new(&rt, alloc, count, rt.stderr(), &rt, is_terminal);
-            search_on(&rt, &disk, &several, &mut output, &mut errors, &meter)
+            let mut input = Told::new(rt.stdin());
+            search_on(&rt, &disk, &several, &mut input, out, told, &meter)
         }
-        Ok(Files::Wrong { said }) => mistaken(Ok(said), &mut errors),
-        Err(_) => faulted(DriveFault::Memory, &mut errors),
+        Ok(Files::Wrong { said }) => mistaken(Ok(said), told),
+        Err(_) => faulted(DriveFault::Memory, told),
     };
     ExitCode::from(status)
 }

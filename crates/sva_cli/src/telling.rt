@@ -1,30 +1,34 @@
 //! What is told of the files that a command line names.
 
 ghost use Rattle.std.specs.Prelude.{◌≡◌, IfOk};
-ghost use Rattle.sva_command.specs.Command.{texts};
 ghost use Rattle.sva_streams.specs.Streams.{IsNew};
-ghost use Rattle.sva_cli.specs.Telling.{EndsSo, RunsOnNamed, SearchesNamed, TellsMistake, unreadable_line};
+ghost use Rattle.sva_cli.specs.Reading.{HaveGiven};
+ghost use Rattle.sva_cli.specs.Telling.{EndsSo, RunsOne, SearchesNamed, StreamsOne, TellsMistake, TellsText, unreadable_line};
 
-use crate::files::Several;
-use crate::reading::{Opens, Unread, read_files};
+use crate::cutting::cut;
+use crate::files::{One, Several};
+use crate::inputs::is_input;
+use crate::reading::{Opens, give_all, read_input, read_one};
 use std::alloc::{AllocError, Global};
-use std::io::Write;
+use std::io::{Read, Write};
 use std::sync::Wait;
 use std::thread::Threads;
-use sva_program::{Told, Watch, faulted, main_with};
-use sva_several::{Meter, tell_all};
+use sva_command::Asked;
+use sva_located::shown_name;
+use sva_program::{Told, Watch, faulted, is_streamed, main_of, main_on};
+use sva_several::{Given, Lack, Meter, lack_words, tell_all};
 use sva_streams::{DriveFault, write_all};
 
 /// The command line is wrong, or names a file that can't be read.
 const MISTAKE: u8 = 2;
 
 /// What is told of a file that can't be read.
-fn unreadable(alloc: Global, file: &str) -> Result<Vec<u8>, AllocError>
-    ensures { IfOk result (λ said. said.items ≡ unreadable_line file.now) }
+fn unreadable(alloc: Global, file: &str, lack: Lack) -> Result<Vec<u8>, AllocError>
+    ensures { IfOk result (λ said. said.items ≡ unreadable_line file.now lack) }
 {
-    let mut said = Vec::from_slice(alloc, b"svahost: '")?;
-    said.extend_from_slice(file.as_bytes())?;
-    said.extend_from_slice(b"' isn't a file that can be read\n")?;
+    let mut said = Vec::from_slice(alloc, shown_name(file.as_bytes()))?;
+    said.extend_from_slice(b": ")?;
+    said.extend_from_slice(lack_words(lack).as_bytes())?;
     Ok(said)
 }
 
@@ -38,7 +42,7 @@ pub fn mistaken<E: Write>(said: Result<Vec<u8>, AllocError>, errors: &mut Told<E
             let _ = write_all(errors, said.as_slice());
             MISTAKE
         }
-        Err(_) => faulted(DriveFault::Memory, errors),
+        Err(AllocError) => faulted(DriveFault::Memory, errors),
     }
 }
 
@@ -53,50 +57,133 @@ fn ended<E: Write>(told: Result<u8, DriveFault>, errors: &mut Told<E>) -> u8
     }
 }
 
-/// A command on one file, in the place of standard input.
-pub fn run_on<X: AllocGlobal + Threads + Wait + Sync, S: Opens, O: Write, E: Write, P: Watch>(
+/// A command on a file that is told as it comes, as `trace` tells it.
+fn stream_one<
+    X: AllocGlobal + Threads + Wait + Sync,
+    S: Opens,
+    I: Read,
+    O: Write,
+    E: Write,
+    P: Watch,
+>(
     rt: &X,
     opens: &S,
-    words: &[String],
+    asked: Asked,
     file: &str,
+    input: &mut Told<I>,
+    writer: &mut Told<O>,
+    errors: &mut Told<E>,
+    watch: &mut P,
+) -> u8
+    requires input { IsNew input.old }
+    requires writer { IsNew writer.old }
+    requires errors { IsNew errors.old }
+    ensures { StreamsOne (S.opened opens.now) S.File.remaining (S.fails opens.now) (I.remaining input.old.inner) O.contents E.contents
+        writer.old writer.new errors.old errors.new result asked file.now }
+{
+    if is_input(file) {
+        return main_of(rt, asked, input, writer, errors, watch);
+    }
+    match opens.open(file) {
+        Ok(stream) => main_of(rt, asked, &mut Told::new(stream), writer, errors, watch),
+        Err(lack) => mistaken(unreadable(rt.alloc(), file, lack), errors),
+    }
+}
+
+/// A command on the text of a file, up to a line if one is said.
+fn tell_text<X: AllocGlobal + Threads + Wait + Sync, O: Write, E: Write, P: Watch>(
+    rt: &X,
+    one: &One,
+    text: Vec<u8>,
     writer: &mut Told<O>,
     errors: &mut Told<E>,
     watch: &mut P,
 ) -> u8
     requires writer { IsNew writer.old }
     requires errors { IsNew errors.old }
-    ensures { RunsOnNamed (S.opened opens.now) S.File.remaining (S.fails opens.now) O.contents E.contents
-        writer.old writer.new errors.old errors.new result (texts words.now) file.now }
+    ensures { TellsText O.contents E.contents writer.old writer.new errors.old errors.new result one.now text.items }
 {
-    match opens.open(file) {
-        Ok(input) => main_with(rt, words, &mut Told::new(input), writer, errors, watch),
-        Err(_) => mistaken(unreadable(rt.alloc(), file), errors),
+    match cut(rt.alloc(), one.after, text) {
+        Ok(text) => {
+            let name = one.file.as_str();
+            main_on(rt, one.asked, name, text.as_slice(), writer, errors, watch)
+        }
+        Err(_) => faulted(DriveFault::Memory, errors),
     }
 }
 
+/// A command on one file, or on standard input under its name.
+pub fn run_one<
+    X: AllocGlobal + Threads + Wait + Sync,
+    S: Opens,
+    I: Read,
+    O: Write,
+    E: Write,
+    P: Watch,
+>(
+    rt: &X,
+    opens: &S,
+    one: &One,
+    input: &mut Told<I>,
+    writer: &mut Told<O>,
+    errors: &mut Told<E>,
+    watch: &mut P,
+) -> u8
+    requires input { IsNew input.old }
+    requires writer { IsNew writer.old }
+    requires errors { IsNew errors.old }
+    ensures { RunsOne (S.opened opens.now) S.File.remaining (S.fails opens.now) (I.remaining input.old.inner) O.contents E.contents
+        writer.old writer.new errors.old errors.new result one.now }
+{
+    let file = one.file.as_str();
+    if is_streamed(one.asked) {
+        return stream_one(rt, opens, one.asked, file, input, writer, errors, watch);
+    }
+    match read_one(opens, rt.alloc(), file, input) {
+        Ok(Given::Text(text)) => tell_text(rt, one, text, writer, errors, watch),
+        Ok(Given::Unread(lack)) => mistaken(unreadable(rt.alloc(), file, lack), errors),
+        Err(_) => faulted(DriveFault::Memory, errors),
+    }
+}
+
+/// What several files give.
+fn texts_of<S: Opens, I: Read>(
+    opens: &S,
+    alloc: Global,
+    names: &[String],
+    input: &mut Told<I>,
+) -> Result<Vec<Given>, AllocError>
+    requires { IsNew input.old }
+    ensures { IfOk result (λ all. HaveGiven (S.opened opens.now) S.File.remaining (S.fails opens.now) (I.remaining input.old.inner) names.now all.items) }
+{
+    let standard = read_input(alloc, names, input)?;
+    give_all(opens, alloc, &standard, names)
+}
+
 /// A command on several files.
-pub fn search_on<X: AllocGlobal + Threads + Sync, S: Opens, O: Write, E: Write, M: Meter>(
+pub fn search_on<X: AllocGlobal + Threads + Sync, S: Opens, I: Read, O: Write, E: Write, M: Meter>(
     rt: &X,
     opens: &S,
     several: &Several,
+    input: &mut Told<I>,
     writer: &mut Told<O>,
     errors: &mut Told<E>,
     meter: &M,
 ) -> u8
+    requires input { IsNew input.old }
     requires writer { IsNew writer.old }
     requires errors { IsNew errors.old }
-    ensures { SearchesNamed (S.opened opens.now) S.File.remaining (S.fails opens.now) O.contents E.contents
+    ensures { SearchesNamed (S.opened opens.now) S.File.remaining (S.fails opens.now) (I.remaining input.old.inner) O.contents E.contents
         writer.old writer.new errors.old errors.new result several.now.wanted several.now.names.items }
 {
     let alloc = rt.alloc();
     let Several { wanted, names } = several;
     let names = names.as_slice();
-    match read_files(opens, alloc, names) {
+    match texts_of(opens, alloc, names, input) {
         Ok(texts) => {
             let told = tell_all(rt, alloc, *wanted, names, texts.as_slice(), writer, meter);
             ended(told, errors)
         }
-        Err(Unread::At(place)) => mistaken(unreadable(alloc, names[place].as_str()), errors),
-        Err(Unread::Memory) => faulted(DriveFault::Memory, errors),
+        Err(_) => faulted(DriveFault::Memory, errors),
     }
 }

@@ -6,9 +6,10 @@ ghost use Rattle.sva_command.specs.Command.{Asks, IsReadable, IsWritten, asked_b
 ghost use Rattle.sva_command.specs.Command.{most_by, most_rule, most_text, svahost, texts, turns_by, turns_rule, turns_text, within};
 
 use crate::help::{
-    ABOUT, ALL, ALL_RUN, CHART, CHECK, ENDS, EXPLORE, EXPLORE_USAGE, FILES, HELP, JUDGE,
-    JUDGE_USAGE, LIVE, MOST, PLAIN, REPLAY, RUN, SHOW, STORM, STRICT, STRICT_RUN, SVG, TEST, TRACE,
-    TURNS, VERSION, WAITS, WHY, WHYS,
+    ABOUT, ALL, ALL_RUN, CHART, CHART_USAGE, CHECK, CHECK_USAGE, ENDS, EXPLORE, EXPLORE_USAGE,
+    FILE, FILES, HELP, JUDGE, JUDGE_USAGE, LIVE, MOST, PLAIN, PLAIN_USAGE, REPLAY, REPLAY_USAGE,
+    RUN, SHOW, SHOW_USAGE, SHOWN, STORM, STORM_USAGE, STRICT, STRICT_RUN, SVG, TEST, TEST_USAGE,
+    TRACE, TRACE_USAGE, TURNS, VERSION, WAITS, WHY, WHY_USAGE, WHYS,
 };
 use clap::builder::ValueParser;
 use clap::error::ErrorKind;
@@ -86,9 +87,20 @@ fn whole_help() -> &'static str {
     HELP
 }
 
-/// What help says of files. They are taken out of the words before, so no command takes them itself.
+/// What help says of files, of a command that takes any number of them. They are taken out of the words before, so no command
+/// takes them itself.
 fn files_help() -> &'static str {
     FILES
+}
+
+/// The same of a command that takes one.
+fn file_help() -> &'static str {
+    FILE
+}
+
+/// And of `show`.
+fn shown_help() -> &'static str {
+    SHOWN
 }
 
 /// The option `--turns`.
@@ -111,12 +123,16 @@ fn with_bare<'a>(
     alloc: Global,
     name: &'a str,
     about: &'a str,
+    usage: &'a str,
+    files: &'a str,
 ) -> Result<Command<'a>, AllocError>
     ensures { IfOk result (λ command. app_of command ≡ with_subcommand (app_of svahost.entry) (new_app name.entry.now).top) }
 {
     let command = Command::new(alloc, name)
         .about(about)
-        .long_about(whole_help());
+        .long_about(whole_help())
+        .override_usage(usage)
+        .after_help(files);
     svahost.subcommand(command)
 }
 
@@ -126,7 +142,9 @@ fn with_storm<'a>(svahost: Command<'a>, alloc: Global) -> Result<Command<'a>, Al
 {
     let storm = Command::new(alloc, "storm")
         .about(STORM)
-        .long_about(whole_help());
+        .long_about(whole_help())
+        .override_usage(STORM_USAGE)
+        .after_help(file_help());
     let with_turns = storm.arg(turns_option(alloc))?;
     svahost.subcommand(with_turns)
 }
@@ -197,7 +215,9 @@ fn with_trace<'a>(svahost: Command<'a>, alloc: Global) -> Result<Command<'a>, Al
 {
     let trace = Command::new(alloc, "trace")
         .about(TRACE)
-        .long_about(whole_help());
+        .long_about(whole_help())
+        .override_usage(TRACE_USAGE)
+        .after_help(file_help());
     let with_live = trace.arg(flag(alloc, "live", LIVE))?;
     let with_why = with_live.arg(flag(alloc, "why", WHYS))?;
     svahost.subcommand(with_why)
@@ -209,7 +229,9 @@ fn with_chart<'a>(svahost: Command<'a>, alloc: Global) -> Result<Command<'a>, Al
 {
     let chart = Command::new(alloc, "chart")
         .about(CHART)
-        .long_about(whole_help());
+        .long_about(whole_help())
+        .override_usage(CHART_USAGE)
+        .after_help(file_help());
     let with_svg = chart.arg(flag(alloc, "svg", SVG))?;
     svahost.subcommand(with_svg)
 }
@@ -234,13 +256,14 @@ fn command<'a>(alloc: Global) -> Result<Command<'a>, AllocError>
     ensures { IfOk result (λ command. app_of command ≡ svahost) }
 {
     let bare = without_commands(alloc)?;
-    let replaying = with_bare(bare, alloc, "replay", REPLAY)?;
-    let checking = with_bare(replaying, alloc, "check", CHECK)?;
+    let (one, many) = (file_help(), files_help());
+    let replaying = with_bare(bare, alloc, "replay", REPLAY, REPLAY_USAGE, one)?;
+    let checking = with_bare(replaying, alloc, "check", CHECK, CHECK_USAGE, many)?;
     let storming = with_storm(checking, alloc)?;
-    let plain_too = with_bare(storming, alloc, "plain", PLAIN)?;
-    let testing = with_bare(plain_too, alloc, "test", TEST)?;
-    let showing = with_bare(testing, alloc, "show", SHOW)?;
-    let explaining = with_bare(showing, alloc, "why", WHY)?;
+    let plain_too = with_bare(storming, alloc, "plain", PLAIN, PLAIN_USAGE, one)?;
+    let testing = with_bare(plain_too, alloc, "test", TEST, TEST_USAGE, many)?;
+    let showing = with_bare(testing, alloc, "show", SHOW, SHOW_USAGE, shown_help())?;
+    let explaining = with_bare(showing, alloc, "why", WHY, WHY_USAGE, many)?;
     let charting = with_chart(explaining, alloc)?;
     let exploring = with_explore(charting, alloc)?;
     let judging = with_judge(exploring, alloc)?;

@@ -1,4 +1,5 @@
-//! The files that `explore` and `judge` name, the part of them that is searched, and how many are searched at once.
+//! The files that a command names, the part of them that is taken, how many are taken at once, and the line behind which
+//! `show` looks.
 
 ghost use Rattle.std.specs.Prelude.{◌≡◌, ◌≤◌, ◌+◌, IfOk, IfSome, MatchOption, OnOk, Ok, drop, length, map, option_map, string_bytes, take, true};
 ghost use Rattle.std.specs.List.{position};
@@ -16,17 +17,33 @@ const MOST_PARTS: u64 = 999_999;
 /// How many files are searched at once at most.
 const MOST_JOBS: u64 = 256;
 
+/// The last line behind which `show` can look.
+const MOST_LINE: u64 = 999_999_999;
+
+/// Which files a command takes, and which options of files.
+#[derive(Clone, Copy, PartialEq, Eq)]
+pub enum Takes {
+    /// Any number of them, with `--part` and `--jobs`.
+    Many,
+    /// One.
+    One,
+    /// One, with `--after`: so does `show`.
+    Shown,
+}
+
 /// What the next word is.
 #[derive(Clone, Copy)]
 pub enum Awaited {
     /// An option, or a file.
     Word,
-    /// The number behind `--most`.
-    Most,
+    /// The value of an option that is left for the command line.
+    Value,
     /// The part behind `--part`.
     Part,
     /// The number behind `--jobs`.
     Jobs,
+    /// The number behind `--after`.
+    After,
     /// A file, whatever it looks like, since `--` came before.
     File,
 }
@@ -36,8 +53,8 @@ pub enum Awaited {
 pub enum Kind {
     /// `--`.
     Files,
-    /// `--most`.
-    Most,
+    /// `--most` or `--turns`.
+    Value,
     /// `--part`.
     Part,
     /// `--part=` with the part.
@@ -46,6 +63,10 @@ pub enum Kind {
     Jobs,
     /// `--jobs=` with the number.
     JobsIs,
+    /// `--after`.
+    After,
+    /// `--after=` with the number.
+    AfterIs,
     /// Another option.
     Own,
     /// A file.
@@ -60,15 +81,11 @@ fn begins(text: &[u8], with: &[u8]) -> bool
     with.len() <= text.len() && is(&text[..with.len()], with)
 }
 
-/// What a word is where an option or a file may stand.
-fn kind_of(word: &[u8]) -> Kind
-    ensures { result ≡ files.kind_of word.now }
+/// What an option is of a command that takes any number of files.
+fn kind_of_many(word: &[u8]) -> Kind
+    ensures { result ≡ files.kind_of_many word.now }
 {
-    if is(word, b"--") {
-        Kind::Files
-    } else if is(word, b"--most") {
-        Kind::Most
-    } else if is(word, b"--part") {
+    if is(word, b"--part") {
         Kind::Part
     } else if begins(word, b"--part=") {
         Kind::PartIs
@@ -76,8 +93,47 @@ fn kind_of(word: &[u8]) -> Kind
         Kind::Jobs
     } else if begins(word, b"--jobs=") {
         Kind::JobsIs
-    } else if begins(word, b"-") {
+    } else {
         Kind::Own
+    }
+}
+
+/// What an option of `show` is.
+fn kind_of_shown(word: &[u8]) -> Kind
+    ensures { result ≡ files.kind_of_shown word.now }
+{
+    if is(word, b"--after") {
+        Kind::After
+    } else if begins(word, b"--after=") {
+        Kind::AfterIs
+    } else {
+        Kind::Own
+    }
+}
+
+/// What an option is.
+fn kind_of_option(takes: Takes, word: &[u8]) -> Kind
+    ensures { result ≡ files.kind_of_option takes word.now }
+{
+    match takes {
+        Takes::Many => kind_of_many(word),
+        Takes::One => Kind::Own,
+        Takes::Shown => kind_of_shown(word),
+    }
+}
+
+/// What a word is where an option or a file may stand.
+fn kind_of(takes: Takes, word: &[u8]) -> Kind
+    ensures { result ≡ files.kind_of takes word.now }
+{
+    if is(word, b"--") {
+        Kind::Files
+    } else if is(word, b"-") {
+        Kind::File
+    } else if is(word, b"--most") || is(word, b"--turns") {
+        Kind::Value
+    } else if begins(word, b"-") {
+        kind_of_option(takes, word)
     } else {
         Kind::File
     }
@@ -94,6 +150,10 @@ pub struct Named {
     pub part: Option<Vec<u8>>,
     /// What stands behind `--jobs`; of several the last one.
     pub jobs: Option<Vec<u8>>,
+    /// What stands behind `--after`; of several the last one.
+    pub after: Option<Vec<u8>>,
+    /// Which files the command takes.
+    pub takes: Takes,
     /// What a further word would be.
     pub awaited: Awaited,
 }
@@ -110,14 +170,16 @@ impl Model for Named {
       files = texts named.files.items;
       part = option_map (λ part. part.items) named.part;
       jobs = option_map (λ jobs. jobs.items) named.jobs;
+      after = option_map (λ after. after.items) named.after;
+      takes = named.takes;
       awaited = named.awaited;
     } };
 }
 
 impl Named {
     /// Before the words behind a command.
-    fn begun(alloc: Global, name: &str, command: &str) -> Result<Named, AllocError>
-        ensures { IfOk result (λ named. named ≡ files.begun name.now command.now) }
+    fn begun(alloc: Global, takes: Takes, name: &str, command: &str) -> Result<Named, AllocError>
+        ensures { IfOk result (λ named. named ≡ files.begun takes name.now command.now) }
     {
         let mut own = Vec::new(alloc);
         own.push(String::from_str(alloc, name)?)?;
@@ -127,6 +189,8 @@ impl Named {
             files: Vec::new(alloc),
             part: None,
             jobs: None,
+            after: None,
+            takes,
             awaited: Awaited::Word,
         })
     }
@@ -163,6 +227,14 @@ impl Named {
         Ok(())
     }
 
+    /// A text says behind which line.
+    fn set_after(&mut self, alloc: Global, text: &[u8]) -> Result<(), AllocError>
+        ensures { OnOk result (self.new ≡ files.with_after self.old text.now) }
+    {
+        self.after = Some(Vec::from_slice(alloc, text)?);
+        Ok(())
+    }
+
     /// Says what the next word is.
     fn await_next(&mut self, next: Awaited)
         ensures { self.new ≡ files.awaiting self.old next }
@@ -180,21 +252,26 @@ impl Named {
                 self.await_next(Awaited::File);
                 Ok(())
             }
-            Kind::Most => {
+            Kind::Value => {
                 self.keep(alloc, word)?;
-                self.await_next(Awaited::Most);
+                self.await_next(Awaited::Value);
                 Ok(())
             }
             Kind::Part => {
                 self.await_next(Awaited::Part);
                 Ok(())
             }
-            Kind::PartIs => self.set_part(alloc, behind_equals(word.as_bytes())),
+            Kind::PartIs => self.set_part(alloc, behind(7, word.as_bytes())),
             Kind::Jobs => {
                 self.await_next(Awaited::Jobs);
                 Ok(())
             }
-            Kind::JobsIs => self.set_jobs(alloc, behind_equals(word.as_bytes())),
+            Kind::JobsIs => self.set_jobs(alloc, behind(7, word.as_bytes())),
+            Kind::After => {
+                self.await_next(Awaited::After);
+                Ok(())
+            }
+            Kind::AfterIs => self.set_after(alloc, behind(8, word.as_bytes())),
             Kind::Own => self.keep(alloc, word),
             Kind::File => self.name(alloc, word),
         }
@@ -206,8 +283,8 @@ impl Named {
     {
         let awaited = self.awaited;
         match awaited {
-            Awaited::Word => self.take_kind(alloc, kind_of(word.as_bytes()), word),
-            Awaited::Most => {
+            Awaited::Word => self.take_kind(alloc, kind_of(self.takes, word.as_bytes()), word),
+            Awaited::Value => {
                 self.await_next(Awaited::Word);
                 self.keep(alloc, word)
             }
@@ -218,6 +295,10 @@ impl Named {
             Awaited::Jobs => {
                 self.await_next(Awaited::Word);
                 self.set_jobs(alloc, word.as_bytes())
+            }
+            Awaited::After => {
+                self.await_next(Awaited::Word);
+                self.set_after(alloc, word.as_bytes())
             }
             Awaited::File => self.name(alloc, word),
         }
@@ -234,33 +315,80 @@ impl Named {
     }
 }
 
-/// What stands behind `--part=` or `--jobs=`.
-fn behind_equals(word: &[u8]) -> &[u8]
-    ensures { result.now ≡ drop 7 word.entry.now }
+/// What stands behind the name of an option and `=`, which are so many bytes.
+fn behind(count: usize, word: &[u8]) -> &[u8]
+    ensures { result.now ≡ drop count word.entry.now }
 {
-    match word.get(7..) {
+    match word.get(count..) {
         Some(text) => text,
         None => &[],
     }
 }
 
-/// Whether a command takes files.
-fn takes_files(command: &[u8]) -> bool
-    ensures { result ≡ files.takes_files command.now }
+/// Whether a command takes any number of files.
+fn takes_many(command: &[u8]) -> bool
+    ensures { result ≡ files.takes_many command.now }
 {
-    is(command, b"explore") || is(command, b"judge")
+    is(command, b"check")
+        || is(command, b"test")
+        || is(command, b"why")
+        || is(command, b"explore")
+        || is(command, b"judge")
 }
 
-/// The words of a command that takes files, with these apart; `None` of another command.
+/// Whether a command takes one file.
+fn takes_one(command: &[u8]) -> bool
+    ensures { result ≡ files.takes_one command.now }
+{
+    is(command, b"replay")
+        || is(command, b"plain")
+        || is(command, b"chart")
+        || is(command, b"trace")
+        || is(command, b"storm")
+}
+
+/// Which files a command takes; `None` of a word that is no command.
+fn takes_of(command: &[u8]) -> Option<Takes>
+    ensures { result ≡ files.takes_of command.now }
+{
+    if takes_many(command) {
+        Some(Takes::Many)
+    } else if takes_one(command) {
+        Some(Takes::One)
+    } else if is(command, b"show") {
+        Some(Takes::Shown)
+    } else {
+        None
+    }
+}
+
+/// The words behind a command that takes these files.
+fn named_by(
+    alloc: Global,
+    takes: Takes,
+    name: &str,
+    command: &str,
+    words: &[String],
+) -> Result<Named, AllocError>
+    ensures { IfOk result (λ named. named ≡ files.named_by takes name.now command.now (texts words.now)) }
+{
+    let mut named = Named::begun(alloc, takes, name, command)?;
+    named.take_all(alloc, words)?;
+    Ok(named)
+}
+
+/// The words of a command, with the files that it takes apart; `None` where the first is no command.
 pub fn named_in(alloc: Global, words: &[String]) -> Result<Option<Named>, AllocError>
     ensures { IfOk result (λ named. named ≡ files.named_in (texts words.now)) }
 {
     match words {
-        [name, command, rest @ ..] if takes_files(command.as_bytes()) => {
-            let mut named = Named::begun(alloc, name.as_str(), command.as_str())?;
-            named.take_all(alloc, rest)?;
-            Ok(Some(named))
-        }
+        [name, command, rest @ ..] => match takes_of(command.as_bytes()) {
+            Some(takes) => {
+                let named = named_by(alloc, takes, name.as_str(), command.as_str(), rest)?;
+                Ok(Some(named))
+            }
+            None => Ok(None),
+        },
         _ => Ok(None),
     }
 }
@@ -312,6 +440,23 @@ pub fn jobs_of(text: &[u8]) -> Option<u64>
     ensures { result ≡ files.jobs_of text.now }
 {
     jobs_by(number_in(text))
+}
+
+/// A number of a line behind which is looked.
+fn after_by(found: Result<u64, Cause>) -> Option<u64>
+    ensures { result ≡ files.after_by found }
+{
+    match found {
+        Ok(line) if 1 <= line && line <= MOST_LINE => Some(line),
+        _ => None,
+    }
+}
+
+/// Behind which line of a script a text says that is looked, if it says it: 1 to 999999999.
+pub fn after_of(text: &[u8]) -> Option<u64>
+    ensures { result ≡ files.after_of text.now }
+{
+    after_by(number_in(text))
 }
 
 /// The files of a part: every N-th, from the K-th on.

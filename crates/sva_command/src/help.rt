@@ -9,32 +9,35 @@ pub const ABOUT: &str =
     "Judges a driver's order of acts, and runs scenarios of a host for shared virtual addressing";
 
 /// What `-h` says of `replay`.
-pub const REPLAY: &str = "Runs the scenario on standard input, and prints its report";
+pub const REPLAY: &str = "Runs the scenario on standard input or in a FILE, and prints its report";
 
 /// What `-h` says of `check`.
-pub const CHECK: &str = "Reads the scenario on standard input, and prints how many steps it has";
+pub const CHECK: &str =
+    "Reads the scenario on standard input or in a FILE, and prints how many steps it has";
 
 /// What `-h` says of `storm`.
 pub const STORM: &str =
-    "Plays the scenario on standard input by threads, and prints what an audit of their calls says";
+    "Plays the scenario on standard input or in a FILE by threads, and prints what an audit of their calls says";
 
 /// What `-h` says of `plain`.
-pub const PLAIN: &str = "Prints the scenario that the script on standard input stands for";
+pub const PLAIN: &str =
+    "Prints the scenario that the script on standard input or in a FILE stands for";
 
 /// What `-h` says of `test`.
 pub const TEST: &str =
-    "Runs the script on standard input, and compares each answer with what it expects";
+    "Runs the script on standard input or in a FILE, and compares each answer with what it expects";
 
 /// What `-h` says of `show`.
 pub const SHOW: &str =
-    "Runs the script on standard input, and prints what the host keeps behind its last line";
+    "Runs the script on standard input or in a FILE, and prints what the host keeps behind its last line";
 
 /// What `-h` says of `why`.
 pub const WHY: &str =
-    "Runs the script on standard input, and prints what holds each refused step back";
+    "Runs the script on standard input or in a FILE, and prints what holds each refused step back";
 
 /// What `-h` says of `chart`.
-pub const CHART: &str = "Runs the script on standard input, and draws it as a sequence chart";
+pub const CHART: &str =
+    "Runs the script on standard input or in a FILE, and draws it as a sequence chart";
 
 /// What `-h` says of `explore`.
 pub const EXPLORE: &str =
@@ -51,15 +54,51 @@ pub const WAITS: &str =
 /// What `-h` says of `--ends`.
 pub const ENDS: &str = "No more than 20 texts of ends are printed, and how many are left out";
 
+/// What the help of `replay` says of how it is called.
+pub const REPLAY_USAGE: &str = "svahost replay [FILE]";
+
+/// What the help of `check` says of how it is called.
+pub const CHECK_USAGE: &str = "svahost check [FILE]..";
+
+/// What the help of `storm` says of how it is called.
+pub const STORM_USAGE: &str = "svahost storm [OPTIONS] [FILE]";
+
+/// What the help of `plain` says of how it is called.
+pub const PLAIN_USAGE: &str = "svahost plain [FILE]";
+
+/// What the help of `test` says of how it is called.
+pub const TEST_USAGE: &str = "svahost test [FILE]..";
+
+/// What the help of `show` says of how it is called.
+pub const SHOW_USAGE: &str = "svahost show [--after N] [FILE]";
+
+/// What the help of `why` says of how it is called.
+pub const WHY_USAGE: &str = "svahost why [FILE]..";
+
+/// What the help of `chart` says of how it is called.
+pub const CHART_USAGE: &str = "svahost chart [OPTIONS] [FILE]";
+
+/// What the help of `trace` says of how it is called.
+pub const TRACE_USAGE: &str = "svahost trace [OPTIONS] [FILE]";
+
 /// What the help of `explore` says of how it is called.
 pub const EXPLORE_USAGE: &str = "svahost explore [OPTIONS] [FILE]..";
 
 /// What the help of `judge` says of how it is called.
 pub const JUDGE_USAGE: &str = "svahost judge [OPTIONS] [FILE]..";
 
-/// What the help of both says of files.
+/// What the help of a command that takes one file says of it.
+pub static FILE: &str = "Files:
+  [FILE]  Read in the place of standard input, whose name is -";
+
+/// What the help of `show` says of its file.
+pub static SHOWN: &str = "Files:
+  [FILE]       Read in the place of standard input, whose name is -
+  --after <N>  What is kept behind line N is printed, 1 to 999999999";
+
+/// What the help of a command that takes any number of files says of them.
 pub static FILES: &str = "Files:
-  [FILE]..      Read in the place of standard input; of several each has a line
+  [FILE]..      Read in the place of standard input, whose name is -; of several each has a line
   --part <K/N>  Of the files every N-th is searched, from the K-th on
   --jobs <N>    So many are searched at once, 1 to 256; if not given, one a processor";
 
@@ -87,7 +126,7 @@ pub const STRICT_RUN: &str = "the argument '--strict' cannot be used with '--run
 
 /// What `-h` says of `trace`.
 pub const TRACE: &str =
-    "Runs the script on standard input, and prints each step with its answer and its messages";
+    "Runs the script on standard input or in a FILE, and prints each step with its answer and its messages";
 
 /// What `-h` says of `--live`.
 pub const LIVE: &str = "A tab ends a column, and none is padded";
@@ -200,7 +239,7 @@ each step that was refused, blocked or withheld what holds it back, and in brack
 be accepted; `svahost trace --why` prints the same behind the rows of these steps, and `svahost test`
 behind an answer that isn't as expected. `svahost chart` draws the run: each message from its sending
 to its delivery; `--svg` as a picture. Each scenario is a script.
-`./svahost test FILE ..` tries several, and `./svahost show --after N` shows what is kept behind line N.
+`svahost show --after N` shows what is kept behind line N.
 
 A race is a script that leaves open who comes first. Behind the word `race` stand the lines of threads:
 of the host, of each endpoint, each unit and each worker, or those below `thread NAME`. Each thread
@@ -226,9 +265,10 @@ each text; `--ends` prints no more than 20. A claim that fails has a witness, a 
 `replay` takes; so has a `sometimes` that holds. With `--why` stands behind each witness what `why`
 says of its steps, and which lines wait where it ends, with what holds them back.
 
-`svahost explore FILE ..` and `svahost judge FILE ..` search several files at once, `--jobs N` of them or
-one a processor, and print a line for each, of one file the report; `--part K/N` is every N-th of them,
-from the K-th on.
+Each command takes a FILE in the place of standard input, whose name is `-`. `svahost explore FILE ..`
+searches several at once, `--jobs N` of them or one a processor, and prints a line for each, of one file the
+report; so do `judge`, `check`, `test` and `why`. `--part K/N` is every N-th of them, from the K-th on. A
+wrong line of a file is told as `FILE:LINE:COLUMN: error: ..`.
 
 The config, and the steps. E is an endpoint, S a space, B a binding, M a message, F a frame and W a
 worker, each numbered from 0, and a word in brackets may be missing:

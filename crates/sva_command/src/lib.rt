@@ -6,5 +6,7 @@ mod files;
 mod help;
 
 pub use command::{Asked, parse};
-pub use files::{Awaited, Kind, Named, Part, files_of, jobs_of, named_in, part_of};
+pub use files::{
+    Awaited, Kind, Named, Part, Takes, after_of, files_of, jobs_of, named_in, part_of,
+};
 pub use help::NO_TEXT;

@@ -1,2 +1,3 @@
 mod SayLemmas
 mod RunLemmas
+mod NameLemmas

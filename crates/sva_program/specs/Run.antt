@@ -28,6 +28,10 @@ use Rattle.sva_driver_reports.specs.declared.reports.Ruling.{Ruling}
 use Rattle.sva_driver_reports.specs.declared.reports.Ruling.TheVariants.{Safe, Untried, Right, Unsafe, UnsafeSoFar, Stuck, CutOff}
 use Rattle.sva_driver_reports.specs.declared.wanted.Wanted as driver
 use Rattle.sva_driver_reports.specs.Judged.{Judges, Runs}
+use Rattle.std.specs.declared.alloc.AllocError.{AllocError}
+use Rattle.sva_located.specs.Located.{located}
+use Rattle.sva_located.specs.declared.languages.Language.{Language}
+use Rattle.sva_located.specs.declared.languages.Language.TheVariants.{Scenario, Script, Race, Driver}
 use Rattle.sva_command.specs.declared.command.Asked.{Asked}
 use Rattle.sva_command.specs.declared.command.Asked.TheVariants.{Replay, Check, Storm, Plain, Test, Show, Why, Chart, Explore, Judge, Trace}
 use Rattle.sva_program.specs.declared.run.Ending.{Ending}
@@ -174,3 +178,41 @@ abbrev pub HasCause : {A R W : Type 0} → Stream R → Stream W → Result A Dr
 HasCause reader writer (Err Read) = (reader.failures ≡ 1) ⊎ ((reader.failures ≡ 0) × (reader.calls ≡ MOST_TURNS))
 HasCause reader writer (Err Write) = (reader.failures ≡ 0) × (writer.failures ≡ 1)
 HasCause reader writer _ = (reader.failures ≡ 0) × (writer.failures ≡ 0)
+
+-- ---- A text that is a file's
+
+-- what a command tells of each line as it comes isn't kept
+abbrev pub is_streamed : Asked → Bool
+is_streamed (Trace live whys) = true
+is_streamed asked = false
+
+-- the language of the texts that a command takes
+abbrev pub language_of : Asked → Language
+language_of Replay = Scenario
+language_of Check = Scenario
+language_of (Storm turns) = Scenario
+language_of (Explore most whys few_ends) = Race
+language_of (Judge run most strict all) = Driver
+language_of asked = Script
+
+-- neither a text nor a buffer fails but for want of memory
+abbrev pub kept_of : Result Ending DriveFault → Result Ending AllocError
+kept_of (Ok ending) = Ok ending
+kept_of (Err fault) = Err (record {})
+
+-- where the text is wrong each line that is wrong stands behind its place
+abbrev pub told_on : Asked → (name text : List ℕ) → Ending → (said : List ℕ) → List ℕ
+told_on asked name text (Ran Faulted) said = located (language_of asked) name text said
+told_on asked name text ending said = said
+
+-- this is told of the file of a text: what the command says of the text by itself, behind the file's name where it is wrong
+abbrev pub TextBy : Asked → (name text told : List ℕ) → Ending → Type 0
+TextBy asked name text told ending =
+    (said : List ℕ) × Reports asked (Some text) (Some []) (Some said) (Ok ending) × (told ≡ told_on asked name text ending said)
+
+-- that was written, or a prefix of it where writing failed; where memory lacked, nothing was
+abbrev pub RunsOnText : Asked → (name text : List ℕ) → (old new : Option (List ℕ)) → Result Ending DriveFault → Type 0
+RunsOnText asked name text old new (Ok ending) = (told : List ℕ) × TextBy asked name text told ending × Appends old new told
+RunsOnText asked name text old new (Err Write) =
+    (told : List ℕ) × (ending : Ending) × TextBy asked name text told ending × AppendsPrefix old new told
+RunsOnText asked name text old new (Err fault) = AppendsPrefix old new []

@@ -2,9 +2,11 @@
 //! arguments, and with the standard streams or a file.
 #![tactic(auto)]
 
+mod naming;
 mod run;
 mod storming;
 
-pub use run::{Ending, faulted, main_with, unread};
+pub use naming::{is_streamed, main_on};
+pub use run::{Ending, faulted, main_of, main_with, unread};
 pub use sva_scenario::Told;
 pub use sva_search::{Unwatched, Watch};

@@ -103,8 +103,30 @@ pub fn main_with<X: AllocGlobal + Threads + Wait + Sync, R: Read, W: Write, E: W
     }
 }
 
+/// A whole run of a command: the status that it exits with.
+pub fn main_of<X: AllocGlobal + Threads + Wait + Sync, R: Read, W: Write, E: Write, P: Watch>(
+    rt: &X,
+    asked: Asked,
+    reader: &mut Told<R>,
+    writer: &mut Told<W>,
+    errors: &mut Told<E>,
+    watch: &mut P,
+) -> u8
+    requires reader { IsNew reader.old }
+    requires writer { IsNew writer.old }
+    requires errors { IsNew errors.old }
+    ensures { (ended : Result Ending DriveFault) × (result ≡ status_of (is_strict asked) ended)
+        × Reports asked (R.remaining reader.old.inner) (W.contents writer.old.inner) (W.contents writer.new.inner) ended
+        × HasCause reader.new writer.new ended
+        × Says E.contents errors.old errors.new (complaint ended)
+        × OnOk ended (errors.new ≡ errors.old) }
+{
+    let ended = perform(rt, asked, reader, writer, watch);
+    finish(is_strict(asked), ended, errors)
+}
+
 /// What a command makes of its streams.
-fn perform<X: AllocGlobal + Threads + Wait + Sync, R: Read, W: Write, P: Watch>(
+pub(crate) fn perform<X: AllocGlobal + Threads + Wait + Sync, R: Read, W: Write, P: Watch>(
     rt: &X,
     asked: Asked,
     reader: &mut Told<R>,
@@ -147,7 +169,7 @@ fn perform<X: AllocGlobal + Threads + Wait + Sync, R: Read, W: Write, P: Watch>(
 }
 
 /// Whether a verdict that says nothing has a status of its own.
-fn is_strict(asked: Asked) -> bool
+pub(crate) fn is_strict(asked: Asked) -> bool
     ensures { result ≡ is_strict asked }
 {
     match asked {
@@ -288,7 +310,11 @@ fn untried(strict: bool) -> u8
 }
 
 /// The status of a run that ended so. A fault is told to `errors`.
-fn finish<E: Write>(strict: bool, ended: Result<Ending, DriveFault>, errors: &mut Told<E>) -> u8
+pub(crate) fn finish<E: Write>(
+    strict: bool,
+    ended: Result<Ending, DriveFault>,
+    errors: &mut Told<E>,
+) -> u8
     requires { IsNew errors.old }
     ensures status { result ≡ status_of strict ended }
     ensures said { Says E.contents errors.old errors.new (complaint ended) }

@@ -2,9 +2,7 @@
 -- a search of it alone says.
 use Rattle.std.proofs.Common.{◌≡◌, ◌∙◌, ◌≤◌, ◌/◌, ◌⊎◌, ap, arith, inl, inr, refl, sym, subst, ℕ, Bool, true, false, List, [], ◌∷◌}
 use Rattle.std.proofs.Common.{IfSome, Option, Some, None, Result, Ok, Err, is_none, option_map}
-use Rattle.std.specs.Global.{Global}
 use Rattle.std.specs.List.{AllZip}
-use Rattle.std.specs.Prelude.{Vec}
 use Rattle.std.specs.declared.alloc.AllocError.{AllocError}
 use Rattle.sva_search.specs.Found.{IsBudget}
 use Rattle.sva_search.specs.declared.found.Found.{Found}
@@ -24,9 +22,11 @@ use Rattle.sva_driver_texts.specs.declared.kept.Begun.TheVariants as begun
 use Rattle.sva_driver_reports.specs.Reports.{ruling_of}
 use Rattle.sva_driver_reports.specs.declared.reports.Ruling.{Ruling}
 use Rattle.sva_driver_reports.specs.Judged.{IsTold}
+use Rattle.sva_several.specs.declared.given.Given.{Given}
+use Rattle.sva_several.specs.declared.given.Given.TheVariants as given
 use Rattle.sva_several.specs.declared.searching.Said.{Said}
 use Rattle.sva_several.specs.declared.searching.Search.{Search}
-use Rattle.sva_several.specs.declared.searching.Search.TheVariants.{Drivers, Lines, Races}
+use Rattle.sva_several.specs.declared.searching.Search.TheVariants.{Drivers, Lines, Races, Steps, Tests, Whys}
 use Rattle.sva_several.specs.Searches.{IsExplored, IsFound, IsJudged, IsSaid, Tries, TriesDriver, TriesRace, is_ended, is_whole, line_of, wanted_of}
 use Rattle.sva_several.specs.Sharing.{IsFoundBy, IsSaidBy, share_of, shared}
 
@@ -128,10 +128,14 @@ explored_said most text said ended (found, verdict, whole, explores) = (
       said.text.items found (λ text one is h. h.explored) explores,
 )
 
-pub tried_said : (search : Search) (text : List ℕ) (said : Said) (ended : Bool) → Tries search text said ended → IsSaid search text said
-tried_said (Races most) text said ended h = explored_said most text said ended h
-tried_said (Drivers most all strict) text said ended (found, verdict, _, judged) = (found, verdict, judged)
-tried_said Lines text said ended h = h.0
+pub tried_said : (search : Search) (text : Given) (said : Said) (ended : Bool) → Tries search text said ended → IsSaid search text said
+tried_said search (given.Unread lack) said ended h = h.0
+tried_said (Races most) (given.Text text) said ended h = explored_said most text.items said ended h
+tried_said (Drivers most all strict) (given.Text text) said ended (found, verdict, _, judged) = (found, verdict, judged)
+tried_said Lines (given.Text text) said ended h = h.0
+tried_said Steps (given.Text text) said ended h = h.0
+tried_said Tests (given.Text text) said ended h = h.0
+tried_said Whys (given.Text text) said ended h = h.0
 
 -- ---- Shares
 
@@ -146,32 +150,41 @@ pub shared_alone : (search : Search) → shared search 1 ≡ search
 shared_alone (Races most) = ap Races (share_alone most)
 shared_alone (Drivers most all strict) = ap (λ most. Drivers most all strict) (share_alone most)
 shared_alone Lines = refl
+shared_alone Steps = refl
+shared_alone Tests = refl
+shared_alone Whys = refl
 
 -- ---- What is said of a text
 
 -- a first search that came to its end, or of which no other has a share
-pub first_ended : (search : Search) (jobs : ℕ) (text : List ℕ) (said : Said) (ended : Bool) → ended ≡ true → Tries (shared search jobs) text said ended
+pub first_ended : (search : Search) (jobs : ℕ) (text : Given) (said : Said) (ended : Bool) → ended ≡ true → Tries (shared search jobs) text said ended
     → IsSaidBy search jobs text said
 first_ended search jobs text said ended is h = inl (subst (Tries (shared search jobs) text said) is h)
 
-pub first_alone : (search : Search) (jobs : ℕ) (text : List ℕ) (said : Said) (ended : Bool) → jobs ≡ 1 → Tries (shared search jobs) text said ended
+pub first_alone : (search : Search) (jobs : ℕ) (text : Given) (said : Said) (ended : Bool) → jobs ≡ 1 → Tries (shared search jobs) text said ended
     → IsSaidBy search jobs text said
 first_alone search jobs text said true alone h = inl h
 first_alone search jobs text said false alone h =
     inr ((said, h), subst (λ it. IsSaid it text said) (ap (shared search) alone ∙ shared_alone search) (tried_said (shared search jobs) text said false h))
 
-pub said_alone : (search : Search) (jobs : ℕ) (text : List ℕ) (said : Said) → IsSaidBy search jobs text said → IsSaid search text said
+pub said_alone : (search : Search) (jobs : ℕ) (text : Given) (said : Said) → IsSaidBy search jobs text said → IsSaid search text said
 said_alone search jobs text said (inr (cut, says)) = says
-said_alone (Races most) jobs text said (inl ended) = ended_race (share_of most jobs) most (share_within most jobs) text said ended
-said_alone (Drivers most all strict) jobs text said (inl ended) = ended_driver (share_of most jobs) most (share_within most jobs) all text said ended
-said_alone Lines jobs text said (inl ended) = ended.0
+said_alone search jobs (given.Unread lack) said (inl ended) = ended.0
+said_alone (Races most) jobs (given.Text text) said (inl ended) =
+    ended_race (share_of most jobs) most (share_within most jobs) text.items said ended
+said_alone (Drivers most all strict) jobs (given.Text text) said (inl ended) =
+    ended_driver (share_of most jobs) most (share_within most jobs) all text.items said ended
+said_alone Lines jobs (given.Text text) said (inl ended) = ended.0
+said_alone Steps jobs (given.Text text) said (inl ended) = ended.0
+said_alone Tests jobs (given.Text text) said (inl ended) = ended.0
+said_alone Whys jobs (given.Text text) said (inl ended) = ended.0
 
-found_alone : (search : Search) (jobs : ℕ) (text : Vec ℕ Global) (found : Result Said AllocError) → IsFoundBy search jobs text found
+found_alone : (search : Search) (jobs : ℕ) (text : Given) (found : Result Said AllocError) → IsFoundBy search jobs text found
     → IsFound search text found
-found_alone search jobs text (Ok said) h = said_alone search jobs text.items said h
+found_alone search jobs text (Ok said) h = said_alone search jobs text said h
 found_alone search jobs text (Err fault) h = h
 
-pub all_alone : (search : Search) (jobs : ℕ) (texts : List (Vec ℕ Global)) (all : List (Result Said AllocError)) → AllZip (IsFoundBy search jobs) texts all
+pub all_alone : (search : Search) (jobs : ℕ) (texts : List Given) (all : List (Result Said AllocError)) → AllZip (IsFoundBy search jobs) texts all
     → AllZip (IsFound search) texts all
 all_alone search jobs [] [] h = h
 all_alone search jobs [] (found ∷ all) h = h

@@ -1,16 +1,17 @@
 -- What is written of several texts.
 use Rattle.std.proofs.Common.{◌≡◌, ◌∙◌, ◌++◌, ℕ, List, Option, Ok, ap, append_assoc, subst, sym}
 use Rattle.std.specs.Global.{Global}
-use Rattle.std.specs.Prelude.{OnOk, Result, String, Vec, Err}
+use Rattle.std.specs.Prelude.{OnOk, Result, String, Err}
 use Rattle.std.specs.declared.alloc.AllocError.{AllocError}
 use Rattle.sva_streams.specs.declared.streams.DriveFault.{DriveFault}
 use Rattle.sva_streams.specs.declared.streams.DriveFault.TheVariants.{Write}
 use Rattle.sva_streams.specs.Streams.{AppendsProperPrefix}
 use Rattle.sva_several.specs.declared.driving.Wanted.{Wanted}
+use Rattle.sva_several.specs.declared.given.Given.{Given}
 use Rattle.sva_several.specs.Told.{IsReport, TellsAll}
 
 -- a part of it was
-pub told_part : (wanted : Wanted) (names : List (String Global)) (texts : List (Vec ℕ Global)) (old new : Option (List ℕ)) (out : List ℕ)
+pub told_part : (wanted : Wanted) (names : List (String Global)) (texts : List Given) (old new : Option (List ℕ)) (out : List ℕ)
     (status : ℕ) (fault : DriveFault) → IsReport wanted names texts out status → fault ≡ Write → AppendsProperPrefix old new out
     → TellsAll wanted names texts old new (Err fault)
 told_part wanted names texts old new out status fault reports is part =

@@ -5,10 +5,11 @@ use Rattle.std.proofs.lemmas.List.{drop_all, drop_more}
 use Rattle.std.specs.Global.{Global}
 use Rattle.std.specs.Prelude.{Result, String, string_bytes}
 use Rattle.std.specs.declared.alloc.AllocError.{AllocError}
+use Rattle.sva_several.specs.declared.given.Given.{Given}
 use Rattle.sva_several.specs.declared.searching.Said.{Said}
 use Rattle.sva_several.specs.declared.searching.Search.{Search}
 use Rattle.sva_several.specs.declared.verdicts.Verdict.{Verdict}
-use Rattle.sva_several.specs.Lines.{lines_of, name_if, named, said_of}
+use Rattle.sva_several.specs.Lines.{lines_of, name_if, named, told_text}
 use Rattle.sva_several.specs.Verdicts.{count, is_same, one_if, verdict_of}
 
 module _ {A : Type 0} (list : List A) (place : ℕ) where
@@ -49,29 +50,50 @@ module _ (name text : List ℕ) (place : ℕ) where
   named_end begins out whole past before =
       sym (append-nil out) ∙ sym (ap (λ l. out ++ named name begins l) (drop_all place text past)) ∙ before
 
-module _ (search : Search) (names : List (String Global)) (all : List (Result Said AllocError)) (place : ℕ) where
-  pub told_next : (name : String Global) (found : Result Said AllocError) (out new whole : List ℕ) → place < length names → place < length all
-      → name ≡ get_or names place name → found ≡ get_or all place found → new ≡ out ++ named (string_bytes name) true (said_of search found)
-      → out ++ lines_of search (drop place names) (drop place all) ≡ whole → new ++ lines_of search (drop (place + 1) names) (drop (place + 1) all) ≡ whole
+module _ (search : Search) (names : List (String Global)) (texts : List Given) (all : List (Result Said AllocError)) (place : ℕ) where
+  pub told_next : (name : String Global) (given : Given) (found : Result Said AllocError) (out new whole : List ℕ) → place < length names
+      → place < length texts → place < length all → name ≡ get_or names place name → given ≡ get_or texts place given → found ≡ get_or all place found
+      → new ≡ out ++ told_text search (string_bytes name) given found
+      → out ++ lines_of search (drop place names) (drop place texts) (drop place all) ≡ whole
+      → new ++ lines_of search (drop (place + 1) names) (drop (place + 1) texts) (drop (place + 1) all) ≡ whole
   unfolding lines_of
-  told_next name found out new whole within inside is it puts before =
-      ap (λ l. l ++ lines_of search (drop (place + 1) names) (drop (place + 1) all)) puts
-      ∙ append_assoc out (named (string_bytes name) true (said_of search found)) (lines_of search (drop (place + 1) names) (drop (place + 1) all))
-      ∙ sym (λ i. out ++ lines_of search (next names place name name within is i) (next all place found found inside it i)) ∙ before
+  told_next name given found out new whole within has inside is gives it puts before =
+      let rest = lines_of search (drop (place + 1) names) (drop (place + 1) texts) (drop (place + 1) all) in
+      ap (λ l. l ++ rest) puts
+      ∙ append_assoc out (told_text search (string_bytes name) given found) rest
+      ∙ sym (λ i. out ++ lines_of search (next names place name name within is i) (next texts place given given has gives i) (next all place found found inside it i))
+      ∙ before
 
-  no_lines : (names : List (String Global)) → lines_of search names [] ≡ []
+  no_lines : (names : List (String Global)) (texts : List Given) → lines_of search names texts [] ≡ []
   unfolding lines_of
-  no_lines [] = refl
-  no_lines (name ∷ names) = refl
+  no_lines [] texts = refl
+  no_lines (name ∷ names) [] = refl
+  no_lines (name ∷ names) (given ∷ texts) = refl
 
-  pub told_end : (out whole : List ℕ) → length all ≤ place → out ++ lines_of search (drop place names) (drop place all) ≡ whole → out ≡ whole
+  no_texts : (names : List (String Global)) (all : List (Result Said AllocError)) → lines_of search names [] all ≡ []
+  unfolding lines_of
+  no_texts [] all = refl
+  no_texts (name ∷ names) all = refl
+
+  pub told_end : (out whole : List ℕ) → length all ≤ place → out ++ lines_of search (drop place names) (drop place texts) (drop place all) ≡ whole
+      → out ≡ whole
   told_end out whole past before =
-      sym (append-nil out) ∙ sym (ap (λ l. out ++ l) (ap (lines_of search (drop place names)) (drop_all place all past) ∙ no_lines (drop place names))) ∙ before
+      sym (append-nil out)
+      ∙ sym (ap (λ l. out ++ l) (ap (lines_of search (drop place names) (drop place texts)) (drop_all place all past)
+      ∙ no_lines (drop place names) (drop place texts))) ∙ before
 
-  pub names_end : (out whole : List ℕ) → length names ≤ place → out ++ lines_of search (drop place names) (drop place all) ≡ whole → out ≡ whole
+  pub names_end : (out whole : List ℕ) → length names ≤ place → out ++ lines_of search (drop place names) (drop place texts) (drop place all) ≡ whole
+      → out ≡ whole
   unfolding lines_of
   names_end out whole past before =
-      sym (append-nil out) ∙ sym (ap (λ l. out ++ lines_of search l (drop place all)) (drop_all place names past)) ∙ before
+      sym (append-nil out) ∙ sym (ap (λ l. out ++ lines_of search l (drop place texts) (drop place all)) (drop_all place names past)) ∙ before
+
+  pub texts_end : (out whole : List ℕ) → length texts ≤ place → out ++ lines_of search (drop place names) (drop place texts) (drop place all) ≡ whole
+      → out ≡ whole
+  texts_end out whole past before =
+      sym (append-nil out)
+      ∙ sym (ap (λ l. out ++ l) (ap (λ texts. lines_of search (drop place names) texts (drop place all)) (drop_all place texts past)
+      ∙ no_texts (drop place names) (drop place all))) ∙ before
 
 pub one_at_most : (n : ℕ) (so : Bool) → n ≡ one_if so → n ≤ 1
 one_at_most n true is = omega (arith, is)

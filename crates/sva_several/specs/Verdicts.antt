@@ -5,14 +5,13 @@ use Rattle.sva_race_reports.specs.declared.judging.Judged.TheVariants as judged
 use Rattle.sva_driver_reports.specs.declared.reports.Ruling.TheVariants as ruling
 use Rattle.sva_several.specs.declared.searching.Said.{Said}
 use Rattle.sva_several.specs.declared.searching.Search.{Search}
-use Rattle.sva_several.specs.declared.searching.Search.TheVariants.{Drivers, Lines, Races}
+use Rattle.sva_several.specs.declared.searching.Search.TheVariants.{Drivers}
 use Rattle.sva_several.specs.declared.verdicts.Verdict.{Verdict}
-use Rattle.sva_several.specs.declared.verdicts.Verdict.TheVariants.{Judged, Ruled, Wrong}
+use Rattle.sva_several.specs.declared.verdicts.Verdict.TheVariants.{Judged, Ruled, Done, Wrong, Memory, Unread}
 
--- a text of which memory lacked isn't run
 abbrev pub verdict_of : Result Said AllocError → Verdict
 verdict_of (Ok said) = said.verdict
-verdict_of (Err fault) = Wrong
+verdict_of (Err fault) = Memory
 
 abbrev pub is_same : Verdict → Verdict → Bool
 is_same (Judged judged.Holds) (Judged judged.Holds) = true
@@ -24,7 +23,10 @@ is_same (Ruled ruling.Right) (Ruled ruling.Right) = true
 is_same (Ruled ruling.Unsafe) (Ruled ruling.Unsafe) = true
 is_same (Ruled ruling.Stuck) (Ruled ruling.Stuck) = true
 is_same (Ruled ruling.CutOff) (Ruled ruling.CutOff) = true
+is_same Done Done = true
 is_same Wrong Wrong = true
+is_same Memory Memory = true
+is_same Unread Unread = true
 is_same one other = false
 
 abbrev pub one_if : Bool → ℕ
@@ -47,13 +49,14 @@ is_one_open all = is_there (Judged judged.Unknown) all || is_there (Ruled ruling
 -- a verdict that says nothing has a status of its own
 abbrev pub is_strict : Search → Bool
 is_strict (Drivers most all strict) = strict
-is_strict (Races most) = false
-is_strict Lines = false
+is_strict search = false
 
 abbrev pub is_one_untried : Search → List (Result Said AllocError) → Bool
 is_one_untried search all = is_strict search && is_there (Ruled ruling.Untried) all
 
--- one is wrong, else one fails or isn't safe, else one isn't known, else, if that is told, in one nothing was ever tried
+-- one can't be read, else memory lacked for one, else one is wrong, else one fails or isn't safe, else one isn't known, else, if that is told,
+-- in one nothing was ever tried
 abbrev pub status_of : Search → List (Result Said AllocError) → ℕ
 status_of search all =
-    if is_there Wrong all then 1 else if is_one_bad all then 4 else if is_one_open all then 5 else if is_one_untried search all then 8 else 0
+    if is_there Unread all then 2 else if is_there Memory all then 6 else if is_there Wrong all then 1 else
+    if is_one_bad all then 4 else if is_one_open all then 5 else if is_one_untried search all then 8 else 0

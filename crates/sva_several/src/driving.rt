@@ -4,6 +4,7 @@ ghost use Rattle.std.specs.Prelude.{◌≡◌, IfOk};
 ghost use Rattle.sva_streams.specs.Streams.{IsNew, Tells};
 ghost use Rattle.sva_several.specs.Told.{IsReport, TellsAll};
 
+use crate::given::Given;
 use crate::metering::Meter;
 use crate::reporting::report;
 use crate::searching::{Said, Search};
@@ -25,13 +26,13 @@ pub struct Wanted {
     pub is_part: bool,
 }
 
-/// The report of texts that were searched, and the status.
+/// The report of files that were searched, and the status.
 fn report_all<X: Threads + Sync, M: Meter>(
     rt: &X,
     alloc: Global,
     wanted: Wanted,
     names: &[String],
-    texts: &[Vec<u8>],
+    texts: &[Given],
     meter: &M,
 ) -> Result<(Vec<u8>, u8), AllocError>
     ensures { IfOk result (λ made. IsReport wanted names.now texts.now made.0.items made.1) }
@@ -40,19 +41,19 @@ fn report_all<X: Threads + Sync, M: Meter>(
     let found = search_all(rt, alloc, search, wanted.jobs, texts, meter);
     meter.end();
     let all = found?;
-    let out = report(alloc, search, wanted.is_part, names, all.as_slice())?;
+    let out = report(alloc, search, wanted.is_part, names, texts, all.as_slice())?;
     Ok((out, status_of(search, all.as_slice())))
 }
 
-/// Searches texts, some at once, and writes of each, behind the name of its file, what is said of it, and last, unless they
-/// are a part of a list, how many there are of each verdict. The status is given. How many are searched at once says nothing
-/// else of them. After `Write` a prefix of that was written, after `Memory` nothing.
+/// Searches the texts of files, some at once, and writes of each, behind the name of its file, what is said of it, or why it
+/// can't be read; and last, unless they are a part of a list, how many there are of each verdict. The status is given. How
+/// many are searched at once says nothing else of them. After `Write` a prefix of that was written, after `Memory` nothing.
 pub fn tell_all<X: Threads + Sync, W: Write, M: Meter>(
     rt: &X,
     alloc: Global,
     wanted: Wanted,
     names: &[String],
-    texts: &[Vec<u8>],
+    texts: &[Given],
     writer: &mut Told<W>,
     meter: &M,
 ) -> Result<u8, DriveFault>

@@ -1,22 +1,38 @@
 //! The report of several texts that were searched.
 
 ghost use Rattle.std.specs.Prelude.{◌≡◌, ◌++◌, IfOk, OnOk};
+ghost use Rattle.sva_located.specs.Located.{located};
 ghost use Rattle.sva_several.specs.Lines as lines;
 
+use crate::given::Given;
 use crate::naming::{first_line, put_named};
 use crate::searching::{Said, Search};
 use crate::verdicts::{Verdict, count};
 use std::alloc::{AllocError, Global};
 use sva_driver_reports::Ruling;
+use sva_located::{Language, located, shown_name};
 use sva_race_reports::Judged;
 use sva_script_reading::put_number;
 
-/// Whether the lines of all findings are told.
+/// The language that texts are to be in.
+pub fn language_of(search: Search) -> Language
+    ensures { result ≡ lines.language_of search }
+{
+    match search {
+        Search::Races { .. } => Language::Race,
+        Search::Drivers { .. } | Search::Lines => Language::Driver,
+        Search::Steps => Language::Scenario,
+        Search::Tests | Search::Whys => Language::Script,
+    }
+}
+
+/// Whether all lines are told: those of all findings, or what holds each step back.
 fn tells_all(search: Search, verdict: Verdict) -> bool
     ensures { result ≡ lines.tells_all search verdict }
 {
     match (search, verdict) {
         (Search::Drivers { all, .. }, Verdict::Ruled(Ruling::Unsafe)) => all,
+        (Search::Whys, Verdict::Done) => true,
         _ => false,
     }
 }
@@ -34,7 +50,7 @@ fn told(search: Search, verdict: Verdict, text: &[u8]) -> &[u8]
 {
     match verdict {
         Verdict::Wrong => text,
-        Verdict::Judged(_) | Verdict::Ruled(_) => told_of(text, tells_all(search, verdict)),
+        _ => told_of(text, tells_all(search, verdict)),
     }
 }
 
@@ -48,20 +64,72 @@ fn said_of(search: Search, found: &Result<Said, AllocError>) -> &[u8]
     }
 }
 
-/// Appends what is told of each text, behind its name.
+/// Appends what is told of a file whose text is wrong.
+fn put_located(
+    alloc: Global,
+    out: &mut Vec<u8>,
+    search: Search,
+    name: &[u8],
+    text: &[u8],
+    report: &[u8],
+) -> Result<(), AllocError>
+    ensures { OnOk result (out.new.items ≡ out.old.items ++ located (lines.language_of search) name.now text.now report.now) }
+{
+    let told = located(alloc, language_of(search), name, text, report)?;
+    out.extend_from_slice(told.as_slice())
+}
+
+/// Appends what is told of a file: each line that is wrong behind its place, and else each line behind the name.
+fn put_told(
+    alloc: Global,
+    out: &mut Vec<u8>,
+    search: Search,
+    name: &[u8],
+    given: &Given,
+    found: &Result<Said, AllocError>,
+) -> Result<(), AllocError>
+    ensures { OnOk result (out.new.items ≡ out.old.items ++ lines.told_text search name.now given.now found.now) }
+{
+    match (given, found) {
+        (
+            Given::Text(text),
+            Ok(
+                Said {
+                    verdict: Verdict::Wrong,
+                    text: report,
+                },
+            ),
+        ) => put_located(alloc, out, search, name, text.as_slice(), report.as_slice()),
+        _ => put_named(out, shown_name(name), said_of(search, found)),
+    }
+}
+
+/// Appends what is told of each file.
 fn put_lines(
+    alloc: Global,
     out: &mut Vec<u8>,
     search: Search,
     names: &[String],
+    texts: &[Given],
     all: &[Result<Said, AllocError>],
 ) -> Result<(), AllocError>
-    ensures { OnOk result (out.new.items ≡ out.old.items ++ lines.lines_of search names.now all.now) }
+    ensures { OnOk result (out.new.items ≡ out.old.items ++ lines.lines_of search names.now texts.now all.now) }
 {
     for place in 0..all.len() {
         if place >= names.len() {
             return Ok(());
         }
-        put_named(out, names[place].as_bytes(), said_of(search, &all[place]))?;
+        if place >= texts.len() {
+            return Ok(());
+        }
+        put_told(
+            alloc,
+            out,
+            search,
+            names[place].as_bytes(),
+            &texts[place],
+            &all[place],
+        )?;
     }
     Ok(())
 }
@@ -95,6 +163,14 @@ fn put_some(
     } else {
         put_many(out, ", ", all, verdict, word)
     }
+}
+
+/// Appends for how many files memory lacked, and how many can't be read.
+fn put_lacks(out: &mut Vec<u8>, all: &[Result<Said, AllocError>]) -> Result<(), AllocError>
+    ensures { OnOk result (out.new.items ≡ out.old.items ++ lines.lacks_text all.now) }
+{
+    put_some(out, all, Verdict::Memory, " out of memory")?;
+    put_some(out, all, Verdict::Unread, " not read")
 }
 
 /// Appends how many races hold, fail and are unknown, and how many texts are wrong.
@@ -137,6 +213,19 @@ fn put_runs(out: &mut Vec<u8>, all: &[Result<Said, AllocError>]) -> Result<(), A
     put_some(out, all, Verdict::Wrong, " not run")
 }
 
+/// Appends how many texts of steps are so, and how many are not.
+fn put_steps(
+    out: &mut Vec<u8>,
+    all: &[Result<Said, AllocError>],
+    done: &str,
+    wrong: &str,
+) -> Result<(), AllocError>
+    ensures { OnOk result (out.new.items ≡ out.old.items ++ lines.steps_text all.now done.now wrong.now) }
+{
+    put_many(out, "", all, Verdict::Done, done)?;
+    put_many(out, ", ", all, Verdict::Wrong, wrong)
+}
+
 /// Appends how many there are of each verdict.
 fn put_kinds(
     out: &mut Vec<u8>,
@@ -149,6 +238,8 @@ fn put_kinds(
         Search::Races { .. } => put_races(out, all),
         Search::Drivers { .. } => put_drivers(out, all),
         Search::Lines => put_runs(out, all),
+        Search::Tests => put_steps(out, all, " passed", " failed"),
+        Search::Steps | Search::Whys => put_steps(out, all, " right", " wrong"),
     }
 }
 
@@ -161,22 +252,24 @@ fn put_totals(
     ensures { OnOk result (out.new.items ≡ out.old.items ++ lines.totals_text search all.now) }
 {
     put_kinds(out, search, all)?;
+    put_lacks(out, all)?;
     out.extend_from_slice(b"\n")
 }
 
-/// The report of several texts that were searched: behind the name of each what is told of it, and last, unless they are
+/// The report of several files that were searched: behind the name of each what is told of it, and last, unless they are
 /// a part of a list, how many there are of each verdict.
 pub(crate) fn report(
     alloc: Global,
     search: Search,
     is_part: bool,
     names: &[String],
+    texts: &[Given],
     all: &[Result<Said, AllocError>],
 ) -> Result<Vec<u8>, AllocError>
-    ensures { IfOk result (λ out. out.items ≡ lines.report_text search is_part names.now all.now) }
+    ensures { IfOk result (λ out. out.items ≡ lines.report_text search is_part names.now texts.now all.now) }
 {
     let mut out = Vec::new(alloc);
-    put_lines(&mut out, search, names, all)?;
+    put_lines(alloc, &mut out, search, names, texts, all)?;
     if !is_part {
         put_totals(&mut out, search, all)?;
     }

@@ -1,13 +1,17 @@
 //! One text that is searched.
 
-ghost use Rattle.std.specs.Prelude.{◌≡◌, IfOk, option_map};
+ghost use Rattle.std.specs.Prelude.{◌≡◌, IfOk, option_map, true};
 ghost use Rattle.sva_several.specs.Searches as searches;
 
+use crate::given::{Given, Lack, lack_words};
 use crate::verdicts::Verdict;
 use std::alloc::{AllocError, Global};
 use sva_driver_reports::{Ruling, judge_text, run_text};
 use sva_race_reports::{Explored, Wanted, explore_to};
+use sva_reports::check_text;
+use sva_script_reports::{test, why};
 use sva_search::Unwatched;
+use sva_streams::{Outcome, Told};
 use sva_why::Explainer;
 
 /// What the texts are, and what is done with each.
@@ -29,6 +33,12 @@ pub enum Search {
     },
     /// The lines of drivers are taken one after another.
     Lines,
+    /// It is counted how many steps scenarios have.
+    Steps,
+    /// The answers of scripts are compared with what they expect.
+    Tests,
+    /// It is told what holds the steps of scripts back.
+    Whys,
 }
 
 /// What is said of a text.
@@ -166,13 +176,93 @@ fn run_one(alloc: Global, text: &[u8]) -> Result<Tried, AllocError>
     })
 }
 
+/// What is said of steps.
+fn ran(outcome: Outcome) -> Verdict
+    ensures { result ≡ searches.ran outcome }
+{
+    match outcome {
+        Outcome::Done => Verdict::Done,
+        Outcome::Faulted => Verdict::Wrong,
+    }
+}
+
+/// That this is said of steps, of which all were run or read.
+fn whole(outcome: Outcome, text: Vec<u8>) -> Tried
+    ensures said { (result.said.verdict ≡ searches.ran outcome) × (result.said.text ≡ text) }
+    ensures whole { result.is_whole ≡ true }
+{
+    Tried {
+        said: Said {
+            verdict: ran(outcome),
+            text,
+        },
+        is_whole: true,
+    }
+}
+
+/// Counts the steps of a scenario.
+fn check_one(alloc: Global, text: &[u8]) -> Result<Tried, AllocError>
+    ensures { IfOk result (λ tried. searches.TriesSteps text.now tried.said tried.is_whole) }
+{
+    let mut writer = Told::new(Vec::new(alloc));
+    match check_text(alloc, text, &mut writer) {
+        Ok(outcome) => Ok(whole(outcome, writer.into_inner())),
+        Err(_) => Err(AllocError),
+    }
+}
+
+/// Tests a script.
+fn test_one(alloc: Global, text: &[u8]) -> Result<Tried, AllocError>
+    ensures { IfOk result (λ tried. searches.TriesTest text.now tried.said tried.is_whole) }
+{
+    let mut out = Vec::new(alloc);
+    let outcome = test::<Explainer>(alloc, text, &mut out)?;
+    Ok(whole(outcome, out))
+}
+
+/// Explains the steps of a script.
+fn why_one(alloc: Global, text: &[u8]) -> Result<Tried, AllocError>
+    ensures { IfOk result (λ tried. searches.TriesWhys text.now tried.said tried.is_whole) }
+{
+    let mut out = Vec::new(alloc);
+    let outcome = why::<Explainer>(alloc, text, &mut out)?;
+    Ok(whole(outcome, out))
+}
+
 /// Searches a text.
-pub(crate) fn search_one(alloc: Global, search: Search, text: &[u8]) -> Result<Tried, AllocError>
-    ensures { IfOk result (λ tried. searches.Tries search text.now tried.said tried.is_whole) }
+fn search_text(alloc: Global, search: Search, text: &[u8]) -> Result<Tried, AllocError>
+    ensures { IfOk result (λ tried. searches.TriesText search text.now tried.said tried.is_whole) }
 {
     match search {
         Search::Races { most } => explore_one(alloc, most, text),
         Search::Drivers { most, all, .. } => judge_one(alloc, most, all, text),
         Search::Lines => run_one(alloc, text),
+        Search::Steps => check_one(alloc, text),
+        Search::Tests => test_one(alloc, text),
+        Search::Whys => why_one(alloc, text),
+    }
+}
+
+/// Says of a file that it can't be read.
+fn unread_one(alloc: Global, lack: Lack) -> Result<Tried, AllocError>
+    ensures { IfOk result (λ tried. searches.TriesUnread lack tried.said tried.is_whole) }
+{
+    let text = Vec::from_slice(alloc, lack_words(lack).as_bytes())?;
+    Ok(Tried {
+        said: Said {
+            verdict: Verdict::Unread,
+            text,
+        },
+        is_whole: true,
+    })
+}
+
+/// Searches the text of a file, or says why it can't be read.
+pub(crate) fn search_one(alloc: Global, search: Search, given: &Given) -> Result<Tried, AllocError>
+    ensures { IfOk result (λ tried. searches.Tries search given.now tried.said tried.is_whole) }
+{
+    match given {
+        Given::Text(text) => search_text(alloc, search, text.as_slice()),
+        Given::Unread(lack) => unread_one(alloc, *lack),
     }
 }

@@ -3,6 +3,7 @@
 ghost use Rattle.std.specs.Prelude.{◌≡◌, ◌≤◌, IfOk};
 ghost use Rattle.sva_several.specs.Sharing as sharing;
 
+use crate::given::Given;
 use crate::searching::{Said, Search, search_one};
 use std::alloc::{AllocError, Global};
 
@@ -28,7 +29,7 @@ fn shared(search: Search, jobs: u64) -> Search
             all,
             strict,
         },
-        Search::Lines => Search::Lines,
+        Search::Lines | Search::Steps | Search::Tests | Search::Whys => search,
     }
 }
 
@@ -46,7 +47,7 @@ pub(crate) fn search_first(
     alloc: Global,
     search: Search,
     jobs: u64,
-    text: &[u8],
+    text: &Given,
 ) -> Result<First, AllocError>
     requires { 1 ≤ jobs }
     ensures { IfOk result (sharing.IsFirst search jobs text.now) }
@@ -67,7 +68,7 @@ pub(crate) fn search_again(
     alloc: Global,
     search: Search,
     jobs: u64,
-    text: &[u8],
+    text: &Given,
     first: First,
 ) -> Result<Said, AllocError>
     requires jobs { 1 ≤ jobs }

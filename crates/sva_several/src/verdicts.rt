@@ -15,8 +15,14 @@ pub enum Verdict {
     Judged(Judged),
     /// A driver.
     Ruled(Ruling),
-    /// It isn't run, since it is wrong, or since memory lacked.
+    /// Its steps were run or read, and its answers are as expected.
+    Done,
+    /// It isn't run, since it is wrong, or an answer isn't as expected.
     Wrong,
+    /// Memory lacked.
+    Memory,
+    /// Its file can't be read.
+    Unread,
 }
 
 /// What is said of a text that was searched, or wasn't to the end since memory lacked.
@@ -25,7 +31,7 @@ pub(crate) fn verdict_of(found: &Result<Said, AllocError>) -> Verdict
 {
     match found {
         Ok(said) => said.verdict,
-        Err(_) => Verdict::Wrong,
+        Err(_) => Verdict::Memory,
     }
 }
 
@@ -43,7 +49,10 @@ fn is_same(one: Verdict, other: Verdict) -> bool
         | (Verdict::Ruled(Ruling::Unsafe), Verdict::Ruled(Ruling::Unsafe))
         | (Verdict::Ruled(Ruling::Stuck), Verdict::Ruled(Ruling::Stuck))
         | (Verdict::Ruled(Ruling::CutOff), Verdict::Ruled(Ruling::CutOff))
-        | (Verdict::Wrong, Verdict::Wrong) => true,
+        | (Verdict::Done, Verdict::Done)
+        | (Verdict::Wrong, Verdict::Wrong)
+        | (Verdict::Memory, Verdict::Memory)
+        | (Verdict::Unread, Verdict::Unread) => true,
         _ => false,
     }
 }
@@ -89,7 +98,7 @@ fn is_strict(search: Search) -> bool
 {
     match search {
         Search::Drivers { strict, .. } => strict,
-        Search::Races { .. } | Search::Lines => false,
+        _ => false,
     }
 }
 
@@ -100,12 +109,16 @@ fn is_one_untried(search: Search, all: &[Result<Said, AllocError>]) -> bool
     is_strict(search) && count(all, Verdict::Ruled(Ruling::Untried)) > 0
 }
 
-/// The status: 1 where one is wrong, else 4 where one fails or isn't safe, else 5 where one isn't known, else, if that is
-/// told, 8 where nothing was ever tried in one, else 0.
+/// The status: 2 where one can't be read, else 6 where memory lacked for one, else 1 where one is wrong, else 4 where one fails
+/// or isn't safe, else 5 where one isn't known, else, if that is told, 8 where nothing was ever tried in one, else 0.
 pub(crate) fn status_of(search: Search, all: &[Result<Said, AllocError>]) -> u8
     ensures { result ≡ verdicts.status_of search all.now }
 {
-    if count(all, Verdict::Wrong) > 0 {
+    if count(all, Verdict::Unread) > 0 {
+        2
+    } else if count(all, Verdict::Memory) > 0 {
+        6
+    } else if count(all, Verdict::Wrong) > 0 {
         1
     } else if is_one_bad(all) {
         4

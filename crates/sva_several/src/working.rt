@@ -1,11 +1,11 @@
 //! Several texts that are searched at once.
 
-ghost use Rattle.std.specs.Prelude.{◌≡◌, ◌<◌, ◌≤◌, All, IfOk, OnOk, get_or, length, replicate, vec_len, None, ℕ, Vec};
-ghost use Rattle.std.specs.Global.{Global};
+ghost use Rattle.std.specs.Prelude.{◌≡◌, ◌<◌, ◌≤◌, All, IfOk, OnOk, get_or, length, replicate, vec_len, None};
 ghost use Rattle.std.specs.List.{AllZip};
 ghost use Rattle.sva_several.specs.Searches.{IsFound};
 ghost use Rattle.sva_several.specs.Sharing as sharing;
 
+use crate::given::Given;
 use crate::metering::Meter;
 use crate::searching::{Said, Search};
 use crate::sharing::{First, search_again, search_first};
@@ -36,7 +36,7 @@ fn work<M: Meter>(
     alloc: Global,
     search: Search,
     jobs: u64,
-    texts: &[Vec<u8>],
+    texts: &[Given],
     next: &AtomicUsize,
     meter: &M,
 ) -> Vec<Answer>
@@ -49,7 +49,7 @@ fn work<M: Meter>(
         if place >= texts.len() {
             return answers;
         }
-        let began = search_first(alloc, search, jobs, texts[place].as_slice());
+        let began = search_first(alloc, search, jobs, &texts[place]);
         count_ended(meter, &began);
         // Where there is no memory for the answer, the text is searched once more behind all others.
         let _ = answers.push(Answer { place, began });
@@ -75,7 +75,7 @@ fn no_slots(
 fn put_one(
     search: Search,
     jobs: u64,
-    texts: &[Vec<u8>],
+    texts: &[Given],
     answer: Answer,
     slots: &mut [Option<Result<First, AllocError>>],
 )
@@ -90,7 +90,7 @@ fn put_one(
 fn put_all(
     search: Search,
     jobs: u64,
-    texts: &[Vec<u8>],
+    texts: &[Given],
     mut answers: Vec<Answer>,
     slots: &mut [Option<Result<First, AllocError>>],
 )
@@ -109,7 +109,7 @@ fn work_all<X: Threads + Sync, M: Meter>(
     alloc: Global,
     search: Search,
     jobs: u64,
-    texts: &[Vec<u8>],
+    texts: &[Given],
     meter: &M,
 ) -> Result<Vec<Vec<Answer>>, AllocError>
     requires { 1 ≤ jobs }
@@ -133,7 +133,7 @@ fn begin_all<X: Threads + Sync, M: Meter>(
     alloc: Global,
     search: Search,
     jobs: u64,
-    texts: &[Vec<u8>],
+    texts: &[Given],
     meter: &M,
 ) -> Result<Vec<Option<Result<First, AllocError>>>, AllocError>
     requires { 1 ≤ jobs }
@@ -152,7 +152,7 @@ fn end_one<M: Meter>(
     alloc: Global,
     search: Search,
     jobs: u64,
-    text: &[u8],
+    text: &Given,
     slot: Option<Result<First, AllocError>>,
     meter: &M,
 ) -> Result<Said, AllocError>
@@ -180,7 +180,7 @@ fn end_all<M: Meter>(
     alloc: Global,
     search: Search,
     jobs: u64,
-    texts: &[Vec<u8>],
+    texts: &[Given],
     mut slots: Vec<Option<Result<First, AllocError>>>,
     meter: &M,
 ) -> Result<Vec<Result<Said, AllocError>>, AllocError>
@@ -191,7 +191,7 @@ fn end_all<M: Meter>(
     let mut all = Vec::new(alloc);
     for place in 0..texts.len() {
         let slot = slots[place].take();
-        all.push(end_one(alloc, search, jobs, texts[place].as_slice(), slot, meter))?;
+        all.push(end_one(alloc, search, jobs, &texts[place], slot, meter))?;
     }
     Ok(all)
 }
@@ -212,7 +212,7 @@ pub(crate) fn search_all<X: Threads + Sync, M: Meter>(
     alloc: Global,
     search: Search,
     jobs: u64,
-    texts: &[Vec<u8>],
+    texts: &[Given],
     meter: &M,
 ) -> Result<Vec<Result<Said, AllocError>>, AllocError>
     ensures alone { IfOk result (λ all. AllZip (IsFound search) texts.now all.items) }

@@ -23,11 +23,11 @@ def named(page):
 
 
 def synopsis(manual, command):
-    """How a command is called: what `-h` says of it, and where that names no file, that it reads standard input."""
+    """How a command is called: what `-h` says of it."""
     usage = re.search(r"^Usage: svahost (.*)$", manual.said(command, "-h"), re.M)[1]
     name, _, rest = usage.partition(" ")
     words = [f"\\fB{code('svahost ' + name)}\\fR", *(f"\\fI{plain(it)}\\fR" for it in rest.split())]
-    return " ".join(words if "FILE" in rest else [*words, "<", "\\fIFILE\\fR"])
+    return " ".join(words)
 
 
 def command_page(manual, command):
@@ -39,6 +39,8 @@ def command_page(manual, command):
         begin = {"explore": "## 13. ", "judge": "## 15. "}[command]
         inner = "\n".join(section(text, begin))
         said += rendered(section(inner, "### The command", 3)) + [".SS Options and files"] + pages.of_searches()
+    else:
+        said += [".SS Files"] + pages.of_files()
     example = [line for it in languages[:1] for line in manual.example(command, LANGUAGES[it][3])]
     others = [f"svahost-{it}(5)" for it in languages] + ["svahost(1)"]
     return manual.page(f"svahost-{command}", 1, lowered(about), [

@@ -129,6 +129,12 @@ def of_searches():
     return rendered(lines[place_of(lines, "**`--most"):place_of(lines, "**The script")])
 
 
+def of_files():
+    """What it says of files."""
+    lines = section(format_text(), "## 10. ")
+    return rendered(lines[place_of(lines, "**Files."):place_of(lines, "**Progress.")])
+
+
 def see_also(*names):
     """The last part: other pages, by their names and numbers."""
     made = [f".BR {code(name)} ({number})" for name, number in names]

@@ -6,7 +6,7 @@ use Rattle.sva_command.proofs.command.with_chart.Goals as goal
 
 pub returns : goal.returns
 returns c =
-    let bare_is : app_of c.long_about-chart.result ≡ new_app (codes "chart") = search rules in
+    let bare_is : app_of c.after_help-chart.result ≡ new_app (codes "chart") = search rules in
     let chart_is : app_of c.in_ok-with_svg.with_svg ≡ with_rule (new_app (codes "chart")) (flag_rule (codes "svg")) =
     c.in_ok-with_svg.ensures.shape c.flag.ensures.local ∙ ap₂ with_rule bare_is c.flag.ensures.rule in
     IfOk-weaker c.subcommand.result _ _ (λ r added. added.shape (search rules)

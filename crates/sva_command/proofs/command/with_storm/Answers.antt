@@ -6,7 +6,7 @@ use Rattle.sva_command.proofs.command.with_storm.Goals as goal
 
 pub returns : goal.returns
 returns c =
-    let bare_is : app_of c.long_about-storm.result ≡ new_app (codes "storm") = search rules in
+    let bare_is : app_of c.after_help-storm.result ≡ new_app (codes "storm") = search rules in
     let storm_is : app_of c.in_ok-with_turns.with_turns ≡ with_rule (new_app (codes "storm")) turns_rule =
     c.in_ok-with_turns.ensures.shape c.turns_option.ensures.local ∙ ap₂ with_rule bare_is c.turns_option.ensures.rule in
     IfOk-weaker c.subcommand.result _ _ (λ r added. added.shape (search rules)

@@ -6,7 +6,7 @@ use Rattle.sva_command.proofs.command.with_trace.Goals as goal
 
 pub returns : goal.returns
 returns c =
-    let bare_is : app_of c.long_about-trace.result ≡ new_app (codes "trace") = search rules in
+    let bare_is : app_of c.after_help-trace.result ≡ new_app (codes "trace") = search rules in
     let live_is : app_of c.in_ok-with_live.with_live ≡ with_rule (new_app (codes "trace")) (flag_rule (codes "live")) =
     c.in_ok-with_live.ensures.shape c.flag.ensures.local ∙ ap₂ with_rule bare_is c.flag.ensures.rule in
     let trace_is : app_of c.in_ok-with_why.with_why ≡ with_rule (with_rule (new_app (codes "trace")) (flag_rule (codes "live"))) (flag_rule (codes "why")) =

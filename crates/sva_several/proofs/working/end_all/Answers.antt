@@ -1,8 +1,8 @@
-use Rattle.std.proofs.Common.{◌∙◌, ◌∷◌, ◌++◌, [], ap, subst, sym, IfOk, set, take}
+use Rattle.std.proofs.Common.{◌∙◌, ◌∷◌, ◌++◌, [], ap, subst, sym, set, take}
 use Rattle.std.proofs.lemmas.List.{take_more}
 use Rattle.std.proofs.lemmas.Slice.Zip.{all_zipped_more}
 use Rattle.std.specs.List.{AllZip}
-use Rattle.sva_several.specs.Sharing.{IsFoundBy, IsSaidBy}
+use Rattle.sva_several.specs.Sharing.{IsFoundBy}
 use Rattle.sva_several.proofs.Slots.{one_taken}
 use Rattle.sva_several.proofs.working.end_all.Goals as goal
 
@@ -14,7 +14,7 @@ loop-place-preserved g c =
     let place = c.loop-place.place in
     let inside = c.loop-place-test.true in
     let text = c.index-texts-place.result in
-    let said = subst (λ text. IfOk c.end_one.result (IsSaidBy search jobs text)) c.as_slice.ensures.value c.end_one.ensures in
+    let said = c.end_one.ensures in
     let more = all_zipped_more (IsFoundBy search jobs) (take place texts) c.loop-place.all.items text c.end_one.result c.loop-place.invariant.found said in
     record {
       found = subst (λ front. AllZip (IsFoundBy search jobs) front c.push.new.self.items)

@@ -176,7 +176,6 @@ serve : (part : Part) (o : Option Arrived) → Of IsNamed part (host.serve part 
 serve part None = tt
 serve part (Some one) = refl
 
-
 issue : (part : Part) (scope : Scope) (o : Option ℕ) → Of IsNamed part (unit.issue part scope o)
 issue part scope None = tt
 issue part scope (Some itag) = refl

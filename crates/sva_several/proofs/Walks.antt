@@ -61,7 +61,8 @@ module _ (search : Search) (names : List (String Global)) (texts : List Given) (
       let rest = lines_of search (drop (place + 1) names) (drop (place + 1) texts) (drop (place + 1) all) in
       ap (λ l. l ++ rest) puts
       ∙ append_assoc out (told_text search (string_bytes name) given found) rest
-      ∙ sym (λ i. out ++ lines_of search (next names place name name within is i) (next texts place given given has gives i) (next all place found found inside it i))
+      ∙ sym (λ i. out ++ lines_of search (next names place name name within is i) (next texts place given given has gives i)
+      (next all place found found inside it i))
       ∙ before
 
   no_lines : (names : List (String Global)) (texts : List Given) → lines_of search names texts [] ≡ []

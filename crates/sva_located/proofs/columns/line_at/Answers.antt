@@ -7,7 +7,8 @@ use Rattle.sva_located.proofs.columns.line_at.Goals as goal
 pub returns-then-number-wanted : goal.returns-then-number-wanted
 returns-then-number-wanted c =
     let it : (c.in-Some.number == c.args.wanted) ≡ true = search rules in
-    line_met c.args.wanted _ (lines_from (c.next.new.self.number + 1) c.next.new.self.rest.now) (c.in-Some.number, c.in-Some.line.now) _ c.in-Some.ensures.line it
+    line_met c.args.wanted _ (lines_from (c.next.new.self.number + 1) c.next.new.self.rest.now) (c.in-Some.number, c.in-Some.line.now) _
+    c.in-Some.ensures.line it
     c.loop-number.invariant
 
 pub loop-number-preserved : goal.loop-number-preserved

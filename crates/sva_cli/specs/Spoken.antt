@@ -83,23 +83,27 @@ abbrev pub are_none : List Text → Bool
 are_none [] = true
 are_none (file ∷ files) = false
 
+-- some of the files, where standard input is named no more than once among all
+abbrev pub once : Wanted → (all names : List Text) → Spoken
+once wanted all names = if nat_lt 1 (inputs_in all) then Wrong inputs_twice else Several wanted names
+
+abbrev pub several_of : Wanted → (files : List Text) → Spoken
+several_of wanted files = once wanted files files
+
 -- of a part those that `--part` says, where some are named
 abbrev pub part_said : Wanted → Text → (files : List Text) → Option Part → Spoken
 part_said wanted text files None = no_meaning takes_part text
 part_said wanted text [] (Some part) = Wrong part_of_none
-part_said wanted text (file ∷ files) (Some part) =
-    if nat_lt 1 (inputs_in (file ∷ files)) then Wrong inputs_twice else
-    Several (record wanted { is_part = true }) (files_of part (file ∷ files))
+part_said wanted text (file ∷ files) (Some part) = once (record wanted { is_part = true }) (file ∷ files) (files_of part (file ∷ files))
 
 abbrev pub part_in : Wanted → Text → (files : List Text) → Spoken
 part_in wanted text files = part_said wanted text files (part_of text)
 
 -- one is no search of several, and standard input is read once
 abbrev pub all_of : Asked → Wanted → (files : List Text) → Spoken
-all_of asked wanted [] = Several wanted []
+all_of asked wanted [] = several_of wanted []
 all_of asked wanted (file ∷ []) = One asked None file
-all_of asked wanted (file ∷ next ∷ files) =
-    if nat_lt 1 (inputs_in (file ∷ next ∷ files)) then Wrong inputs_twice else Several wanted (file ∷ next ∷ files)
+all_of asked wanted (file ∷ next ∷ files) = several_of wanted (file ∷ next ∷ files)
 
 abbrev pub part_or_all : Asked → Wanted → (files : List Text) → (part : Option Text) → Spoken
 part_or_all asked wanted files None = all_of asked wanted files

@@ -92,6 +92,31 @@ fn no_files(alloc: Global, told: &str) -> Result<Files, AllocError>
     })
 }
 
+/// That standard input is named more than once.
+fn named_twice(alloc: Global) -> Result<Files, AllocError>
+    ensures { IfOk result (λ files. spoken.means files ≡ spoken.Wrong spoken.inputs_twice) }
+{
+    no_files(
+        alloc,
+        "svahost: '-' is standard input, and is named more than once\n",
+    )
+}
+
+/// Some of the files are searched, where standard input isn't named more than once among all.
+fn once(
+    alloc: Global,
+    wanted: Wanted,
+    all: &[String],
+    names: Vec<String>,
+) -> Result<Files, AllocError>
+    ensures { IfOk result (λ files. spoken.means files ≡ spoken.once wanted (texts all.now) (texts names.items)) }
+{
+    if inputs_in(all) > 1 {
+        return named_twice(alloc);
+    }
+    Ok(Files::Several(Several { wanted, names }))
+}
+
 /// The files of a part, which the text behind `--part` says.
 fn part_in(
     alloc: Global,
@@ -114,19 +139,11 @@ fn part_in(
             "svahost: --part is a part of several files, and none is named\n",
         );
     }
-    if inputs_in(files) > 1 {
-        return no_files(
-            alloc,
-            "svahost: '-' is standard input, and is named more than once\n",
-        );
-    }
-    Ok(Files::Several(Several {
-        wanted: Wanted {
-            is_part: true,
-            ..wanted
-        },
-        names: files_of(alloc, part, files)?,
-    }))
+    let wanted = Wanted {
+        is_part: true,
+        ..wanted
+    };
+    once(alloc, wanted, files, files_of(alloc, part, files)?)
 }
 
 /// A file that is read in the place of standard input.
@@ -134,6 +151,19 @@ fn one_of(asked: Asked, after: Option<u64>, file: String) -> Files
     ensures { spoken.means result ≡ spoken.One asked after (string_bytes file) }
 {
     Files::One(One { asked, after, file })
+}
+
+/// Several files that are searched, of which standard input is one at most.
+fn several_of(alloc: Global, wanted: Wanted, files: Vec<String>) -> Result<Files, AllocError>
+    ensures { IfOk result (λ found. spoken.means found ≡ spoken.several_of wanted (texts files.items)) }
+{
+    if inputs_in(files.as_slice()) > 1 {
+        return named_twice(alloc);
+    }
+    Ok(Files::Several(Several {
+        wanted,
+        names: files,
+    }))
 }
 
 /// All files: one is read in the place of standard input, and several are searched.
@@ -145,21 +175,13 @@ fn all_of(
 ) -> Result<Files, AllocError>
     ensures { IfOk result (λ found. spoken.means found ≡ spoken.all_of asked wanted (texts files.items)) }
 {
-    if files.len() == 1 {
-        if let Some(file) = files.pop() {
-            return Ok(one_of(asked, None, file));
-        }
+    if files.len() != 1 {
+        return several_of(alloc, wanted, files);
     }
-    if inputs_in(files.as_slice()) > 1 {
-        return no_files(
-            alloc,
-            "svahost: '-' is standard input, and is named more than once\n",
-        );
+    match files.pop() {
+        Some(file) => Ok(one_of(asked, None, file)),
+        None => several_of(alloc, wanted, files),
     }
-    Ok(Files::Several(Several {
-        wanted,
-        names: files,
-    }))
 }
 
 /// What the words say of files, where this is wanted of several.

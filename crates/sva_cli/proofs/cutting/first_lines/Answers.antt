@@ -11,8 +11,8 @@ pub loop-place-preserved : goal.loop-place-preserved
 loop-place-preserved c =
     let text = c.args.text.now in
     let some : (c.loop-place.left == 0) ≡ false = search rules in
-    front_next text c.loop-place.place (get_or text c.loop-place.place 0) c.loop-place.left c.left_behind.result c.loop-place.front.items
-    c.push.new.self.items _ c.loop-place-test.true refl some c.in_ok-push.ensures.items c.left_behind.ensures c.loop-place.invariant
+    front_next text c.loop-place.place (get_or text c.loop-place.place 0) c.loop-place.left c.left_behind-left.result c.loop-place.front.items
+    c.push.new.self.items _ c.loop-place-test.true refl some c.in_ok-push.ensures.items c.left_behind-left.ensures c.loop-place.invariant
 
 pub returns : goal.returns
 returns c =

@@ -14,18 +14,18 @@ returns-then-is_input g c =
 
 pub returns-in-Ok : goal.returns-in-Ok
 returns-in-Ok g c =
-    let run = c.main_of-2.ensures in
+    let run = c.main_of-in-Ok.ensures in
     let other : is_input c.args.file.now ≡ false = search rules in
     subst (λ is. StreamsBy (g.S.Opens.opened c.args.opens.now) g.S.File.Read.remaining (g.S.Opens.fails c.args.opens.now)
-    (g.I.Read.remaining c.args.input.now.inner) g.O.Write.contents g.E.Write.contents c.args.writer.now c.main_of-2.new.writer c.args.errors.now
-    c.main_of-2.new.errors c.main_of-2.result is c.args.asked c.args.file.now) (sym other) (inl (
+    (g.I.Read.remaining c.args.input.now.inner) g.O.Write.contents g.E.Write.contents c.args.writer.now c.main_of-in-Ok.new.writer c.args.errors.now
+    c.main_of-in-Ok.new.errors c.main_of-in-Ok.result is c.args.asked c.args.file.now) (sym other) (inl (
       c.in-Ok.stream,
       c.in-Ok.ensures.opened,
       (
         run.0,
         run.1,
         subst (λ input. Reports c.args.asked (g.S.File.Read.remaining input) (g.O.Write.contents c.args.writer.now.inner)
-            (g.O.Write.contents c.main_of-2.new.writer.inner) run.0) c.new.ensures.inner run.2,
+            (g.O.Write.contents c.main_of-in-Ok.new.writer.inner) run.0) c.new.ensures.inner run.2,
         run.4,
         run.5,
       ),

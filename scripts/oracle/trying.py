@@ -7,9 +7,13 @@ the model, whether that is found.
 
 import collections
 import contextlib
+import multiprocessing
+import os
 import sys
 
 MOST_OF_PLANTED = 4000
+# What each process that looks for readings is handed: they are forked, so each plants them in a model of its own.
+LOOKED_FOR = {}
 
 
 class Reading:
@@ -58,14 +62,21 @@ def is_found(trial, program, seed, its):
     return False
 
 
+def is_planted_found(number):
+    """Whether the reading of that number is found, once it is planted."""
+    reading = LOOKED_FOR["readings"][number]
+    with reading.planted():
+        return is_found(LOOKED_FOR["trial"], LOOKED_FOR["program"], LOOKED_FOR["seed"], reading.its)
+
+
 def find_planted(kind, trial, program, seed, readings):
-    """Plants each reading in turn: 1 where one isn't found."""
+    """Plants each reading, several beside one another: 1 where one isn't found."""
+    LOOKED_FOR.update(trial=trial, program=program, seed=seed, readings=readings)
     found = 0
-    for reading in readings:
-        with reading.planted():
-            if is_found(trial, program, seed, reading.its):
-                found += 1
-            else:
+    with multiprocessing.get_context("fork").Pool(os.cpu_count()) as pool:
+        for reading, is_there in zip(readings, pool.imap(is_planted_found, range(len(readings)))):
+            found += is_there
+            if not is_there:
                 print("by-chance: %s: not found: %s" % (kind, reading.words), flush=True)
     print("by-chance: %s: %d planted, %d found" % (kind, len(readings), found))
     return 0 if found == len(readings) else 1

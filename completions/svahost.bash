@@ -1,7 +1,8 @@
 # Completion of svahost for bash. Installed as share/bash-completion/completions/svahost; by hand: source it.
 
 _svahost() {
-  local current=${COMP_WORDS[COMP_CWORD]} command=${COMP_WORDS[1]-} before=${COMP_WORDS[COMP_CWORD - 1]-} words=--help
+  local current=${COMP_WORDS[COMP_CWORD]} command=${COMP_WORDS[1]-} before=${COMP_WORDS[COMP_CWORD - 1]-}
+  local words='replay check storm plain test show why chart explore judge trace help --help --version'
   COMPREPLY=()
   # behind < or > the shell's own completion of files
   if [[ $before == [\<\>] || $current == [\<\>]* ]]; then
@@ -9,10 +10,12 @@ _svahost() {
     return
   fi
   if [ "$COMP_CWORD" -eq 1 ]; then
-    words='replay check storm plain test show why chart explore judge trace --help --version'
     # the script of the repository proves too
     [[ $1 == */* ]] && words+=' prove'
+  elif [ "$command" = help ]; then
+    words="${words%% help *} scenarios scripts races drivers statuses all"
   else
+    words=--help
     # readline takes the = of --most=N for a word
     [[ $before == --@(most|part|jobs|turns|after) || $before == = ]] && return
     if [[ $current != -* ]]; then
@@ -28,7 +31,7 @@ _svahost() {
     fi
     case $command in
       check | test | why) words='--part --jobs --help' ;;
-      judge) words='--run --strict --all --most --part --jobs --help' ;;
+      judge) words='--run --strict --all --needed --most --part --jobs --help' ;;
       explore) words='--why --ends --most --part --jobs --help' ;;
       trace) words='--live --why --help' ;;
       chart) words='--svg --help' ;;

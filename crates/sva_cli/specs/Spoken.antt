@@ -4,6 +4,8 @@ use Rattle.std.specs.Prelude.{◌≡◌, ◌≢◌, ◌⊎◌, ℕ, ◌&&◌, �
 use Rattle.std.specs.Prelude.{List, [], ◌∷◌, ◌++◌, Option, Some, None, Result, Ok, Err, string_bytes}
 use Rattle.clap.specs.Words.{Text}
 use Rattle.sva_command.specs.Command.{Asks, faults_of, texts}
+use Rattle.sva_command.specs.Help.{Called, called}
+use Rattle.sva_command.specs.Help as help
 use Rattle.sva_command.specs.Files.{Named, after_of, files_of, jobs_of, named_in, part_of}
 use Rattle.sva_command.specs.declared.command.Asked.{Asked}
 use Rattle.sva_command.specs.declared.command.Asked.TheVariants.{Check, Explore, Judge, Test, Why}
@@ -12,6 +14,7 @@ use Rattle.sva_command.specs.declared.files.Awaited.TheVariants as awaited
 use Rattle.sva_command.specs.declared.files.Part.{Part}
 use Rattle.sva_command.specs.declared.files.Takes.{Takes}
 use Rattle.sva_command.specs.declared.files.Takes.TheVariants.{Many}
+use Rattle.sva_command.specs.declared.topics.Topic.{Topic}
 use Rattle.sva_several.specs.declared.driving.Wanted.{Wanted}
 use Rattle.sva_cli.specs.Inputs.{inputs_in}
 use Rattle.sva_several.specs.declared.searching.Search.{Search}
@@ -21,11 +24,12 @@ use Rattle.sva_cli.specs.declared.files.Files.TheVariants as files
 
 -- ---- What is said
 
--- standard input is read, if anything is; a file in its place; files are searched; or this is told
+-- standard input is read, if anything is; a file in its place; files are searched; help is on this topic; or this is told
 pub data Spoken : Type 0 where
   Input : (own : List Text) → Spoken
   One : Asked → (after : Option ℕ) → (file : Text) → Spoken
   Several : (wanted : Wanted) → (names : List Text) → Spoken
+  OnTopic : Topic → Spoken
   Wrong : (said : List ℕ) → Spoken
 
 -- the same of the code's value
@@ -33,6 +37,7 @@ abbrev pub means : Files → Spoken
 means (files.Input own) = Input (texts own.items)
 means (files.One one) = One one.asked one.after (string_bytes one.file)
 means (files.Several several) = Several several.wanted (texts several.names.items)
+means (files.Topic topic) = OnTopic topic
 means (files.Wrong said) = Wrong said.items
 
 -- ---- Which search
@@ -40,8 +45,8 @@ means (files.Wrong said) = Wrong said.items
 -- with `--run` the lines of drivers are taken; else all their orders are judged, within `--most`, by `--strict` and `--all` or not; races
 -- are explored, scenarios are read, and scripts tested or explained. No other command takes several files
 abbrev pub search_of : Asked → Search
-search_of (Judge true most strict all) = Lines
-search_of (Judge false most strict all) = Drivers most all strict
+search_of (Judge true most strict all needed) = Lines
+search_of (Judge false most strict all needed) = Drivers most all strict
 search_of (Explore most whys few_ends) = Races most
 search_of Check = Steps
 search_of Test = Tests
@@ -202,8 +207,26 @@ is_bare named =
     are_none named.files && not (is_some named.part) && not (is_some named.jobs) && not (is_some named.after)
     && not (awaits_jobs named.awaited || awaits_after named.awaited)
 
+-- on which lines a verdict rests is asked of one file
+abbrev pub is_of_one : Asked → Bool
+is_of_one (Judge run most strict all needed) = needed
+is_of_one asked = false
+
+abbrev pub of_several : List ℕ
+of_several = codes "svahost: --jobs and --part are of several files, and --needed takes one\n"
+
+abbrev pub says_of_several : Named → Bool
+says_of_several named =
+    is_some named.part || is_some named.jobs || (awaits_part named.awaited || awaits_jobs named.awaited)
+
+abbrev pub one_by : Asked → Named → Spoken
+one_by asked named = if says_of_several named then Wrong of_several else file_by asked named
+
+abbrev pub many_by : Asked → (usual : ℕ) → Named → Spoken
+many_by asked usual named = if is_of_one asked then one_by asked named else files_by asked usual named
+
 abbrev pub meant_by : Takes → Asked → (usual : ℕ) → Named → Spoken
-meant_by Many asked usual named = files_by asked usual named
+meant_by Many asked usual named = many_by asked usual named
 meant_by takes asked usual named = file_by asked named
 
 abbrev pub meant : Asked → (usual : ℕ) → Named → Spoken
@@ -223,6 +246,14 @@ abbrev pub IsSpokenBy : (usual : ℕ) → (words : List Text) → Option Named �
 IsSpokenBy usual words None spoken = spoken ≡ Input words
 IsSpokenBy usual words (Some named) spoken = IsSaidOf usual words named (is_bare named) spoken
 
+abbrev pub IsSpokenOwn : (usual : ℕ) → (words : List Text) → Spoken → Type 0
+IsSpokenOwn usual words spoken = IsSpokenBy usual words (named_in words) spoken
+
+abbrev pub IsSpokenCalled : (usual : ℕ) → Called → Spoken → Type 0
+IsSpokenCalled usual (help.Own words) spoken = IsSpokenOwn usual words spoken
+IsSpokenCalled usual (help.On topic) spoken = spoken ≡ OnTopic topic
+IsSpokenCalled usual (help.Wrong said) spoken = spoken ≡ Wrong said
+
 -- this is what the words say, the program's name first
 abbrev pub IsSpoken : (usual : ℕ) → (words : List Text) → Spoken → Type 0
-IsSpoken usual words spoken = IsSpokenBy usual words (named_in words) spoken
+IsSpoken usual words spoken = IsSpokenCalled usual (called words) spoken

@@ -1,11 +1,12 @@
 -- What is told of the files that a command line names, and the status.
 use Rattle.std.specs.Global.{Global}
-use Rattle.std.specs.Prelude.{◌≡◌, ◌⊎◌, ℕ, Bool, true, false, List, ◌++◌, codes, IfOk, OnOk, Option, Result, Ok, Err, String, string_bytes, Vec}
+use Rattle.std.specs.Prelude.{◌≡◌, ◌⊎◌, ℕ, ◌+◌, Bool, true, false, List, ◌++◌, codes, IfOk, OnOk, Option, Result, Ok, Err, String, string_bytes, Vec}
 use Rattle.std.specs.declared.alloc.AllocError.{AllocError}
 use Rattle.clap.specs.Words.{Text}
 use Rattle.sva_streams.specs.declared.streams.DriveFault.{DriveFault}
-use Rattle.sva_streams.specs.declared.streams.DriveFault.TheVariants.{Memory}
-use Rattle.sva_streams.specs.Streams.{Stream, Tells}
+use Rattle.sva_streams.specs.declared.streams.DriveFault.TheVariants.{Memory, Write}
+use Rattle.sva_streams.specs.Streams.{AppendsProperPrefix, Stream, Tells}
+use Rattle.std.specs.Io.KnownBytes.{Appends}
 use Rattle.sva_located.specs.Located.{shown_name}
 use Rattle.sva_command.specs.declared.command.Asked.{Asked}
 use Rattle.sva_several.specs.declared.driving.Wanted.{Wanted}
@@ -42,6 +43,28 @@ module _ {E : Type 0} (noted : E → Option (List ℕ)) (before after : Stream E
   abbrev pub EndsSo : Result ℕ DriveFault → Type 0
   EndsSo (Ok told) = (status ≡ told) × (after ≡ before)
   EndsSo (Err fault) = (status ≡ 1) × Says noted before after (fault_line fault)
+
+-- ---- Help
+
+module _ {O : Type 0} (written : O → Option (List ℕ)) (old new : Stream O) where
+  -- all of a text was written, and help was shown; or a call failed, and only a front of it was
+  abbrev pub PutsText : (text : List ℕ) → Result ℕ DriveFault → Type 0
+  PutsText text (Ok status) = (status ≡ 0) × Appends (written old.inner) (written new.inner) text × (new.failures ≡ old.failures)
+  PutsText text (Err Write) =
+      AppendsProperPrefix (written old.inner) (written new.inner) text × (new.failures ≡ old.failures + 1)
+  PutsText text (Err fault) = ⊥
+
+  -- so with a text that was made; where memory lacked for it, nothing was written
+  abbrev pub Puts : (text : Result (Vec ℕ Global) AllocError) → Result ℕ DriveFault → Type 0
+  Puts (Ok text) told = PutsText text.items told
+  Puts (Err fault) told = (new ≡ old) × (told ≡ Err Memory)
+
+-- help on a topic was put, and so it ended
+module _ {O E : Type 0} (written : O → Option (List ℕ)) (noted : E → Option (List ℕ)) (old new : Stream O) (before after : Stream E)
+    (status : ℕ) where
+  abbrev pub TellsTopic : Type 0
+  TellsTopic =
+      (text : Result (Vec ℕ Global) AllocError) × (told : Result ℕ DriveFault) × Puts written old new text told × EndsSo noted before after status told
 
 -- ---- What a command makes of a stream or of a text
 

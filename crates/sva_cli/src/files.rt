@@ -2,13 +2,15 @@
 
 ghost use Rattle.std.specs.Prelude.{◌≡◌, ◌++◌, IfOk, codes, string_bytes};
 ghost use Rattle.sva_command.specs.Command.{texts};
+ghost use Rattle.sva_command.specs.Help as helped;
 ghost use Rattle.sva_cli.specs.Spoken as spoken;
 
 use crate::inputs::inputs_in;
 use clap::error::ErrorKind;
 use std::alloc::{AllocError, Global};
 use sva_command::{
-    Asked, Awaited, Named, Takes, after_of, files_of, jobs_of, named_in, parse, part_of,
+    Asked, Awaited, Called, Named, Takes, Topic, after_of, files_of, help_in, jobs_of, named_in,
+    parse, part_of,
 };
 use sva_several::{Search, Wanted};
 
@@ -45,7 +47,9 @@ pub enum Files {
     One(One),
     /// It names several, or asks for a part of them.
     Several(Several),
-    /// What it says of files can't be meant.
+    /// It asks for help on a topic.
+    Topic(Topic),
+    /// What it says of files or of help can't be meant.
     Wrong {
         /// What is told of that.
         said: Vec<u8>,
@@ -63,6 +67,7 @@ fn search_of(asked: Asked) -> Search
             most,
             strict,
             all,
+            ..
         } => Search::Drivers { most, all, strict },
         Asked::Explore { most, .. } => Search::Races { most },
         Asked::Check => Search::Steps,
@@ -330,12 +335,54 @@ fn file_by(alloc: Global, asked: Asked, named: Named) -> Result<Files, AllocErro
     only_of(alloc, asked, after, named.files)
 }
 
+/// Whether a command that takes several files takes one here: on which lines a verdict rests is asked of one.
+fn is_of_one(asked: Asked) -> bool
+    ensures { result ≡ spoken.is_of_one asked }
+{
+    match asked {
+        Asked::Judge { needed, .. } => needed,
+        _ => false,
+    }
+}
+
+/// Whether something is said of several files.
+fn says_of_several(named: &Named) -> bool
+    ensures { result ≡ spoken.says_of_several named.now }
+{
+    named.part.is_some()
+        || named.jobs.is_some()
+        || matches!(named.awaited, Awaited::Part | Awaited::Jobs)
+}
+
+/// What the words say of one file, where the others are a command that else takes several.
+fn one_by(alloc: Global, asked: Asked, named: Named) -> Result<Files, AllocError>
+    ensures { IfOk result (λ files. spoken.means files ≡ spoken.one_by asked named) }
+{
+    if says_of_several(&named) {
+        return no_files(
+            alloc,
+            "svahost: --jobs and --part are of several files, and --needed takes one\n",
+        );
+    }
+    file_by(alloc, asked, named)
+}
+
+/// What the words say of files, where the others are a command that takes several.
+fn many_by(alloc: Global, asked: Asked, usual: u64, named: Named) -> Result<Files, AllocError>
+    ensures { IfOk result (λ files. spoken.means files ≡ spoken.many_by asked usual named) }
+{
+    if is_of_one(asked) {
+        return one_by(alloc, asked, named);
+    }
+    files_by(alloc, asked, usual, named)
+}
+
 /// What the words say of files, where the others are this command.
 fn meant(alloc: Global, asked: Asked, usual: u64, named: Named) -> Result<Files, AllocError>
     ensures { IfOk result (λ files. spoken.means files ≡ spoken.meant asked usual named) }
 {
     match named.takes {
-        Takes::Many => files_by(alloc, asked, usual, named),
+        Takes::Many => many_by(alloc, asked, usual, named),
         Takes::One | Takes::Shown => file_by(alloc, asked, named),
     }
 }
@@ -350,10 +397,9 @@ fn is_bare(named: &Named) -> bool
         && !matches!(named.awaited, Awaited::Jobs | Awaited::After)
 }
 
-/// What the words of a command line say of files, the program's name first. So many are searched at once where they
-/// don't say how many.
-pub fn files_in(alloc: Global, usual: u64, words: Vec<String>) -> Result<Files, AllocError>
-    ensures { IfOk result (λ files. spoken.IsSpoken usual (texts words.items) (spoken.means files)) }
+/// What the words of a command line that asks for no topic say of files.
+fn own_files(alloc: Global, usual: u64, words: Vec<String>) -> Result<Files, AllocError>
+    ensures { IfOk result (λ files. spoken.IsSpokenOwn usual (texts words.items) (spoken.means files)) }
 {
     let Some(named) = named_in(alloc, words.as_slice())? else {
         return Ok(Files::Input { own: words });
@@ -368,4 +414,24 @@ pub fn files_in(alloc: Global, usual: u64, words: Vec<String>) -> Result<Files, 
             _ => Ok(Files::Input { own: named.own }),
         },
     }
+}
+
+/// What a command line says of files, where this is what it asks for as to help.
+fn files_called(alloc: Global, usual: u64, called: Called) -> Result<Files, AllocError>
+    ensures { IfOk result (λ files. spoken.IsSpokenCalled usual (helped.means called) (spoken.means files)) }
+{
+    match called {
+        Called::Own { words } => own_files(alloc, usual, words),
+        Called::On(topic) => Ok(Files::Topic(topic)),
+        Called::Wrong { said } => Ok(Files::Wrong { said }),
+    }
+}
+
+/// What the words of a command line say of files and of help, the program's name first. So many are searched at once where
+/// they don't say how many.
+pub fn files_in(alloc: Global, usual: u64, words: Vec<String>) -> Result<Files, AllocError>
+    ensures { IfOk result (λ files. spoken.IsSpoken usual (texts words.items) (spoken.means files)) }
+{
+    let called = help_in(alloc, words)?;
+    files_called(alloc, usual, called)
 }

@@ -11,7 +11,7 @@ ghost use Rattle.std.specs.Prelude.{◌≤◌};
 
 use crate::files::{Files, files_in};
 use crate::reading::Disk;
-use crate::telling::{mistaken, run_one, search_on};
+use crate::telling::{mistaken, run_one, search_on, tell_topic};
 use std::io;
 use std::io::IsTerminal;
 use std::process::ExitCode;
@@ -65,6 +65,7 @@ fn main(rt: HostRuntime) -> ExitCode {
             let mut input = Told::new(rt.stdin());
             search_on(&rt, &disk, &several, &mut input, out, told, &meter)
         }
+        Ok(Files::Topic(topic)) => tell_topic(alloc, topic, out, told),
         Ok(Files::Wrong { said }) => mistaken(Ok(said), told),
         Err(_) => faulted(DriveFault::Memory, told),
     };

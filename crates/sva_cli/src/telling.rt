@@ -3,7 +3,7 @@
 ghost use Rattle.std.specs.Prelude.{◌≡◌, IfOk};
 ghost use Rattle.sva_streams.specs.Streams.{IsNew};
 ghost use Rattle.sva_cli.specs.Reading.{HaveGiven};
-ghost use Rattle.sva_cli.specs.Telling.{EndsSo, RunsOne, SearchesNamed, StreamsOne, TellsMistake, TellsText, unreadable_line};
+ghost use Rattle.sva_cli.specs.Telling.{EndsSo, Puts, RunsOne, SearchesNamed, StreamsOne, TellsMistake, TellsText, TellsTopic, unreadable_line};
 
 use crate::cutting::cut;
 use crate::files::{One, Several};
@@ -13,11 +13,14 @@ use std::alloc::{AllocError, Global};
 use std::io::{Read, Write};
 use std::sync::Wait;
 use std::thread::Threads;
-use sva_command::Asked;
+use sva_command::{Asked, Topic, help_on};
 use sva_located::shown_name;
 use sva_program::{Told, Watch, faulted, is_streamed, main_of, main_on};
 use sva_several::{Given, Lack, Meter, lack_words, tell_all};
 use sva_streams::{DriveFault, write_all};
+
+/// Help was shown.
+const DONE: u8 = 0;
 
 /// The command line is wrong, or names a file that can't be read.
 const MISTAKE: u8 = 2;
@@ -55,6 +58,36 @@ fn ended<E: Write>(told: Result<u8, DriveFault>, errors: &mut Told<E>) -> u8
         Ok(status) => status,
         Err(fault) => faulted(fault, errors),
     }
+}
+
+/// Writes a text that was made, where memory didn't lack for it.
+fn put<O: Write>(text: Result<Vec<u8>, AllocError>, writer: &mut Told<O>) -> Result<u8, DriveFault>
+    requires { IsNew writer.old }
+    ensures { Puts O.contents writer.old writer.new text result }
+{
+    match text {
+        Ok(text) => match write_all(writer, text.as_slice()) {
+            Ok(()) => Ok(DONE),
+            // No other fault comes of a writer.
+            Err(_) => Err(DriveFault::Write),
+        },
+        Err(AllocError) => Err(DriveFault::Memory),
+    }
+}
+
+/// Tells what help says on a topic.
+pub fn tell_topic<O: Write, E: Write>(
+    alloc: Global,
+    topic: Topic,
+    writer: &mut Told<O>,
+    errors: &mut Told<E>,
+) -> u8
+    requires writer { IsNew writer.old }
+    requires errors { IsNew errors.old }
+    ensures { TellsTopic O.contents E.contents writer.old writer.new errors.old errors.new result }
+{
+    let told = put(help_on(alloc, topic), writer);
+    ended(told, errors)
 }
 
 /// A command on a file that is told as it comes, as `trace` tells it.

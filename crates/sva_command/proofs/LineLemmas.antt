@@ -269,8 +269,9 @@ asks_first name word rest (is_judge is) e =
     let none = judge_level name rest (subst (λ w. fault_of svahost (name ∷ w ∷ rest) ≡ []) is e) in
     subst (λ w. EntersRun (name ∷ w ∷ rest)) (sym is) (
       Judge (is_given (codes "run") (rows_after judge_shape.rules [] rest)) (most_by (most_text (rows_after judge_shape.rules [] rest)))
-          (is_given (codes "strict") (rows_after judge_shape.rules [] rest)) (is_given (codes "all") (rows_after judge_shape.rules [] rest)),
-      (name, rest, (none, refl, refl, refl, refl), refl),
+          (is_given (codes "strict") (rows_after judge_shape.rules [] rest)) (is_given (codes "all") (rows_after judge_shape.rules [] rest))
+          (is_given (codes "needed") (rows_after judge_shape.rules [] rest)),
+      (name, rest, (none, refl, refl, refl, refl, refl), refl),
     )
 asks_first name word rest (is_trace is) e =
     let none = trace_level name rest (subst (λ w. fault_of svahost (name ∷ w ∷ rest) ≡ []) is e) in
@@ -397,7 +398,7 @@ taken_words Show words is = taken_bare showing words is
 taken_words Why words is = taken_bare explaining words is
 taken_words (Chart svg) words (name, rest, given, e) = subst (λ w. fault_of svahost w ≡ []) (sym e) (takes_chart name rest given.0)
 taken_words (Explore most whys few_ends) words (name, rest, given, e) = subst (λ w. fault_of svahost w ≡ []) (sym e) (takes_explore name rest given.0)
-taken_words (Judge run most strict all) words (name, rest, given, e) = subst (λ w. fault_of svahost w ≡ []) (sym e) (takes_judge name rest given.0)
+taken_words (Judge run most strict all needed) words (name, rest, given, e) = subst (λ w. fault_of svahost w ≡ []) (sym e) (takes_judge name rest given.0)
 taken_words (Trace live whys) words (name, rest, given, e) = subst (λ w. fault_of svahost w ≡ []) (sym e) (takes_trace name rest given.0)
 taken_words (Storm turns) words (name, rest, given, inl e) = subst (λ w. fault_of svahost w ≡ []) (sym e) (unfaulted name rest (given_taken turns rest given)).0
 taken_words (Storm turns) words (name, rest, given, inr e) = subst (λ w. fault_of svahost w ≡ []) (sym e) (unfaulted name rest (given_taken turns rest given)).1

@@ -166,20 +166,24 @@ entered_explore m name rows most whys few_ends explore named found made told sho
         ((short ∙ ap (is_given (codes "ends")) (ap (λ o. unwrap_or o rows) found)) i))
 
 -- where `judge` was entered, the words ask for a driver to be judged
-pub entered_judge : (m : ArgMatches) (name : Text) (rows : List Row) (run : Bool) (most : ℕ) (strict all : Bool) → name ≡ codes "judge"
+pub entered_judge : (m : ArgMatches) (name : Text) (rows : List Row) (run : Bool) (most : ℕ) (strict all needed : Bool)
+    → name ≡ codes "judge"
     → Some name ≡ subcommand_name_of m
     → Some rows ≡ option_map (λ p. p.1) (subcommand_rows (out-ArgMatches m).subcommand)
     → run ≡ is_given (codes "run") rows → most ≡ most_by (most_text rows) → strict ≡ is_given (codes "strict") rows
-    → all ≡ is_given (codes "all") rows → Judge run most strict all ≡ asked_by (subcommand_rows_of m)
-entered_judge m name rows run most strict all judge named found told made strictly each = go (out-ArgMatches m).subcommand named found
+    → all ≡ is_given (codes "all") rows → needed ≡ is_given (codes "needed") rows
+    → Judge run most strict all needed ≡ asked_by (subcommand_rows_of m)
+entered_judge m name rows run most strict all needed judge named found told made strictly each least =
+    go (out-ArgMatches m).subcommand named found
   where
     go : {Z : Type 0} (b : Option (Box SubCommand Z)) → Some name ≡ option_map (λ b. (out-SubCommand (box_value b)).name.now) b
         → Some rows ≡ option_map (λ p. p.1) (subcommand_rows b)
-        → Judge run most strict all ≡ asked_by (subcommand_rows b)
+        → Judge run most strict all needed ≡ asked_by (subcommand_rows b)
     go None named found = absurd (cc named)
     go (Some b) named found =
         let own = rows_of (found_of (out-SubCommand (box_value b)).matches) in
         let same : rows ≡ own = ap (λ o. unwrap_or o rows) found in
-        subst (λ n. Judge run most strict all ≡ asked_by (Some (n, own))) (sym judge ∙ ap (λ o. unwrap_or o name) named)
+        subst (λ n. Judge run most strict all needed ≡ asked_by (Some (n, own))) (sym judge ∙ ap (λ o. unwrap_or o name) named)
         (λ i. Judge ((told ∙ ap (is_given (codes "run")) same) i) ((made ∙ ap (λ l. most_by (most_text l)) same) i)
-        ((strictly ∙ ap (is_given (codes "strict")) same) i) ((each ∙ ap (is_given (codes "all")) same) i))
+        ((strictly ∙ ap (is_given (codes "strict")) same) i) ((each ∙ ap (is_given (codes "all")) same) i)
+        ((least ∙ ap (is_given (codes "needed")) same) i))

@@ -1,6 +1,6 @@
 -- What a command line asks for. clap's definitions say what a parse makes of words; here is the command that they speak of.
 use Rattle.std.specs.Prelude.{◌≡◌, ◌≢◌, ◌⊎◌, ℕ, Bool, List, [], ◌∷◌, ◌++◌, false, true, codes, map, if◌then◌else◌, Option, None, Some, String, string_bytes}
-use Rattle.std.specs.Prelude.{◌&&◌, nat_le}
+use Rattle.std.specs.Prelude.{◌&&◌, ◌||◌, nat_le}
 use Rattle.std.specs.Option.{option_map_or}
 use Rattle.std.specs.Str.{bytes_eq}
 use Rattle.std.specs.Str.Parse.{digits_value, without_leading_plus}
@@ -50,12 +50,12 @@ no_commands = let plain = new_app (codes "svahost") in
 -- the command `judge`
 abbrev pub judge_app : App
 judge_app =
-    with_rule (with_rule (with_rule (with_rule (new_app (codes "judge")) most_rule) (flag_rule (codes "run"))) (flag_rule (codes "strict")))
-    (flag_rule (codes "all"))
+    with_rule (with_rule (with_rule (with_rule (with_rule (new_app (codes "judge")) most_rule) (flag_rule (codes "run")))
+    (flag_rule (codes "strict"))) (flag_rule (codes "all"))) (flag_rule (codes "needed"))
 
 -- `svahost` with a version and its commands: `storm`, which takes `--turns`, `chart`, which takes `--svg`, `explore`, which takes `--most`,
--- `--why` and `--ends`, `judge`, which takes `--most`, `--run`, `--strict` and `--all`, `trace`, which takes `--live` and `--why`, and those that
--- take no arguments; each has clap's flags for help
+-- `--why` and `--ends`, `judge`, which takes `--most`, `--run`, `--strict`, `--all` and `--needed`, `trace`, which takes `--live`
+-- and `--why`, and those that take no arguments; each has clap's flags for help
 abbrev pub svahost : App
 svahost =
     let replaying = with_subcommand no_commands (new_app (codes "replay")).top in
@@ -173,20 +173,20 @@ GivesFlags live whys words =
 abbrev pub IsTrace : (live whys : Bool) → List Text → Type 0
 IsTrace live whys words = (name : Text) × (rest : List Text) × GivesFlags live whys rest × (words ≡ name ∷ codes "trace" ∷ rest)
 
--- the words behind `judge`, by clap's definitions: they have no fault, `--run`, `--strict` and `--all` are among them or not, and they give
--- this number
-abbrev pub GivesJudge : (run : Bool) → (most : ℕ) → (strict all : Bool) → List Text → Type 0
-GivesJudge run most strict all words =
+-- the words behind `judge`, by clap's definitions: they have no fault, each of its flags is among them or not, and they give this number
+abbrev pub GivesJudge : (run : Bool) → (most : ℕ) → (strict all needed : Bool) → List Text → Type 0
+GivesJudge run most strict all needed words =
     (level_fault judge_shape [] nothing_held words false [] ≡ [])
     × (run ≡ is_given (codes "run") (rows_after judge_shape.rules [] words))
     × (most ≡ most_by (most_text (rows_after judge_shape.rules [] words)))
     × (strict ≡ is_given (codes "strict") (rows_after judge_shape.rules [] words))
     × (all ≡ is_given (codes "all") (rows_after judge_shape.rules [] words))
+    × (needed ≡ is_given (codes "needed") (rows_after judge_shape.rules [] words))
 
--- the words are the program's name, `judge`, and words that say this of `--run`, of `--most`, of `--strict` and of `--all`
-abbrev pub IsJudge : (run : Bool) → (most : ℕ) → (strict all : Bool) → List Text → Type 0
-IsJudge run most strict all words =
-    (name : Text) × (rest : List Text) × GivesJudge run most strict all rest × (words ≡ name ∷ codes "judge" ∷ rest)
+-- the words are the program's name, `judge`, and words that say this of `--most` and of each of its flags
+abbrev pub IsJudge : (run : Bool) → (most : ℕ) → (strict all needed : Bool) → List Text → Type 0
+IsJudge run most strict all needed words =
+    (name : Text) × (rest : List Text) × GivesJudge run most strict all needed rest × (words ≡ name ∷ codes "judge" ∷ rest)
 
 -- the words behind `chart`, by clap's definitions: they have no fault, and `--svg` is among them or not
 abbrev pub GivesSvg : Bool → List Text → Type 0
@@ -208,14 +208,22 @@ Enters Show words = IsCommand (codes "show") words
 Enters Why words = IsCommand (codes "why") words
 Enters (Chart svg) words = IsChart svg words
 Enters (Explore most whys few_ends) words = IsExplore most whys few_ends words
-Enters (Judge run most strict all) words = IsJudge run most strict all words
+Enters (Judge run most strict all needed) words = IsJudge run most strict all needed words
 Enters (Trace live whys) words = IsTrace live whys words
 
--- `--strict` and `--all` are of a verdict on all orders, and with `--run` there is none
+-- `--strict`, `--all` and `--needed` are of a verdict on all orders, and with `--run` there is none. Where a driver is judged again with a
+-- line left out, none of its findings is told, and it is no matter what was tried
+abbrev pub clash : (run strict all needed : Bool) → Bool
+clash run strict all needed =
+    run && (strict || all || needed) || needed && (strict || all)
+
+abbrev pub is_clash : Asked → Bool
+is_clash (Judge run most strict all needed) = clash run strict all needed
+is_clash asked = false
+
+-- two options can't be meant together
 abbrev pub own_faults : Asked → Kinds
-own_faults (Judge true most true all) = ArgumentConflict ∷ []
-own_faults (Judge true most false true) = ArgumentConflict ∷ []
-own_faults asked = []
+own_faults asked = if is_clash asked then ArgumentConflict ∷ [] else []
 
 -- the words ask for this command, and it can be meant
 abbrev pub Asks : Asked → List Text → Type 0
@@ -244,7 +252,8 @@ asked_by (Some (name, rows)) =
     if bytes_eq name (codes "chart") then Chart (is_given (codes "svg") rows) else
     if bytes_eq name (codes "explore") then Explore (most_by (most_text rows)) (is_given (codes "why") rows) (is_given (codes "ends") rows) else
     if bytes_eq name (codes "judge") then
-    Judge (is_given (codes "run") rows) (most_by (most_text rows)) (is_given (codes "strict") rows) (is_given (codes "all") rows) else
+    Judge (is_given (codes "run") rows) (most_by (most_text rows)) (is_given (codes "strict") rows) (is_given (codes "all") rows)
+    (is_given (codes "needed") rows) else
     if bytes_eq name (codes "trace") then Trace (is_given (codes "live") rows) (is_given (codes "why") rows) else
     Replay
 
@@ -271,11 +280,12 @@ AsksExplore words = (most : ℕ) × (whys : Bool) × (few_ends : Bool) × Asks (
 
 -- the words ask for a driver to be judged, or its lines to be taken
 abbrev pub AsksJudge : List Text → Type 0
-AsksJudge words = (run : Bool) × (most : ℕ) × (strict : Bool) × (all : Bool) × Asks (Judge run most strict all) words
+AsksJudge words =
+    (run : Bool) × (most : ℕ) × (strict : Bool) × (all : Bool) × (needed : Bool) × Asks (Judge run most strict all needed) words
 
 -- the words ask for a driver to be judged, and for a verdict that says nothing to have a status of its own
 abbrev pub AsksStrict : List Text → Type 0
-AsksStrict words = (most : ℕ) × (all : Bool) × Asks (Judge false most true all) words
+AsksStrict words = (most : ℕ) × (all : Bool) × (needed : Bool) × Asks (Judge false most true all needed) words
 
 -- a call for help: by a flag in the place of the command, whatever follows, or behind the command
 pub data CallsHelp (words : List Text) : Type 0 where

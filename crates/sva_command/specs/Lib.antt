@@ -1,2 +1,4 @@
 pub mod Command
 pub mod Files
+pub mod Help
+pub mod Flags

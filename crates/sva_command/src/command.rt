@@ -1,15 +1,18 @@
 //! The command line.
 
-ghost use Rattle.std.specs.Prelude.{◌≡◌, ◌∷◌, [], IfOk, codes, false};
+ghost use Rattle.std.specs.Prelude.{◌≡◌, ◌∷◌, [], IfOk, codes, false, is_some};
 ghost use Rattle.clap.specs.Words.{FailsBy, app_of, found_of, new_app, rows_of, rule_of, subcommand_rows_of, with_rule, with_subcommand};
-ghost use Rattle.sva_command.specs.Command.{Asks, IsReadable, IsWritten, asked_by, faults_of, flag_rule, is_given, judge_app, no_commands, own_faults};
+ghost use Rattle.sva_command.specs.Command.{Asks, IsReadable, IsWritten, asked_by, clash, faults_of, flag_rule, is_clash, is_given, judge_app, no_commands, own_faults};
+ghost use Rattle.sva_command.specs.Flags.{AddsTelling};
 ghost use Rattle.sva_command.specs.Command.{most_by, most_rule, most_text, svahost, texts, turns_by, turns_rule, turns_text, within};
 
 use crate::help::{
-    ABOUT, ALL, ALL_RUN, CHART, CHART_USAGE, CHECK, CHECK_USAGE, ENDS, EXPLORE, EXPLORE_USAGE,
-    FILE, FILES, HELP, JUDGE, JUDGE_USAGE, LIVE, MOST, PLAIN, PLAIN_USAGE, REPLAY, REPLAY_USAGE,
-    RUN, SHOW, SHOW_USAGE, SHOWN, STORM, STORM_USAGE, STRICT, STRICT_RUN, SVG, TEST, TEST_USAGE,
-    TRACE, TRACE_USAGE, TURNS, VERSION, WAITS, WHY, WHY_USAGE, WHYS,
+    ABOUT, ALL, ALL_NEEDED, ALL_RUN, CHART, CHART_ENDS, CHART_USAGE, CHECK, CHECK_ENDS,
+    CHECK_USAGE, ENDS, EXPLORE, EXPLORE_ENDS, EXPLORE_USAGE, JUDGE, JUDGE_ENDS, JUDGE_USAGE, LIVE,
+    MOST, NEEDED, NEEDED_RUN, PLAIN, PLAIN_ENDS, PLAIN_USAGE, REPLAY, REPLAY_ENDS, REPLAY_USAGE,
+    RUN, SHOW, SHOW_ENDS, SHOW_USAGE, STORM, STORM_ENDS, STORM_USAGE, STRICT, STRICT_NEEDED,
+    STRICT_RUN, SVG, TEST, TEST_ENDS, TEST_USAGE, TOPICS, TRACE, TRACE_ENDS, TRACE_USAGE, TURNS,
+    VERSION, WAITS, WHY, WHY_ENDS, WHY_USAGE, WHYS,
 };
 use clap::builder::ValueParser;
 use clap::error::ErrorKind;
@@ -72,6 +75,8 @@ pub enum Asked {
         strict: bool,
         /// Are all findings told, but for what is behind one? Not where the lines are taken one after another.
         all: bool,
+        /// Is each line left out in turn, and the rest judged again? Not with `run`, `strict` or `all`.
+        needed: bool,
     },
     /// Each step of a script with its answer and its messages, as it comes.
     Trace {
@@ -82,25 +87,23 @@ pub enum Asked {
     },
 }
 
-/// What `--help` says. The text is long, and a body that names a constant has it written out in its proof: so this one alone does.
-fn whole_help() -> &'static str {
-    HELP
-}
-
-/// What help says of files, of a command that takes any number of them. They are taken out of the words before, so no command
-/// takes them itself.
-fn files_help() -> &'static str {
-    FILES
-}
-
-/// The same of a command that takes one.
-fn file_help() -> &'static str {
-    FILE
-}
-
-/// And of `show`.
-fn shown_help() -> &'static str {
-    SHOWN
+/// What the help of a command says behind its options: files, statuses and an example. The texts are long, and a body that
+/// names a constant has it written out in its proof: so this one alone does.
+fn ends_of(command: &str) -> &'static str {
+    match command {
+        "replay" => REPLAY_ENDS,
+        "check" => CHECK_ENDS,
+        "storm" => STORM_ENDS,
+        "plain" => PLAIN_ENDS,
+        "test" => TEST_ENDS,
+        "show" => SHOW_ENDS,
+        "why" => WHY_ENDS,
+        "chart" => CHART_ENDS,
+        "explore" => EXPLORE_ENDS,
+        "judge" => JUDGE_ENDS,
+        "trace" => TRACE_ENDS,
+        _ => TOPICS,
+    }
 }
 
 /// The option `--turns`.
@@ -124,15 +127,13 @@ fn with_bare<'a>(
     name: &'a str,
     about: &'a str,
     usage: &'a str,
-    files: &'a str,
 ) -> Result<Command<'a>, AllocError>
     ensures { IfOk result (λ command. app_of command ≡ with_subcommand (app_of svahost.entry) (new_app name.entry.now).top) }
 {
     let command = Command::new(alloc, name)
         .about(about)
-        .long_about(whole_help())
         .override_usage(usage)
-        .after_help(files);
+        .after_help(ends_of(name));
     svahost.subcommand(command)
 }
 
@@ -142,9 +143,8 @@ fn with_storm<'a>(svahost: Command<'a>, alloc: Global) -> Result<Command<'a>, Al
 {
     let storm = Command::new(alloc, "storm")
         .about(STORM)
-        .long_about(whole_help())
         .override_usage(STORM_USAGE)
-        .after_help(file_help());
+        .after_help(ends_of("storm"));
     let with_turns = storm.arg(turns_option(alloc))?;
     svahost.subcommand(with_turns)
 }
@@ -171,9 +171,8 @@ fn with_explore<'a>(svahost: Command<'a>, alloc: Global) -> Result<Command<'a>, 
 {
     let explore = Command::new(alloc, "explore")
         .about(EXPLORE)
-        .long_about(whole_help())
         .override_usage(EXPLORE_USAGE)
-        .after_help(files_help());
+        .after_help(ends_of("explore"));
     let with_most = explore.arg(most_option(alloc))?;
     let with_why = with_most.arg(flag(alloc, "why", WAITS))?;
     let with_ends = with_why.arg(flag(alloc, "ends", ENDS))?;
@@ -191,20 +190,27 @@ fn flag<'a>(alloc: Global, name: &'a str, about: &'a str) -> Arg<'a>
         .help(about)
 }
 
+/// A command with the flags that say what is told of drivers.
+fn with_telling<'a>(judge: Command<'a>, alloc: Global) -> Result<Command<'a>, AllocError>
+    ensures { IfOk result (λ command. AddsTelling judge.entry command) }
+{
+    let with_all = judge.arg(flag(alloc, "all", ALL))?;
+    with_all.arg(flag(alloc, "needed", NEEDED))
+}
+
 /// The program with its command `judge`.
 fn with_judge<'a>(svahost: Command<'a>, alloc: Global) -> Result<Command<'a>, AllocError>
     ensures { IfOk result (λ command. app_of command ≡ with_subcommand (app_of svahost.entry) judge_app.top) }
 {
     let judge = Command::new(alloc, "judge")
         .about(JUDGE)
-        .long_about(whole_help())
         .override_usage(JUDGE_USAGE)
-        .after_help(files_help());
+        .after_help(ends_of("judge"));
     let with_most = judge.arg(most_option(alloc))?;
     let with_run = with_most.arg(flag(alloc, "run", RUN))?;
     let with_strict = with_run.arg(flag(alloc, "strict", STRICT))?;
-    let with_all = with_strict.arg(flag(alloc, "all", ALL))?;
-    svahost.subcommand(with_all)
+    let telling = with_telling(with_strict, alloc)?;
+    svahost.subcommand(telling)
 }
 
 /// The program with its command `trace`.
@@ -215,9 +221,8 @@ fn with_trace<'a>(svahost: Command<'a>, alloc: Global) -> Result<Command<'a>, Al
 {
     let trace = Command::new(alloc, "trace")
         .about(TRACE)
-        .long_about(whole_help())
         .override_usage(TRACE_USAGE)
-        .after_help(file_help());
+        .after_help(ends_of("trace"));
     let with_live = trace.arg(flag(alloc, "live", LIVE))?;
     let with_why = with_live.arg(flag(alloc, "why", WHYS))?;
     svahost.subcommand(with_why)
@@ -229,9 +234,8 @@ fn with_chart<'a>(svahost: Command<'a>, alloc: Global) -> Result<Command<'a>, Al
 {
     let chart = Command::new(alloc, "chart")
         .about(CHART)
-        .long_about(whole_help())
         .override_usage(CHART_USAGE)
-        .after_help(file_help());
+        .after_help(ends_of("chart"));
     let with_svg = chart.arg(flag(alloc, "svg", SVG))?;
     svahost.subcommand(with_svg)
 }
@@ -245,7 +249,7 @@ fn without_commands<'a>(alloc: Global) -> Result<Command<'a>, AllocError>
         named
             .version(VERSION)
             .about(ABOUT)
-            .long_about(whole_help())
+            .after_help(ends_of("svahost"))
             .subcommand_required(true)
             .disable_help_subcommand(true),
     )
@@ -256,14 +260,13 @@ fn command<'a>(alloc: Global) -> Result<Command<'a>, AllocError>
     ensures { IfOk result (λ command. app_of command ≡ svahost) }
 {
     let bare = without_commands(alloc)?;
-    let (one, many) = (file_help(), files_help());
-    let replaying = with_bare(bare, alloc, "replay", REPLAY, REPLAY_USAGE, one)?;
-    let checking = with_bare(replaying, alloc, "check", CHECK, CHECK_USAGE, many)?;
+    let replaying = with_bare(bare, alloc, "replay", REPLAY, REPLAY_USAGE)?;
+    let checking = with_bare(replaying, alloc, "check", CHECK, CHECK_USAGE)?;
     let storming = with_storm(checking, alloc)?;
-    let plain_too = with_bare(storming, alloc, "plain", PLAIN, PLAIN_USAGE, one)?;
-    let testing = with_bare(plain_too, alloc, "test", TEST, TEST_USAGE, many)?;
-    let showing = with_bare(testing, alloc, "show", SHOW, SHOW_USAGE, shown_help())?;
-    let explaining = with_bare(showing, alloc, "why", WHY, WHY_USAGE, many)?;
+    let plain_too = with_bare(storming, alloc, "plain", PLAIN, PLAIN_USAGE)?;
+    let testing = with_bare(plain_too, alloc, "test", TEST, TEST_USAGE)?;
+    let showing = with_bare(testing, alloc, "show", SHOW, SHOW_USAGE)?;
+    let explaining = with_bare(showing, alloc, "why", WHY, WHY_USAGE)?;
     let charting = with_chart(explaining, alloc)?;
     let exploring = with_explore(charting, alloc)?;
     let judging = with_judge(exploring, alloc)?;
@@ -289,24 +292,45 @@ fn conflict(alloc: Global, told: &'static str) -> Result<Asked, Error>
     Err(judge.error(ErrorKind::ArgumentConflict, told)?)
 }
 
-/// A command that was entered, unless that can't be meant: `--strict` and `--all` are of a verdict on all orders, and with
-/// `--run` there is none.
+/// Which two options of `judge` can't be meant together, if there are such: with `--run` there is no verdict on all orders,
+/// and a driver that is judged again with a line left out has none of its findings told.
+fn clash(run: bool, strict: bool, all: bool, needed: bool) -> Option<&'static str>
+    ensures { is_some result ≡ clash run strict all needed }
+{
+    match (run, strict, all, needed) {
+        (true, true, _, _) => Some(STRICT_RUN),
+        (true, _, true, _) => Some(ALL_RUN),
+        (true, _, _, true) => Some(NEEDED_RUN),
+        (_, true, _, true) => Some(STRICT_NEEDED),
+        (_, _, true, true) => Some(ALL_NEEDED),
+        _ => None,
+    }
+}
+
+/// The two options of `judge` that were given and can't be meant together, if there are such.
+fn clash_of(asked: Asked) -> Option<&'static str>
+    ensures { is_some result ≡ is_clash asked }
+{
+    match asked {
+        Asked::Judge {
+            run,
+            strict,
+            all,
+            needed,
+            ..
+        } => clash(run, strict, all, needed),
+        _ => None,
+    }
+}
+
+/// A command that was entered, unless two of its options can't be meant together.
 fn meant(alloc: Global, asked: Asked) -> Result<Asked, Error>
     ensures fails { FailsBy (own_faults asked) result }
     ensures asked { IfOk result (λ meant. meant ≡ asked) }
 {
-    match asked {
-        Asked::Judge {
-            run: true,
-            strict: true,
-            ..
-        } => conflict(alloc, STRICT_RUN),
-        Asked::Judge {
-            run: true,
-            all: true,
-            ..
-        } => conflict(alloc, ALL_RUN),
-        _ => Ok(asked),
+    match clash_of(asked) {
+        Some(told) => conflict(alloc, told),
+        None => Ok(asked),
     }
 }
 
@@ -336,6 +360,7 @@ fn entered(matches: &ArgMatches<'_>) -> Asked
             most: most(below),
             strict: is_given(below, "strict"),
             all: is_given(below, "all"),
+            needed: is_given(below, "needed"),
         },
         Some(("trace", below)) => Asked::Trace {
             live: is_given(below, "live"),

@@ -5,6 +5,7 @@ ghost use Rattle.std.specs.Prelude.{◌≡◌, ◌≤◌, ◌+◌, IfOk, IfSome,
 ghost use Rattle.std.specs.List.{position};
 ghost use Rattle.sva_command.specs.Command.{texts};
 ghost use Rattle.sva_command.specs.Files as files;
+ghost use Rattle.sva_command.specs.Help as helped;
 
 use std::alloc::{AllocError, Global};
 use std::marker::Model;
@@ -316,7 +317,7 @@ impl Named {
 }
 
 /// What stands behind the name of an option and `=`, which are so many bytes.
-fn behind(count: usize, word: &[u8]) -> &[u8]
+pub(crate) fn behind(count: usize, word: &[u8]) -> &[u8]
     ensures { result.now ≡ drop count word.entry.now }
 {
     match word.get(count..) {
@@ -360,6 +361,13 @@ fn takes_of(command: &[u8]) -> Option<Takes>
     } else {
         None
     }
+}
+
+/// Whether a word is a command.
+pub(crate) fn is_command(word: &[u8]) -> bool
+    ensures { result ≡ helped.is_command word.now }
+{
+    takes_of(word).is_some()
 }
 
 /// The words behind a command that takes these files.

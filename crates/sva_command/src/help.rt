@@ -1,47 +1,38 @@
-//! What the program says of itself. `svahost`, the script, reads its texts here as long as the program isn't built, so each
-//! of them stands once: a new step is a line of `HELP`.
+//! What the program says of itself. `svahost`, the script, reads its version here as long as the program isn't built.
 
 /// The program's version.
 pub const VERSION: &str = "0.2.0";
 
 /// What `-h` says of the program.
 pub const ABOUT: &str =
-    "Judges a driver's order of acts, and runs scenarios of a host for shared virtual addressing";
+    "Judges a driver's order of acts, and runs scenarios of shared virtual addressing";
 
 /// What `-h` says of `replay`.
-pub const REPLAY: &str = "Runs the scenario on standard input or in a FILE, and prints its report";
+pub const REPLAY: &str = "Runs a scenario, and prints its report";
 
 /// What `-h` says of `check`.
-pub const CHECK: &str =
-    "Reads the scenario on standard input or in a FILE, and prints how many steps it has";
+pub const CHECK: &str = "Reads a scenario, and prints how many steps it has";
 
 /// What `-h` says of `storm`.
-pub const STORM: &str =
-    "Plays the scenario on standard input or in a FILE by threads, and prints what an audit of their calls says";
+pub const STORM: &str = "Plays a scenario by threads, and prints what an audit of them says";
 
 /// What `-h` says of `plain`.
-pub const PLAIN: &str =
-    "Prints the scenario that the script on standard input or in a FILE stands for";
+pub const PLAIN: &str = "Prints the scenario that a script stands for";
 
 /// What `-h` says of `test`.
-pub const TEST: &str =
-    "Runs the script on standard input or in a FILE, and compares each answer with what it expects";
+pub const TEST: &str = "Runs a script, and compares each answer with what it expects";
 
 /// What `-h` says of `show`.
-pub const SHOW: &str =
-    "Runs the script on standard input or in a FILE, and prints what the host keeps behind its last line";
+pub const SHOW: &str = "Runs a script, and prints what the host keeps behind its last line";
 
 /// What `-h` says of `why`.
-pub const WHY: &str =
-    "Runs the script on standard input or in a FILE, and prints what holds each refused step back";
+pub const WHY: &str = "Runs a script, and prints what holds each refused step back";
 
 /// What `-h` says of `chart`.
-pub const CHART: &str =
-    "Runs the script on standard input or in a FILE, and draws it as a sequence chart";
+pub const CHART: &str = "Runs a script, and draws it as a sequence chart";
 
 /// What `-h` says of `explore`.
-pub const EXPLORE: &str =
-    "Follows every order of the race on standard input or in a FILE, and prints which claims hold";
+pub const EXPLORE: &str = "Follows every order of a race, and prints which claims hold";
 
 /// What `-h` says of `--most`.
 pub const MOST: &str =
@@ -87,24 +78,8 @@ pub const EXPLORE_USAGE: &str = "svahost explore [OPTIONS] [FILE]..";
 /// What the help of `judge` says of how it is called.
 pub const JUDGE_USAGE: &str = "svahost judge [OPTIONS] [FILE]..";
 
-/// What the help of a command that takes one file says of it.
-pub static FILE: &str = "Files:
-  [FILE]  Read in the place of standard input, whose name is -";
-
-/// What the help of `show` says of its file.
-pub static SHOWN: &str = "Files:
-  [FILE]       Read in the place of standard input, whose name is -
-  --after <N>  What is kept behind line N is printed, 1 to 999999999";
-
-/// What the help of a command that takes any number of files says of them.
-pub static FILES: &str = "Files:
-  [FILE]..      Read in the place of standard input, whose name is -; of several each has a line
-  --part <K/N>  Of the files every N-th is searched, from the K-th on
-  --jobs <N>    So many are searched at once, 1 to 256; if not given, one a processor";
-
 /// What `-h` says of `judge`.
-pub const JUDGE: &str =
-    "Follows every order of the driver on standard input or in a FILE, and prints whether each is safe";
+pub const JUDGE: &str = "Follows every order of a driver, and prints whether each is safe";
 
 /// What `-h` says of `--run`.
 pub const RUN: &str =
@@ -118,6 +93,19 @@ pub const STRICT: &str =
 pub const ALL: &str =
     "Each finding that isn't behind another one is told, with a shortest list of events to it";
 
+/// What `-h` says of `--needed`.
+pub const NEEDED: &str =
+    "Each line that keeps others off is left out in turn, and it is told whether the rest is safe";
+
+/// What is told of `--needed` with `--run`.
+pub const NEEDED_RUN: &str = "the argument '--needed' cannot be used with '--run'";
+
+/// What is told of `--strict` with `--needed`.
+pub const STRICT_NEEDED: &str = "the argument '--strict' cannot be used with '--needed'";
+
+/// What is told of `--all` with `--needed`.
+pub const ALL_NEEDED: &str = "the argument '--all' cannot be used with '--needed'";
+
 /// What is told of `--all` with `--run`.
 pub const ALL_RUN: &str = "the argument '--all' cannot be used with '--run'";
 
@@ -125,8 +113,7 @@ pub const ALL_RUN: &str = "the argument '--all' cannot be used with '--run'";
 pub const STRICT_RUN: &str = "the argument '--strict' cannot be used with '--run'";
 
 /// What `-h` says of `trace`.
-pub const TRACE: &str =
-    "Runs the script on standard input or in a FILE, and prints each step with its answer and its messages";
+pub const TRACE: &str = "Runs a script, and prints each step with its answer and its messages";
 
 /// What `-h` says of `--live`.
 pub const LIVE: &str = "A tab ends a column, and none is padded";
@@ -145,257 +132,194 @@ pub const TURNS: &str = "How many turns each thread has, 1 to 1000000";
 pub const NO_TEXT: &str =
     "svahost: nothing is known of this command line; docs/FORMAT.md describes the program\n";
 
-/// What `--help` says.
-pub static HELP: &str =
-    "Judges whether a driver's order of acts is safe, and runs scenarios of a host for shared virtual
-addressing: PCI Express ATS, PRI and PASIDs, with the invalidations and page requests of Intel VT-d.
+/// What `--help` says behind the options.
+pub static TOPICS: &str = "Help on a command, or on a topic:
+  svahost help judge
+  svahost help scenarios, scripts, races, drivers, statuses or all";
 
-A driver is the order in which a host does what it does, a line for each act. Behind `race` it is open
-what device, link and unit do beside its lines:
+/// What the help of `replay` says behind the options.
+pub static REPLAY_ENDS: &str = "Files:
+  [FILE]  Read in the place of standard input, whose name is -
 
-    config 1 4 1                   # one endpoint (a device), four frames, one worker
-    device 0 1 asks 1 uses         # it may ask for a translation once, and use one once
-    pte 0 16 0 w                   # page 16 of space 0 leads to frame 0
-    entry 0 1 0                    # at endpoint 0, PASID 1 is space 0
-    start 0 1                      # the device may use that PASID
-    deliver start 0
-    race
-    pte 0 16 none                  # the page goes,
-    submit 0 range 1 16 0 + wait   # its invalidation is queued, and a wait behind it,
-    free 0                         # and the frame is another owner's
+Status:
+  0  The steps were run, refused ones too
+  1  A line or the config is wrong, a stream failed, or memory ran out
+  2  The command line is wrong, or the FILE can't be read
 
-`svahost judge FILE` follows every order, and prints `safe in all N moments`, or a shortest list of
-events behind which an endpoint may still use a frame that has another owner, say. Here that has 5
-events; with `await wait 0` above `free 0` the order is safe. `--most N` is how many moments are looked
-at, at most; `--run` takes the lines one after another instead, and looks at no other order; `--all`
-tells each finding that isn't behind another one; with `--strict` the status is 8 where nothing was
-ever tried. The acts stand further down.
+Example (its language: svahost help scenarios):
+  $ svahost replay examples/first.sva
+  space 0
+  frame 0
+  free 0
+  frame 0
+  free 3 mapped 1 withheld 0";
 
-A scenario is a text on standard input, of at most 65536 lines and 1048576 bytes. Its first line is
-the config: how many endpoints, frames and workers there are. Each further line is a step. Words are
-separated by one space, and numbers are decimal. Lines that are empty or begin with # are skipped. A
-first scenario, as in examples/first.sva:
+/// What the help of `check` says behind the options.
+pub static CHECK_ENDS: &str = "Files:
+  [FILE]..      Read in the place of standard input, whose name is -; of several each has a line
+  --part <K/N>  Of the files every N-th is searched, from the K-th on
+  --jobs <N>    So many are searched at once, 1 to 256; if not given, one a processor
 
-    # one endpoint, four frames, one worker
-    config 1 4 1
-    # an address space, whose number is 0
-    space
-    # page 16 of space 0 leads to the lowest free frame, and may be read and written
-    map 0 16 w
-    # no endpoint is bound to the space, so the frame is free at once
-    unmap 0 16
-    # r: it may only be read
-    map 0 16 r
+Status:
+  0  Each line can be read
+  1  A line is wrong, a stream failed, or memory ran out
+  2  The command line is wrong, or a FILE can't be read
+  6  Of several files memory ran out for one
 
-The script ./svahost first builds the program where there is none of the present sources: in two to
-four minutes, without its proof. `./svahost prove` proves it on this machine, with all that it stands
-on, which takes about an hour on four cores; `./svahost --version` says which of the two is run.
+Example (its language: svahost help scenarios):
+  $ svahost check examples/first.sva
+  steps 4";
 
-`svahost replay < examples/first.sva` runs the steps and prints a report, a line for each step and
-last the counts:
+/// What the help of `storm` says behind the options.
+pub static STORM_ENDS: &str = "Files:
+  [FILE]  Read in the place of standard input, whose name is -
 
-    space 0
-    frame 0
-    free 0
-    frame 0
-    free 3 mapped 1 withheld 0
+Status:
+  0  The audit is ok
+  1  It is bad, a line or the config is wrong, a stream failed, or memory ran out
+  2  The command line is wrong, or the FILE can't be read
 
-`svahost check` runs nothing and prints `steps 4`.
+Example (its language: svahost help scenarios):
+  $ svahost storm --turns 100 examples/first.sva
+  audit ok
+  frames 4";
 
-`svahost storm --turns 100` plays the scenario by threads on one host: one for the host, one for the
-link, one for the service, one for each endpoint and each worker. Each has N turns, 1 to 1000000, or
-10000 where --turns is missing. Host and endpoints play their own lines in order, each until it is
-accepted; the lines `take`, `answer`, `deliver`, `pump` and `serve` are skipped. The link delivers
-the messages by their numbers, the service pumps and serves each endpoint in turn, and the workers
-take jobs and answer them. At the end each thread's receipts are compared with the journal of all:
+/// What the help of `plain` says behind the options.
+pub static PLAIN_ENDS: &str = "Files:
+  [FILE]  Read in the place of standard input, whose name is -
 
-    audit ok
-    frames 4
+Status:
+  0  The scenario was printed
+  1  A line is wrong, a stream failed, or memory ran out
+  2  The command line is wrong, or the FILE can't be read
 
-or else `audit bad`.
+Example (its language: svahost help scripts):
+  $ svahost plain examples/first.svs
+  # A page is mapped, unmapped, and its frame used again.
 
-A script is a scenario in which nobody counts. `NAME:` before a step names its line. In later lines
-the name is a number that the step was answered, or the first message that it sent, by where it
-stands. `deliver KIND E` is of the oldest message of a kind that is in flight at endpoint E. Behind
-`=>` stands the answer that is expected, and behind # a comment:
+  # One endpoint, four frames, one worker.
+  config 1 4 1
+  ..";
 
-    config 1 4 1
-    s: space
-    m: map s 0x10 w           # a page may be hexadecimal
-    b: bind 0 s
-    deliver b                 => started
-    unmap s 0x10              => withheld m
-    p: pump 0                 => itag _
-    deliver invalidate 0      => taken
-    f: finish 0 {p} 1         => sent 1
-    deliver f                 => freed 1
-    end                       => free 3 mapped 0 withheld 1
+/// What the help of `test` says behind the options.
+pub static TEST_ENDS: &str = "Files:
+  [FILE]..      Read in the place of standard input, whose name is -; of several each has a line
+  --part <K/N>  Of the files every N-th is searched, from the K-th on
+  --jobs <N>    So many are searched at once, 1 to 256; if not given, one a processor
 
-`svahost test` prints `7 answers as expected`, or the first that isn't: `line 6: unmap 0 16: expected
-'free 0', answered 'withheld 0'`. `svahost trace` prints each step with its answer and its messages,
-as it comes; `--live` leaves out the padding of columns. `svahost show` prints what the host keeps
-behind the last line, and `svahost plain` the scenario with all numbers. `svahost why` prints for
-each step that was refused, blocked or withheld what holds it back, and in brackets a step that would
-be accepted; `svahost trace --why` prints the same behind the rows of these steps, and `svahost test`
-behind an answer that isn't as expected. `svahost chart` draws the run: each message from its sending
-to its delivery; `--svg` as a picture. Each scenario is a script.
-`svahost show --after N` shows what is kept behind line N.
+Status:
+  0  Each answer is as expected
+  1  One isn't, a line or the config is wrong, a stream failed, or memory ran out
+  2  The command line is wrong, or a FILE can't be read
+  6  Of several files memory ran out for one
 
-A race is a script that leaves open who comes first. Behind the word `race` stand the lines of threads:
-of the host, of each endpoint, each unit and each worker, or those below `thread NAME`. Each thread
-keeps its order, and a line that is refused waits. The link, the units, the workers and the endpoints
-go on by themselves. Last stand the claims, in which `usable FRAME [at E]` says that endpoint E, or any,
-may touch the frame:
+Example (its language: svahost help scripts):
+  $ svahost test examples/held-back.svs
+  15 answers as expected";
 
-    config 1 4 1
-    s: space
-    m: map s 0x10 w
-    b: bind 0 s
-    deliver b                 => started
-    race
-    a: ask 0 b 0x10
-    u: use 0 b 0x10 w
-    out: unmap s 0x10
-    never usable m at 0 and out is free m
-    ends always done u
+/// What the help of `show` says behind the options.
+pub static SHOW_ENDS: &str = "Files:
+  [FILE]       Read in the place of standard input, whose name is -
+  --after <N>  What is kept behind line N is printed, 1 to 999999999
 
-`svahost explore` follows every order, and prints of each claim whether it holds, fails, or is unknown
-since `--most N` moments were looked at. Below its first line stands what the ends come to, a line for
-each text; `--ends` prints no more than 20. A claim that fails has a witness, a shortest scenario that
-`replay` takes; so has a `sometimes` that holds. With `--why` stands behind each witness what `why`
-says of its steps, and which lines wait where it ends, with what holds them back.
+Status:
+  0  The steps were run, refused ones too
+  1  A line or the config is wrong, a stream failed, or memory ran out
+  2  The command line is wrong, or the FILE can't be read
 
-Each command takes a FILE in the place of standard input, whose name is `-`. `svahost explore FILE ..`
-searches several at once, `--jobs N` of them or one a processor, and prints a line for each, of one file the
-report; so do `judge`, `check`, `test` and `why`. `--part K/N` is every N-th of them, from the K-th on. A
-wrong line of a file is told as `FILE:LINE:COLUMN: error: ..`.
+Example (its language: svahost help scripts):
+  $ svahost show examples/first.sva
+  space 0     page 16 frame 0
+  unit 0      open, waits done below 0
+  frames      free 3 mapped 1 withheld 0";
 
-The config, and the steps. E is an endpoint, S a space, B a binding, M a message, F a frame and W a
-worker, each numbered from 0, and a word in brackets may be missing:
+/// What the help of `why` says behind the options.
+pub static WHY_ENDS: &str = "Files:
+  [FILE]..      Read in the place of standard input, whose name is -; of several each has a line
+  --part <K/N>  Of the files every N-th is searched, from the K-th on
+  --jobs <N>    So many are searched at once, 1 to 256; if not given, one a processor
 
-    config E N W           1 to 8 endpoints, 1 to 4096 frames, 1 to 4 workers
-    space                  a new empty space; at most 64 live ones
-    drop S                 the space goes, and its frames are free; not while it is bound
-    map S PAGE r           the page leads to the lowest free frame, for reading
-    map S PAGE w           for writing and reading; at most 1024 pages a space, below page 2^36
-    unmap S PAGE [COUNT]   1 to 48 pages, 1 if missing, from PAGE on leave the space
-    unmapr S PAGE K        those of the 2^K pages from PAGE on, K 0 to 9, PAGE a multiple of 2^K
-    look F                 where frame F is: free, mapped or withheld
-    bearer P               which space bears PASID P, 1 to 32
-    bind E S               space S is at endpoint E, under the PASID that it bears or a new one;
-                           at most 32 PASIDs are borne
-    unbind B               binding B is to end: its endpoint is told to stop
-    advance B              it goes on to its next stage, and at last it is released
-    reset E                endpoint E is to be reset, and its unit closed
-    pump E                 the head of endpoint E's invalidation queue, which has 64 places, is
-                           sent under one of 32 ITags, or a wait is over
-    serve E                the oldest page request of endpoint E is filed; a whole group is a job
-    take W                 worker W takes the oldest job in its hand
-    answer W success       it answers the job: its pages are mapped; or `invalid`, or `failure`
-    deliver M              message M arrives; messages are numbered as they are sent
+Status:
+  0  The steps were run, refused ones too
+  1  A line or the config is wrong, a stream failed, or memory ran out
+  2  The command line is wrong, or a FILE can't be read
+  6  Of several files memory ran out for one
 
-An endpoint's steps, under a PASID P:
+Example (its language: svahost help scripts):
+  $ svahost why examples/held-back.svs
+  line 19: unmap 0 16: withheld 0
+      wait 0 of unit 0 isn't done [pump 0]
+  ..";
 
-    ask E P PAGE           a translation of the page is asked for; at most 32 are asked for at once,
-                           and at most 64 translations are held at an endpoint
-    use E P PAGE r         a use of the translation that is held begins: it reads
-    use E P PAGE w         it writes
-    end E U                the use in slot U, 0 to 15, ends
-    evict E P PAGE         the translation that is held goes
-    fault E P PAGE A G L   a page request; A is r, w or rw, G new or the index of an unfinished
-                           group, L more or last; at most 32 have no response yet
-    finish E VECTOR COUNT  invalidations are answered, those of the ITags whose bits are set in
-                           VECTOR, eight lower-case hexadecimal digits as 0000000b, by 1 to 8
-                           completions
-    quit E P               the PASID isn't used any more
+/// What the help of `chart` says behind the options.
+pub static CHART_ENDS: &str = "Files:
+  [FILE]  Read in the place of standard input, whose name is -
 
-The acts of a driver. S is any space, 0 to 63, I a group's index, P a PASID, 1 to 32, or 0 for requests
-without a PASID; pages may be hexadecimal:
+Status:
+  0  The steps were run, refused ones too
+  1  A line or the config is wrong, a stream failed, or memory ran out
+  2  The command line is wrong, or the FILE can't be read
 
-    pte S PAGE F w         the page leads to the frame; `r`: only to read; `none` for F w: it goes
-    entry E P S            the PASID table entry leads to the space; `none` for S: it goes
-    replace E P S          it leads there for the owner that P has: a new table in place of the old
-    start E P              the device may use the PASID
-    stop E P               it is to stop; `await stopped E P`: it has said that it did
-    barrier E P            it is to drain it, and doesn't stop it; `await passed E P`: it has
-    submit E D [+ D ..]    descriptors are queued: `range P PAGE K [of F]`, `pasid P [of F]`,
-                           `iotlb P [PAGE K] [of F]`, `entry P [of F]`, `wait [drain] [fence]`;
-                           behind `of` stands another device below the same unit
-    await wait E           the last wait that this thread submitted is done; of one line `await NAME`
-    await queue E [P]      no page request stands in the queue
-    await groups E [P]     each whole group that was filed is answered
-    serve E                the oldest page request is filed
-    respond E P I success  a group is answered; or `invalid`, or `failure`; `respond all E [P] success`:
-                           each whole one that was filed is; `discard E [P]` drops the others
-    free F                 the frame has another owner; `free pasid P E`, `free space S`, and
-                           `free domain S`, by which workers serve the space's groups
-    freeze F               nobody may write the frame any more
-    reset E                the device is reset; `await reset E`
-    ats E on, ats E off    the device's ATS is turned on or off; `pri E on`, `pri E off`: its page
-                           requests; `mastering E on`, `mastering E off`: bus mastering
-    await idle E           no translation request of the device is out, and no use runs
-    await gone E           the device was removed, and nothing of it is on its way up
-    close E, open E        the unit is closed, and is open again
-    skip E                 the head of the invalidation queue is taken out, whatever it is
-    resume E               the unit goes on that has stopped at a time-out, or overflowed
-    lock L, unlock L       a lock that threads share
-    mark                   nothing; as `NAME: mark` another thread awaits it by `await NAME`
-    if [not] CONDITION     a look, by which the thread goes on, up to `else` or `end`: at a flag, which
-                           is its name, or at `present E P`, an entry that leads to a space; `stopped E P`,
-                           an answer to a stop; `filed E [P]`, a group; `queued E [P]`, a page request;
-                           `gone E`, a device that was removed; `overflow E`, a queue that lacked a place;
-                           `failed`, a wait that was aborted, of what this thread awaited last
-    set NAME, clear NAME   the flag is set, or clear as at first
+Example (its language: svahost help scripts):
+  $ svahost chart examples/held-back.svs
+  line host  endpoint 0
+  3    :     :                    space => space 0
+  4    :     :                    map 0 16 w => frame 0
+  7    o--.  :  -> 0 start        bind 0 0 => binding 0 pasid 1
+  8    :  '->o  <- 0 start        deliver 0 => started
+  ..";
 
-Settings stand above the first act: `link free` or `posted`, `waits fence` or `plain`, `drain empty` or
-`arrived`, `caches off` or `on`, `stopped marker`, `status` or `known`, `order queue` or `loose`,
-`enables kept` or `cleared` by a reset, `timeouts off`, `on` or `stop`; and before these `platform
-vt-d`, which is `link posted`, `waits plain`, `drain arrived`, `caches on` and `order loose`, or
-`platform free`. By `refuses drain` the unit takes no wait with `drain`, by `allow no-group` a response
-that finds no group is no finding, by `places N` a page request queue has N places, and overflows where
-there is none, and by `unit E E ..` devices stand below one unit, and share its queues. Threads, workers
-and devices are as in a race, but that a device may have `lies`, `awaits` and `leaves` too. The lines
-from `def NAME $X` to its `end` stand where `call NAME WORD` does, with the word for `$X`; those from
-`repeat N` to its `end` stand N times. A unit, as a link or a device, acts by itself: `pump E`, or with
-`order loose` `pump E N`, which takes what stands at place N of its queue; `write E`, the oldest page
-request that it has received comes into the queue; `forget E P`; `expire E T`, an invalidation that
-isn't answered runs out of time; and a device that `leaves` is removed at some moment: `gone E`.
+/// What the help of `explore` says behind the options.
+pub static EXPLORE_ENDS: &str = "Files:
+  [FILE]..      Read in the place of standard input, whose name is -; of several each has a line
+  --part <K/N>  Of the files every N-th is searched, from the K-th on
+  --jobs <N>    So many are searched at once, 1 to 256; if not given, one a processor
 
-These steps send a message, and no others. Behind it stands what its delivery is answered:
+Status:
+  0  All claims hold, or there is none
+  1  A line or the config is wrong, a stream failed, or memory ran out
+  2  The command line is wrong, or a FILE can't be read
+  4  A claim fails
+  5  None fails, and one is unknown
+  6  Of several files memory ran out for one
 
-    bind                   Start: `started`
-    unbind                 Stop: `stopping`; none where a reset has cut the binding off
-    reset                  Reset: `reset`. Its delivery sends ResetDone: `reset done`
-    pump, if `itag T`      Invalidate: `taken`
-    answer                 Response: `answered`, or `stale`; none where it is `dropped`
-    ask                    Request: `completion`. Its delivery sends Completion: `held`, `full`,
-                           `none` or `dropped`
-    fault                  PageRequest: `queued`
-    finish                 COUNT times Invalidated: `freed K`, the ITags that are free by it
-    quit                   Marker: `marked`
+Example (its language: svahost help races):
+  $ svahost explore examples/races/late-use.svr
+  whole: 182 moments, 6 ends
+  ..";
 
-They are numbered together, from 0, as they are sent, and come in any order, but that of one endpoint
-Start, Stop and Reset stay behind each older message to it that is no Completion; a PageRequest with
-`last` and a Marker stay behind each older PageRequest; and a ResetDone stays behind all. Else
-`deliver` is refused 33. At a unit in reset each message to the host but ResetDone is `dropped`.
+/// What the help of `judge` says behind the options.
+pub static JUDGE_ENDS: &str = "Files:
+  [FILE]..      Read in the place of standard input, whose name is -; of several each has a line
+  --part <K/N>  Of the files every N-th is searched, from the K-th on
+  --jobs <N>    So many are searched at once, 1 to 256; if not given, one a processor
 
-A binding is live, and then by `unbind` stopping, until its endpoint has got the Stop, has quit, and
-the Marker has come; by `advance` draining, until its page requests are filed and answered and the
-wait is done; by `advance` invalidating, until its invalidation is answered and the wait is done; by
-`advance` quiet; and by `advance` released.
+Status:
+  0  Each order is safe; with --run nothing is wrong
+  1  A line or the config is wrong, an act isn't permitted, a stream failed, or memory ran out
+  2  The command line is wrong, or a FILE can't be read
+  4  An order is unsafe, or stuck
+  5  The search was cut off
+  6  Of several files memory ran out for one
+  8  With --strict: nothing was ever tried
 
-A frame whose page is unmapped is free at once where no endpoint can hold its translation, and else
-withheld until each has answered an invalidation.
+Example (its language: svahost help drivers):
+  $ svahost judge examples/judge/free-behind-wait.svd
+  safe in all 601 moments";
 
-A step that isn't allowed is answered `refused N Name`, changes nothing, and the run goes on. Where
-a line can't be read nothing is run, and the report is that line's fault alone: `line 2 WordCount`.
+/// What the help of `trace` says behind the options.
+pub static TRACE_ENDS: &str = "Files:
+  [FILE]  Read in the place of standard input, whose name is -
 
-The status is 0 where the steps were run, refused ones too, where all claims of a race hold, where a
-driver is safe, where nothing is wrong in one that `--run` takes, and for help and the version; 1 for a
-line that can't be read, for a config that is out of its limits, for a bad audit, and for a fault of a
-stream or of memory, of which standard error tells in a line; 2 for a wrong command line, of which standard error tells too; 4 where a claim
-fails, and where a driver is unsafe or stuck; and 5 where none fails and one is unknown, and where
-the search of a driver was cut off. The script svahost ends with 3 where it can't build the program.
-All else goes to standard output.
+Status:
+  0  The steps were run, refused ones too
+  1  A line or the config is wrong, a stream failed, or memory ran out
+  2  The command line is wrong, or the FILE can't be read
 
-docs/FORMAT.md describes scenarios, steps, refusals and reports, and examples/ has more of them.";
+Example (its language: svahost help scripts):
+  $ svahost trace examples/first.sva
+  7    space                      space 0
+  10   map 0 16 w                 frame 0
+  13   unmap 0 16                 free 0
+  16   map 0 16 r                 frame 0
+       end                        free 3 mapped 1 withheld 0";

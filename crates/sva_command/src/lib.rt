@@ -4,9 +4,12 @@
 mod command;
 mod files;
 mod help;
+mod passages;
+mod topics;
 
 pub use command::{Asked, parse};
 pub use files::{
     Awaited, Kind, Named, Part, Takes, after_of, files_of, jobs_of, named_in, part_of,
 };
 pub use help::NO_TEXT;
+pub use topics::{Called, Topic, help_in, help_on};

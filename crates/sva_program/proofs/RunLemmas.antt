@@ -22,7 +22,7 @@ use Rattle.sva_script_reports.specs.Shows.{show_of}
 use Rattle.sva_script_reports.specs.Whys.{whys_of}
 use Rattle.sva_script_reports.specs.Traces.{trace_of}
 use Rattle.sva_why.specs.Why.{why_of}
-use Rattle.sva_program.specs.Run.{HasCause, Makes, Reports, Rules, RunsTo, WhereKnown, explored_of, is_strict, ran_of, ruled_of, status_of, status_of_untried}
+use Rattle.sva_program.specs.Run.{HasCause, Makes, Reports, Rules, RulesOf, RunsTo, WhereKnown, explored_of, is_strict, ran_of, ruled_of, status_of, status_of_untried}
 use Rattle.sva_program.specs.Run.{style_of, wanted_of_driver}
 use Rattle.sva_command.specs.Command.{Asks, AsksStrict}
 use Rattle.sva_command.specs.declared.command.Asked.{Asked}
@@ -127,7 +127,7 @@ run_status strict found ended is = subst (λ e. status_of strict e ≤ 2) (sym i
 -- of a command on steps
 pub steps_status : (asked : Asked) (input old new : Option (List ℕ)) (ended : Result Ending DriveFault)
     → ((most : ℕ) (whys few_ends : Bool) → asked ≡ Explore most whys few_ends → ⊥)
-    → ((run : Bool) (most : ℕ) (strict all : Bool) → asked ≡ Judge run most strict all → ⊥)
+    → ((run : Bool) (most : ℕ) (strict all needed : Bool) → asked ≡ Judge run most strict all needed → ⊥)
     → Reports asked input old new ended → status_of (is_strict asked) ended ≤ 2
 steps_status Replay input old new ended other one h = run_status false h.0 ended h.1
 steps_status Check input old new ended other one h = run_status false h.0 ended h.1
@@ -137,7 +137,7 @@ steps_status Test input old new ended other one h = run_status false h.0 ended h
 steps_status Show input old new ended other one h = run_status false h.0 ended h.1
 steps_status Why input old new ended other one h = run_status false h.0 ended h.1
 steps_status (Explore most whys few_ends) input old new ended other one h = absurd (other most whys few_ends refl)
-steps_status (Judge run most strict all) input old new ended other one h = absurd (one run most strict all refl)
+steps_status (Judge run most strict all needed) input old new ended other one h = absurd (one run most strict all needed refl)
 steps_status (Chart svg) input old new ended other one h = run_status false h.0 ended h.1
 steps_status (Trace live whys) input old new ended other one h = run_status false h.0 ended h.1
 
@@ -164,9 +164,9 @@ untried_status : (strict : Bool) → IsOfJudging strict (status_of_untried stric
 untried_status true = inr (inr (inr (inr (refl, refl))))
 untried_status false = inl refl
 
-pub ruling_status : (run : Bool) (most : ℕ) (strict all : Bool) (input old new : Option (List ℕ)) (ended : Result Ending DriveFault)
-    → Reports (Judge run most strict all) input old new ended → IsOfJudging strict (status_of strict ended)
-ruling_status run most strict all input old new ended h = subst (λ e. IsOfJudging strict (status_of strict e)) (sym h.1) (go h.0)
+pub ruling_status : (run : Bool) (most : ℕ) (strict all needed : Bool) (input old new : Option (List ℕ)) (ended : Result Ending DriveFault)
+    → Reports (Judge run most strict all needed) input old new ended → IsOfJudging strict (status_of strict ended)
+ruling_status run most strict all needed input old new ended h = subst (λ e. IsOfJudging strict (status_of strict e)) (sym h.1) (go h.0)
   where
     go : (found : Result (Option Ruling) DriveFault) → IsOfJudging strict (status_of strict (ruled_of found))
     go (Ok None) = inr (inl refl)
@@ -180,16 +180,16 @@ ruling_status run most strict all input old new ended h = subst (λ e. IsOfJudgi
     go (Err fault) = inr (inl refl)
 
 -- where the words ask for it, that is `--strict` of theirs
-pub strictly : (run : Bool) (most : ℕ) (strict all : Bool) (words : List Text) (status : ℕ) → Asks (Judge run most strict all) words
+pub strictly : (run : Bool) (most : ℕ) (strict all needed : Bool) (words : List Text) (status : ℕ) → Asks (Judge run most strict all needed) words
     → IsOfJudging strict status
     → (status ≡ 0) ⊎ (status ≡ 1) ⊎ (status ≡ 4) ⊎ (status ≡ 5) ⊎ ((status ≡ 8) × AsksStrict words)
-strictly run most strict all words status asks (inl done) = inl done
-strictly run most strict all words status asks (inr (inl fault)) = inr (inl fault)
-strictly run most strict all words status asks (inr (inr (inl failed))) = inr (inr (inl failed))
-strictly run most strict all words status asks (inr (inr (inr (inl unknown)))) = inr (inr (inr (inl unknown)))
-strictly true most true all words status asks (inr (inr (inr (inr (untried, is))))) = absurd (cc asks.1)
-strictly false most true all words status asks (inr (inr (inr (inr (untried, is))))) = inr (inr (inr (inr (untried, (most, all, asks)))))
-strictly run most false all words status asks (inr (inr (inr (inr (untried, is))))) = absurd (cc is)
+strictly run most strict all needed words status asks (inl done) = inl done
+strictly run most strict all needed words status asks (inr (inl fault)) = inr (inl fault)
+strictly run most strict all needed words status asks (inr (inr (inl failed))) = inr (inr (inl failed))
+strictly run most strict all needed words status asks (inr (inr (inr (inl unknown)))) = inr (inr (inr (inl unknown)))
+strictly true most true all needed words status asks (inr (inr (inr (inr (untried, is))))) = absurd (cc asks.1)
+strictly false most true all needed words status asks (inr (inr (inr (inr (untried, is))))) = inr (inr (inr (inr (untried, (most, all, needed, asks)))))
+strictly run most false all needed words status asks (inr (inr (inr (inr (untried, is))))) = absurd (cc is)
 
 appends_nothing : (old : Option (List ℕ)) → Appends old old []
 appends_nothing None = tt
@@ -215,6 +215,10 @@ unruled : (run : Bool) (wanted : driver.Wanted) (text : List ℕ) (old : Option 
 unruled true wanted text old = nothing_of old []
 unruled false wanted text old = nothing_of old []
 
+unruled_of : (run needed : Bool) (wanted : driver.Wanted) (text : List ℕ) (old : Option (List ℕ)) → RulesOf run needed wanted text old old (Err Memory)
+unruled_of run true wanted text old = nothing_of old []
+unruled_of run false wanted text old = unruled run wanted text old
+
 unwritten_by : (asked : Asked) (input old : Option (List ℕ)) → Reports asked input old old (Err Memory)
 unwritten_by Replay input old = lacking (unwritten_where Outcome _ input old (λ text. (nothing_of old (report_of text), tt)))
 unwritten_by Check input old = lacking (unwritten_where Outcome _ input old (λ text. (nothing_of old (check_of text), tt)))
@@ -226,8 +230,8 @@ unwritten_by Why input old = lacking (unwritten_where Outcome _ input old (λ te
 unwritten_by (Chart svg) input old =
     lacking (unwritten_where Outcome _ input old (λ text. (show_of text, (refl, λ wrong. refl), unprinted (show_of text) old)))
 unwritten_by (Explore most whys few_ends) input old = (Err Memory, refl, unwritten_where (Option Judged) _ input old (λ text. nothing_of old []))
-unwritten_by (Judge run most strict all) input old =
-    (Err Memory, refl, unwritten_where (Option Ruling) _ input old (λ text. unruled run (wanted_of_driver most all) text old))
+unwritten_by (Judge run most strict all needed) input old =
+    (Err Memory, refl, unwritten_where (Option Ruling) _ input old (λ text. unruled_of run needed (wanted_of_driver most all) text old))
 unwritten_by (Trace live whys) None old = lacking tt
 unwritten_by (Trace live whys) (Some text) old = lacking (unprinted (trace_of why_of (style_of live whys) text) old)
 

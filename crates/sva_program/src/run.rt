@@ -4,7 +4,7 @@ ghost use Rattle.std.specs.Prelude.{◌≡◌, ◌≢◌, ◌≤◌, ◌<◌, �
 ghost use Rattle.std.specs.Io.KnownBytes.{Appends};
 ghost use Rattle.std.specs.IoError.{error_kind};
 ghost use Rattle.sva_command.specs.Command.{Asks, AsksExplore, AsksJudge, AsksRun, AsksStrict, AsksText, CallsHelp, CallsVersion, IsMistaken, texts};
-ghost use Rattle.sva_program.specs.Run.{HasCause, IsSaid, Reports, Rules, Says, WhereKnown, columns_of, complaint, explored_of, fault_line, is_strict, ran_of, ruled_of};
+ghost use Rattle.sva_program.specs.Run.{HasCause, IsSaid, Reports, Rules, RulesOf, Says, WhereKnown, columns_of, complaint, explored_of, fault_line, is_strict, ran_of, ruled_of};
 ghost use Rattle.sva_program.specs.Run.{status_of, status_of_untried, style_of, unread_line, wanted_of, wanted_of_driver};
 ghost use Rattle.sva_streams.specs.Streams.{IsNew, Writes};
 
@@ -23,6 +23,7 @@ use sva_race_reports::{Judged, Wanted, explore};
 use sva_scenario::{DriveFault, Outcome, Told, check, drive, write_all};
 use sva_script_reports::{Columns, Saying, Style, print, trace};
 use sva_search::Watch;
+use sva_variants::needed;
 use sva_why::Explainer;
 
 /// The steps were run, all claims of a race hold, a driver is safe, or help was shown.
@@ -155,9 +156,15 @@ pub(crate) fn perform<X: AllocGlobal + Threads + Wait + Sync, R: Read, W: Write,
             let wanted = wanted_of(most, whys, few_ends);
             explored(explore::<Explainer, R, W, P>(rt.alloc(), wanted, reader, writer, watch))
         }
-        Asked::Judge { run, most, all, .. } => {
+        Asked::Judge {
+            run,
+            most,
+            all,
+            needed,
+            ..
+        } => {
             let wanted = wanted_of_driver(most, all);
-            ruled(rule(rt.alloc(), run, wanted, reader, writer, watch))
+            ruled(rule_of(rt.alloc(), run, needed, wanted, reader, writer, watch))
         }
         Asked::Trace { live, whys } => ran(trace::<Explainer, R, W>(
             rt.alloc(),
@@ -252,6 +259,30 @@ fn rule<R: Read, W: Write, P: Watch>(
         run(alloc, reader, writer)
     } else {
         judge(alloc, wanted, reader, writer, watch)
+    }
+}
+
+/// Tells on which lines of a driver its verdict rests; or judges it, or takes its lines one after another.
+fn rule_of<R: Read, W: Write, P: Watch>(
+    alloc: Global,
+    in_order: bool,
+    is_needed: bool,
+    wanted: sva_driver_reports::Wanted,
+    reader: &mut Told<R>,
+    writer: &mut Told<W>,
+    watch: &mut P,
+) -> Result<Option<Ruling>, DriveFault>
+    requires reader { IsNew reader.old }
+    requires writer { IsNew writer.old }
+    ensures ruled { WhereKnown (λ text. RulesOf in_order is_needed wanted text (W.contents writer.old.inner)
+        (W.contents writer.new.inner) result)
+        (R.remaining reader.old.inner) (W.contents writer.old.inner) (W.contents writer.new.inner) result }
+    ensures cause { HasCause reader.new writer.new result }
+{
+    if is_needed {
+        needed(alloc, wanted.most, reader, writer, watch)
+    } else {
+        rule(alloc, in_order, wanted, reader, writer, watch)
     }
 }
 

@@ -15,3 +15,5 @@ pub mod Parting
 pub mod Unnamed
 pub mod Compared
 pub mod Columns
+pub mod Shortening
+pub mod Cuts

@@ -8,5 +8,6 @@ pub mod Usable
 pub mod Unnumbered
 pub mod Nameless
 pub mod Plain
+pub mod Shortened
 pub mod Moments
 pub mod Laws

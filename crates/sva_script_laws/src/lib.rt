@@ -1,10 +1,19 @@
-//! The laws of scripts: what a script's scenario is, what its report has, and what tests and traces have of that.
+//! The laws of scripts and races. Of scripts: what the scenario is, what its report has, and what tests and traces have
+//! of that. Of races: each witness is a scenario, what is called usable is what the headline does, and each ends.
 #![tactic(auto)]
+
+mod ends;
+mod usable;
+mod witnesses;
 
 ghost use Rattle.sva_script_laws.specs.Plains.{PlainsAreSame, PlainsStay, ScenariosArePlain, UnfitIsTold};
 ghost use Rattle.sva_script_laws.specs.Replays.{ScriptsReplay};
 ghost use Rattle.sva_script_laws.specs.Tests.{NoneIsSkipped, TestsCompare, TestsPass};
 ghost use Rattle.sva_script_laws.specs.Traces.{TracesAnswer};
+
+pub use ends::each_race_ends;
+pub use usable::usable_is_the_headlines;
+pub use witnesses::witnesses_replay;
 
 /// The scenario of a script is one that a replay takes, and its report has, line by line, the answers with which the
 /// script's lines were resolved, and at its end the counts.

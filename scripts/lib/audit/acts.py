@@ -14,7 +14,9 @@ An act is a tuple (line, seconds, CPU, kind, ..), with
     drain    PASID, SID or -1                       page requests were awaited
     stop, stopped    SID, PASID                     the device is to stop; it has
     pasidfree, pgdfree, free                        a PASID, a space, frames (from, count) are another owner's
-    release                                         pages (SID of a device, page, count) are their driver's again"""
+    release                                         pages (SID of a device, page, count) are their driver's again
+
+Numbers are of 20 bits for a PASID, 16 for DID and SID, 52 for a page and a frame; a count is 1 to 2^22."""
 
 import marshal
 import tempfile
@@ -92,12 +94,13 @@ def named(rest, line, facts, kind):
     return rest if kind == "flushed tag" else (facts.name(rest[0], line), *rest[1:])
 
 
-def text_of(act):
-    """An act as a line of text: @LINE SECONDS CPU KIND .."""
+def text_of(act, has_units):
+    """An act as a line of text: @LINE SECONDS CPU KIND .., with the unit of a submission where there are several."""
     kind, rest = act[3], act[4:]
     if kind == "submit":
         words = " + ".join("0x%x 0x%x" % each for each in rest[0].words)
-        said = "%d %s %s" % (rest[0].number, "drain" if rest[0].drain else "-", words)
+        at = "at %s " % rest[0].unit if has_units and rest[0].unit is not None else ""
+        said = "%d %s %s%s" % (rest[0].number, "drain" if rest[0].drain else "-", at, words)
     elif kind == "map":
         said = "%s 0x%x %d 0x%x %s" % rest
     elif kind == "clear":

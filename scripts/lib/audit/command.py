@@ -5,7 +5,7 @@ import gc
 import os
 import sys
 
-from . import acts, judging, report
+from . import acts, judging, report, texts
 from .lines import Refused
 from .notes import Notes
 from .reading import GIVEN_BACK, Reading
@@ -43,7 +43,7 @@ def options(words):
     """What the words of a command line say."""
     told = "judges what a machine's trace says (docs/DRIVERS.md, section 16)"
     reader = argparse.ArgumentParser(prog="audit", description=told)
-    reader.add_argument("logs", nargs="+", metavar="LOG", help="what record-iommu wrote; - is standard input")
+    reader.add_argument("logs", nargs="+", metavar="LOG", help="what record-iommu wrote, or --acts; - is standard input")
     reader.add_argument("--free-at", choices=list(GIVEN_BACK), default="free", help="when a frame is another owner's")
     reader.add_argument("--as-if", action="store_true", help="judge a PASID that isn't given back as if it were")
     reader.add_argument("--no-stops", dest="stops", action="store_false", help="no stop is taken for awaited")
@@ -54,7 +54,7 @@ def options(words):
     reader.add_argument("--most", type=count, default=200000, help="moments that are looked at for a shape (200000)")
     reader.add_argument("--platform", metavar="FILE", help="a file of settings, in place of those of VT-d")
     reader.add_argument("--out", metavar="DIR", help="write each shape as a driver; of one log")
-    reader.add_argument("--acts", action="store_true", help="print what was read, and judge nothing")
+    reader.add_argument("--acts", action="store_true", help="print the acts that were read, and judge nothing")
     reader.add_argument("--svahost", default=program(), metavar="PROGRAM", help="the program that judges")
     said = reader.parse_args(words)
     if said.out and len(said.logs) > 1:
@@ -68,8 +68,8 @@ def options(words):
 
 
 def read_log(stream, said, note):
-    """Reads a log."""
-    read = Reading(said.free_at, said.acts, note)
+    """Reads a log, or a text of acts."""
+    read = texts.Acts(note) if texts.is_text(stream) else Reading(said.free_at, said.acts, note)
     read.take(stream)
     return read
 
@@ -82,7 +82,7 @@ def audit(name, stream, said, judge):
     except Refused as error:
         return ["%s: refused: %s" % (name, error)], 1
     if said.acts:
-        return map(acts.text_of, acts.played(read)), 0
+        return (acts.text_of(act, read.has_units()) for act in acts.played(read)), 0
     told, rows, status = report.report(name, read, sliced(read, said), judge, judging.witness)
     if said.out:
         report.write_shapes(said.out, name, rows)

@@ -71,11 +71,19 @@ class Reading:
         self._devices = {}  # pointer of a device -> SID
         self._where = {}  # page -> the domain, or the set of domains, that have it mapped
         self._blocks, self._unassigned = set(), False
-        self._heads, self._tags = {}, {}
+        self._heads, self._tags, self._units = {}, {}, set()
+
+    def submissions(self):
+        """How many submissions have an end."""
+        return sum(map(bool, self.lengths))
 
     def is_flushed(self):
         """Whether what domains are is taken from their invalidations."""
         return self.facts is self._flushed
+
+    def has_units(self):
+        """Whether descriptors of several units were read."""
+        return len(self._units) > 1
 
     def decoded(self, q0, q1):
         """The descriptor of two words that were read."""
@@ -189,6 +197,7 @@ class Reading:
         if not found:
             raise Refused("line %d: four words are wanted" % at)
         unit, q0, q1 = found[1], number(found[2], at), number(found[3], at)
+        self._units.add(unit)
         head = self._heads.get(q0)
         if head is None:
             head = descriptors.decode(q0, 0)

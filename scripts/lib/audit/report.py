@@ -73,7 +73,7 @@ def report(name, read, found, judge, witness):
     """What is printed of a log that was read, the rows, and the status."""
     rows = rows_of(found, judge)
     told = ["%s: %s, %s, %s" % (name, plural(read.lines, "line"), plural(read.acts, "act"),
-                                plural(sum(map(bool, read.lengths)), "submission"))]
+                                plural(read.submissions(), "submission"))]
     told += counts_of(rows)
     told += ["note: " + text for text in read.note.texts()]
     if found.near:

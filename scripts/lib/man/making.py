@@ -14,7 +14,7 @@ from lib.words.table import TABLE, rows_in
 SCRIPT = """`./svahost` is the script of the repository, which builds and proves the program. An installed program isn't
 built anew."""
 DOCUMENTS = "docs/SCENARIOS.md, SCRIPTS.md, DRIVERS.md"
-HELP = f"svahost --help, {DOCUMENTS} and examples/"
+HELP = f"svahost help, {DOCUMENTS} and examples/"
 
 
 def named(page):
@@ -61,8 +61,8 @@ def parts_of(lines):
 
 
 def main_page(manual):
-    """The page of the program, by its long help."""
-    text = manual.said("--help").partition("\nUsage:")[0]
+    """The page of the program, by all of its help."""
+    text = manual.said("help", "all")
     about = manual.short.partition("\n")[0]
     commands = [line for name, what in manual.commands.items()
                 for line in entry(f"\\fB{code('svahost-' + name)}\\fR(1)", [inline(what)])]

@@ -4,6 +4,8 @@ import re
 
 from lib.man.pages import LANGUAGES
 
+HELP = "Help on a command, or on a topic"
+
 
 class Option:
     """An option of a command: its words, what stands behind it, and what it does."""
@@ -27,6 +29,12 @@ def ends_of(manual, command):
     return [letter for it in letters for letter in it.replace("s", "as")]
 
 
+def helped(manual):
+    """What help is on: the commands, and the topics that the short help names."""
+    topics = re.search(r"^  svahost help (.*,.*) or (\w+)$", manual.short, re.M)
+    return [*manual.commands, *topics[1].split(", "), topics[2]]
+
+
 def in_quotes(text, signs):
     """A text in single quotes of a shell, with a backslash before some signs."""
     return re.sub(rf"([{re.escape(signs)}])", r"\\\1", text).replace("'", "'\\''")
@@ -47,6 +55,7 @@ def zsh(manual):
     yield "_svahost() {"
     yield "  local -a commands=("
     yield from (f"    '{name}:{in_quotes(text, ':')}'" for name, text in manual.commands.items())
+    yield f"    'help:{in_quotes(HELP, ':')}'"
     yield "  )"
     yield "  if (( CURRENT == 2 )); then"
     yield "    _describe -t commands command commands"
@@ -62,6 +71,7 @@ def zsh(manual):
         ends = ends_of(manual, name)
         words += [f"'*:file:_files -g \"*.sv[{''.join(ends)}]\"'"] if ends else []
         yield f"    {name}) _arguments {' '.join(words)} ;;"
+    yield f"    help) compadd {' '.join(helped(manual))} ;;"
     yield "  esac"
     yield "}"
     yield '_svahost "$@"'
@@ -73,6 +83,8 @@ def fish(manual):
     yield "complete -c svahost -f"
     for name, text in manual.commands.items():
         yield f"complete -c svahost -n __fish_use_subcommand -a {name} -d '{fish_text(text)}'"
+    yield f"complete -c svahost -n __fish_use_subcommand -a help -d '{fish_text(HELP)}'"
+    yield f"complete -c svahost -n '__fish_seen_subcommand_from help' -a '{' '.join(helped(manual))}'"
     for it in options_of(manual.short):
         yield f"complete -c svahost -n __fish_use_subcommand {fish_option(it)}"
     for name in manual.commands:

@@ -1,4 +1,4 @@
-use Rattle.std.proofs.Common.{rules, ap, ap₂, codes, ◌≡◌, ◌∙◌}
+use Rattle.std.proofs.Common.{rules, ap, ap₂, codes, false, ◌≡◌, ◌∙◌, ◌||◌}
 use Rattle.std.proofs.lemmas.Result.{IfOk-weaker}
 use Rattle.clap.specs.Words.{App, app_of, new_app, with_rule, with_subcommand}
 use Rattle.sva_command.specs.Command.{flag_rule, judge_app, most_rule}
@@ -14,7 +14,9 @@ returns c =
     let strict_is : app_of c.in_ok-with_strict.with_strict
     ≡ with_rule (with_rule (with_rule (new_app (codes "judge")) most_rule) (flag_rule (codes "run"))) (flag_rule (codes "strict")) =
     c.in_ok-with_strict.ensures.shape c.flag-2.ensures.local ∙ ap₂ with_rule run_is c.flag-2.ensures.rule in
-    let judge_is : app_of c.in_ok-with_all.with_all ≡ judge_app =
-    c.in_ok-with_all.ensures.shape c.flag-3.ensures.local ∙ ap₂ with_rule strict_is c.flag-3.ensures.rule in
-    IfOk-weaker c.subcommand.result _ _ (λ r added. added.shape (search rules)
+    let told = c.in_ok-telling.ensures in
+    let all_is = told.1.1.shape told.1.3 ∙ ap₂ with_rule strict_is told.1.2 in
+    let judge_is : app_of c.in_ok-telling.telling ≡ judge_app = told.2.1.shape told.2.3 ∙ ap₂ with_rule all_is told.2.2 in
+    IfOk-weaker c.subcommand.result _ _ (λ r added. added.shape
+    (told.2.1.globals ∙ ap₂ ◌||◌ {y = false} (told.1.1.globals ∙ ap₂ ◌||◌ {y = false} (search rules) told.1.3) told.2.3)
     ∙ ap (λ (a : App). with_subcommand (app_of c.args.svahost) a.top) judge_is) c.subcommand.ensures

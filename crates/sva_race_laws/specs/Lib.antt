@@ -1,4 +1,0 @@
-pub mod ByNames
-pub mod Ends
-pub mod Weights
-pub mod Witnesses

@@ -279,12 +279,20 @@ a line can't be read nothing is run, and the report is that line's fault alone: 
 
 /// The statuses.
 pub static STATUSES: &str = "
-The status is 0 where the steps were run, refused ones too, where all claims of a race hold, where a
-driver is safe, where nothing is wrong in one that `--run` takes, and for help and the version; 1 for a
-line that can't be read, for a config that is out of its limits, for a bad audit, and for a fault of a
-stream or of memory, of which standard error tells in a line; 2 for a wrong command line, of which standard error tells too; 4 where a claim
-fails, and where a driver is unsafe or stuck; and 5 where none fails and one is unknown, and where
-the search of a driver was cut off. The script svahost ends with 3 where it can't build the program.
+The status says how a command ended:
+
+  0  done, refused steps too; all claims of a race hold; a driver is safe, or `--run` found nothing
+     wrong; help and the version
+  1  a line that can't be read or is wrong, a config out of its limits, a bad audit, an answer that
+     isn't as expected, an act that isn't permitted; or a fault of a stream, or memory that ran out:
+     of these standard error tells in a line
+  2  a wrong command line, or a FILE that can't be read; standard error tells of it
+  3  of the script svahost alone: it can't build the program
+  4  a claim of a race fails; a driver is unsafe or stuck
+  5  no claim fails and one is unknown; the search of a driver was cut off
+  6  of several files: memory ran out for one
+  8  with `--strict`: a driver is safe, but nothing was ever tried
+
 All else goes to standard output.
 ";
 

@@ -126,6 +126,29 @@ take_in p [] (suc n) = refl
 take_in p (x ∷ xs) zero = take_none (filter p (x ∷ xs))
 take_in p (x ∷ xs) (suc n) = before_by p x xs n (p x) (take_in p xs n)
 
+next_by : {A : Type 0} (p : A → Bool) (xs : List A) (k : ℕ) (b : Bool) → suc (place_in p xs k) ≡ place_in p xs (suc k)
+    → suc (if b then suc (place_in p xs k) else place_in p xs k) ≡ (if b then suc (place_in p xs (suc k)) else place_in p xs (suc k))
+next_by p xs k true rest = ap suc rest
+next_by p xs k false rest = rest
+
+first_place : {A : Type 0} (p : A → Bool) (xs : List A) → place_in p xs 0 ≡ 0
+first_place p [] = refl
+first_place p (x ∷ xs) = refl
+
+next_place : {A : Type 0} (p : A → Bool) (xs : List A) (k : ℕ) (y : A) → slice_get xs k ≡ Some y → p y ≡ true
+    → suc (place_in p xs k) ≡ place_in p xs (suc k)
+next_place p [] zero y h k = absurd (cc)
+next_place p [] (suc n) y h k = absurd (cc)
+next_place p (x ∷ xs) zero y h k =
+    let same : x ≡ y = cc in
+    sym (ap (λ (b : Bool). if b then suc (place_in p xs 0) else place_in p xs 0) (ap p same ∙ k) ∙ ap suc (first_place p xs))
+next_place p (x ∷ xs) (suc n) y h k = next_by p xs n (p x) (next_place p xs n y h k)
+
+-- what stands up to it
+pub up_to : {A : Type 0} (p : A → Bool) (xs : List A) (k : ℕ) (y : A) → slice_get xs k ≡ Some y → p y ≡ true
+    → take (suc (place_in p xs k)) (filter p xs) ≡ filter p (take (suc k) xs)
+up_to p xs k y h is = ap (λ n. take n (filter p xs)) (next_place p xs k y h is) ∙ take_in p xs (suc k)
+
 -- ---- tests
 
 fewer_by : {A : Type 0} (p q : A → Bool) (x : A) (xs : List A) (b : Bool) → q x || list_any q xs ≡ false

@@ -25,6 +25,17 @@ pub mod LinkOrders
 pub mod LinksPaid
 pub mod Lowered
 pub mod MapActs
+pub mod OccasionActs
+pub mod OccasionAsks
+pub mod OccasionBelow
+pub mod OccasionFaults
+pub mod OccasionKinds
+pub mod OccasionLinks
+pub mod OccasionParts
+pub mod OccasionRuns
+pub mod OccasionSafety
+pub mod OccasionTimes
+pub mod OccasionWorlds
 pub mod OneUnit
 mod OneUnitActs
 pub mod PageActs

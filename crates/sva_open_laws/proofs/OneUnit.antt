@@ -15,7 +15,7 @@ use Rattle.sva_open.specs.Acts.{done_at, free_frame, freeze, next_open, next_par
 use Rattle.sva_open.specs.Below.{about, awaits_all, closes, head_of, holds_up, is_beside, is_of_unit, is_one, left, left_at, seen, shared, struck}
 use Rattle.sva_open.specs.Below.{taken_by, told, unfiled, with_told}
 use Rattle.sva_open.specs.World.{Open, Part, opened, part_opened, parts_opened}
-use Rattle.sva_open_laws.specs.OneUnit.{AlwaysSeeOneUnit}
+use Rattle.sva_open_laws.specs.OneUnit.{AlwaysSeeOneUnit, SeeOneUnit}
 use Rattle.sva_open_laws.specs.Pages.{after}
 use Rattle.sva_open_laws.specs.Weights.{AreNumbered}
 use Rattle.sva_open_laws.proofs.OneUnitActs as acts
@@ -108,11 +108,11 @@ record Sees (units : List ℕ) (parts : List Part) : Type 0 where
       → is_one (slice_get units one) (slice_get units other) ≡ true → seen its their ≡ their
 
 -- a place is the one where something was done, or not, and what stands there then
-data Place (parts : List Part) (at : ℕ) (after : Part) (place : ℕ) (its : Part) : Type 0 where
+pub data Place (parts : List Part) (at : ℕ) (after : Part) (place : ℕ) (its : Part) : Type 0 where
   here : place ≡ at → its ≡ after → Place parts at after place its
   elsewhere : place ≢ at → slice_get parts place ≡ Some its → Place parts at after place its
 
-place_of : (parts : List Part) (at place : ℕ) (part after its : Part) → slice_get parts at ≡ Some part
+pub place_of : (parts : List Part) (at place : ℕ) (part after its : Part) → slice_get parts at ≡ Some part
     → slice_get (slice_set parts at after) place ≡ Some its → Place parts at after place its
 place_of parts at place part after its found h = by (place == at) refl
   where
@@ -351,6 +351,12 @@ step now (act.Freeze frame) h = frozen now frame (slice_get now.frames frame) h
 step now (act.FreeSpace space) h = (refl, h)
 step now (act.FreeDomain space) h = (refl, h)
 step now (act.At endpoint own) h = at_own now (about now.units endpoint own (slice_get now.parts endpoint)) own h
+
+pub next_sees : (now next : Open) (its : Act) → SeeOneUnit now → next_open now its ≡ Some next → SeeOneUnit next
+next_sees now next its h is =
+    let good = subst (Good now.units) is (step now its (record { numbered = h.numbered; same = h.same })) in
+    let sees = subst (λ (units : List ℕ). Sees units next.parts) (sym good.0) good.1 in
+    record { numbered = sees.numbered; same = sees.same }
 
 -- ---- lists of acts
 

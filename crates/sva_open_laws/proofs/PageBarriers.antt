@@ -18,7 +18,7 @@ use Rattle.sva_open.specs.World.{Part, if_so, sent}
 use Rattle.sva_open.specs.Devices as device
 use Rattle.sva_open.specs.Host as host
 use Rattle.sva_open_laws.specs.Pages.{is_left_at, is_work_at, its_message, its_part, its_sent, place_in}
-use Rattle.sva_open_laws.proofs.Filters.{fewer, filter_left, get_in, remove_in, take_in}
+use Rattle.sva_open_laws.proofs.Filters.{fewer, filter_left, get_in, remove_in, take_in, up_to}
 use Rattle.sva_open_laws.proofs.PageActs.{IsLed, next_at, none_still, sends, where_so}
 use Rattle.sva_open_laws.proofs.PageLists.{any}
 use Rattle.sva_open_laws.proofs.PagePlaces.{with_works}
@@ -42,41 +42,17 @@ await_passed page part pasid thread = where_so page _ _ _ _
     (any (host.is_of_barrier pasid thread) (host.is_of_barrier pasid thread) (its_sent page) (λ one. brings_one page pasid thread one.message) part.flight)
     (fewer (is_work_at page) (host.drains pasid thread) part.works)) refl
 
--- ---- what is left up to a place
-
-next_by : {A : Type 0} (p : A → Bool) (xs : List A) (k : ℕ) (b : Bool) → suc (place_in p xs k) ≡ place_in p xs (suc k)
-    → suc (if b then suc (place_in p xs k) else place_in p xs k) ≡ (if b then suc (place_in p xs (suc k)) else place_in p xs (suc k))
-next_by p xs k true rest = ap suc rest
-next_by p xs k false rest = rest
-
-first_place : {A : Type 0} (p : A → Bool) (xs : List A) → place_in p xs 0 ≡ 0
-first_place p [] = refl
-first_place p (x ∷ xs) = refl
-
-next_place : {A : Type 0} (p : A → Bool) (xs : List A) (k : ℕ) (y : A) → slice_get xs k ≡ Some y → p y ≡ true
-    → suc (place_in p xs k) ≡ place_in p xs (suc k)
-next_place p [] zero y h k = absurd (cc)
-next_place p [] (suc n) y h k = absurd (cc)
-next_place p (x ∷ xs) zero y h k =
-    let same : x ≡ y = cc in
-    sym (ap (λ (b : Bool). if b then suc (place_in p xs 0) else place_in p xs 0) (ap p same ∙ k) ∙ ap suc (first_place p xs))
-next_place p (x ∷ xs) (suc n) y h k = next_by p xs n (p x) (next_place p xs n y h k)
-
-up_to : {A : Type 0} (p : A → Bool) (xs : List A) (k : ℕ) (y : A) → slice_get xs k ≡ Some y → p y ≡ true
-    → take (suc (place_in p xs k)) (filter p xs) ≡ filter p (take (suc k) xs)
-up_to p xs k y h is = ap (λ n. take n (filter p xs)) (next_place p xs k y h is) ∙ take_in p xs (suc k)
-
 -- ---- what holds it up of a page holds it up of the whole
 
-and_none : (a b c : Bool) → (b ≡ false → c ≡ false) → a && b ≡ false → a && c ≡ false
+pub and_none : (a b c : Bool) → (b ≡ false → c ≡ false) → a && b ≡ false → a && c ≡ false
 and_none true b c h none = h none
 and_none false b c h none = refl
 
-or_none : (a b c d : Bool) → (a ≡ false → c ≡ false) → (b ≡ false → d ≡ false) → a || b ≡ false → c || d ≡ false
+pub or_none : (a b c d : Bool) → (a ≡ false → c ≡ false) → (b ≡ false → d ≡ false) → a || b ≡ false → c || d ≡ false
 or_none true b c d h k none = absurd (cc)
 or_none false b c d h k none = ap (λ t. t || d) (h refl) ∙ k none
 
-none_of : {A : Type 0} (p q : A → Bool) → ((x : A) → p x ≡ false → q x ≡ false) → (xs : List A) → list_any p xs ≡ false → list_any q xs ≡ false
+pub none_of : {A : Type 0} (p q : A → Bool) → ((x : A) → p x ≡ false → q x ≡ false) → (xs : List A) → list_any p xs ≡ false → list_any q xs ≡ false
 none_of p q so [] h = refl
 none_of p q so (x ∷ xs) h = or_none (p x) (list_any p xs) (q x) (list_any q xs) (so x) (none_of p q so xs) h
 

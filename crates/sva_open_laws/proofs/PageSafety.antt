@@ -147,20 +147,20 @@ right_in settings frames part page one (message.Passed barrier) h = h
 -- ---- a part
 
 -- what is tested of a part, one by one
-record IsTested (settings : Settings) (frames : List Tenure) (freed domains : List ℕ) (part : Part) : Type 0 where
-  held : list_all (is_good frames part) part.held ≡ true
-  works : list_all (is_good_work frames part) part.works ≡ true
-  requests : list_all (is_good_request part) part.requests ≡ true
-  arrived : list_all (is_good_arrived part) part.arrived ≡ true
-  received : list_all (is_good_received part) part.received ≡ true
-  filed : are_good_filed settings domains part ≡ true
-  joined : joins_own_group part.endpoint part.filed (slice_get part.arrived 0) ≡ true
-  kept : list_all (is_good_kept part) part.kept ≡ true
-  entries : list_all (is_good_entry freed part) part.kept_entries ≡ true
-  flight : list_all (is_right_sent settings frames part) part.flight ≡ true
-  rows : list_all (is_owned freed) part.rows ≡ true
+pub record IsTested (settings : Settings) (frames : List Tenure) (freed domains : List ℕ) (part : Part) : Type 0 where
+  pub held : list_all (is_good frames part) part.held ≡ true
+  pub works : list_all (is_good_work frames part) part.works ≡ true
+  pub requests : list_all (is_good_request part) part.requests ≡ true
+  pub arrived : list_all (is_good_arrived part) part.arrived ≡ true
+  pub received : list_all (is_good_received part) part.received ≡ true
+  pub filed : are_good_filed settings domains part ≡ true
+  pub joined : joins_own_group part.endpoint part.filed (slice_get part.arrived 0) ≡ true
+  pub kept : list_all (is_good_kept part) part.kept ≡ true
+  pub entries : list_all (is_good_entry freed part) part.kept_entries ≡ true
+  pub flight : list_all (is_right_sent settings frames part) part.flight ≡ true
+  pub rows : list_all (is_owned freed) part.rows ≡ true
 
-tested : (settings : Settings) (frames : List Tenure) (freed domains : List ℕ) (part : Part) → is_safe_part settings frames freed domains part ≡ true
+pub tested : (settings : Settings) (frames : List Tenure) (freed domains : List ℕ) (part : Part) → is_safe_part settings frames freed domains part ≡ true
     → IsTested settings frames freed domains part
 tested settings frames freed domains part h =
     let a = and_parts (is_safe_device frames part) _ h in
@@ -187,7 +187,7 @@ tested settings frames freed domains part h =
       rows = f.1;
     }
 
-safe_of : (settings : Settings) (frames : List Tenure) (freed domains : List ℕ) (part : Part) → IsTested settings frames freed domains part
+pub safe_of : (settings : Settings) (frames : List Tenure) (freed domains : List ℕ) (part : Part) → IsTested settings frames freed domains part
     → is_safe_part settings frames freed domains part ≡ true
 safe_of settings frames freed domains part t =
     and_from _ _ (and_from _ _ t.held (and_from _ _ t.works t.requests))

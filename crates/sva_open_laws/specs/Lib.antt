@@ -5,6 +5,8 @@ pub mod Covered
 pub mod Ends
 pub mod Fresh
 pub mod LinkOrders
+pub mod OccasionRows
+pub mod Occasions
 pub mod OneUnit
 pub mod PageRows
 pub mod Pages

@@ -1,10 +1,12 @@
 //! Laws of the open world. This project's own world, seen as an open one, is safe as other hosts are judged; the open
-//! world stands apart by pages; numbers of groups are fresh; and each driver comes to an end.
+//! world stands apart by pages, and without asks and without faults; numbers of groups are fresh; and each driver comes
+//! to an end.
 #![tactic(auto)]
 
 mod alongside;
 mod ends;
 mod fresh;
+mod occasions;
 mod pages;
 mod units;
 
@@ -18,6 +20,7 @@ pub use alongside::{
 };
 pub use ends::{each_act_is_paid, each_driver_ends, texts_go_forward};
 pub use fresh::numbers_are_fresh;
+pub use occasions::{occasions_stand_alone, rows_of_occasions};
 pub use pages::{pages_stand_alone, rows_of_pages};
 pub use units::endpoints_see_one_unit;
 

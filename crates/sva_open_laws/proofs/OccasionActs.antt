@@ -1,5 +1,5 @@
 -- What each act at an endpoint leaves, and what without asks, and without faults.
-use Rattle.std.proofs.Common.{◌≡◌, Bool, true, List, refl}
+use Rattle.std.proofs.Common.{◌≡◌, true, List, refl}
 use Rattle.std.specs.Prelude.{find, position, slice_get}
 use Rattle.sva_open.specs.declared.frames.Mapping.{Mapping}
 use Rattle.sva_open.specs.declared.messages.Message.TheVariants as message
@@ -89,7 +89,8 @@ act_at Faults settings mappings part (local.Turn control on) h = faults.turned p
 act_at Faults settings mappings part local.AwaitIdle h = faults.await_idle part
 act_at Faults settings mappings part local.AwaitGone h = faults.await_gone part
 act_at Faults settings mappings part local.Serve h = faults.serve part (slice_get part.arrived 0)
-act_at Faults settings mappings part (local.Respond pasid index fails) h = faults.respond part index fails (position (host.is_group pasid index) part.filed)
+act_at Faults settings mappings part (local.Respond pasid index fails) h =
+    faults.respond part index fails (position (host.is_group pasid index) part.filed)
 act_at Faults settings mappings part (local.RespondAll pasid fails) h = faults.respond_all part pasid fails
 act_at Faults settings mappings part (local.Discard pasid) h = refl
 act_at Faults settings mappings part (local.FreePasid pasid) h = faults.free_pasid part pasid (slice_get part.rows pasid)
@@ -97,7 +98,8 @@ act_at Faults settings mappings part (local.Ask pasid page) h = faults.ask part 
 act_at Faults settings mappings part (local.Use pasid page) h = faults.begin_use part (slice_get part.rows pasid) (find (is_of pasid page) part.held)
 act_at Faults settings mappings part (local.End place) h = faults.end_use part place (slice_get part.works place)
 act_at Faults settings mappings part (local.Evict pasid page) h = faults.evict part (position (is_of pasid page) part.held)
-act_at Faults settings mappings part (local.Fault pasid page write last) h = faults.fault part pasid page write last (device.fresh_number part) (slice_get part.rows pasid)
+act_at Faults settings mappings part (local.Fault pasid page write last) h =
+    faults.fault part pasid page write last (device.fresh_number part) (slice_get part.rows pasid)
 act_at Faults settings mappings part (local.More index page write last) h = faults.more part index page write last (slice_get part.groups index)
 act_at Faults settings mappings part (local.Finish place) h = faults.finish part place (slice_get part.works place)
 act_at Faults settings mappings part (local.Pass place) h = faults.pass settings.stopped part place (slice_get part.works place)

@@ -1,6 +1,6 @@
 -- What an act at an endpoint leaves, and what without asks.
-use Rattle.std.proofs.Common.{arith, ◌≡◌, ◌∙◌, ℕ, zero, suc, Bool, true, false, Option, Some, None, List, [], ◌∷◌, ◌++◌, map, take, refl, ap, sym, subst}
-use Rattle.std.specs.Prelude.{◌==◌, ◌&&◌, ◌||◌, max, not, if◌then◌else◌, length, remove, position, slice_get, filter}
+use Rattle.std.proofs.Common.{◌≡◌, ◌∙◌, ℕ, suc, Bool, true, false, Option, Some, None, List, [], ◌∷◌, ◌++◌, map, take, refl, ap, sym, subst}
+use Rattle.std.specs.Prelude.{◌&&◌, ◌||◌, max, not, length, remove, position, slice_get, filter}
 use Rattle.std.specs.List.{list_any}
 use Rattle.std.proofs.lemmas.List.Elements.{filter-append}
 use Rattle.sva_open.specs.declared.frames.Mapping.{Mapping}
@@ -11,9 +11,7 @@ use Rattle.sva_open.specs.declared.rows.KeptEntry.{KeptEntry}
 use Rattle.sva_open.specs.declared.messages.Barrier.{Barrier}
 use Rattle.sva_open.specs.declared.messages.Message.{Message}
 use Rattle.sva_open.specs.declared.messages.Message.TheVariants as message
-use Rattle.sva_open.specs.declared.messages.Sent.{Sent}
 use Rattle.sva_open.specs.declared.works.Group.{Group}
-use Rattle.sva_open.specs.declared.works.Request.{Request}
 use Rattle.sva_open.specs.declared.works.Work.{Work}
 use Rattle.sva_open.specs.declared.works.Work.TheVariants.{Use, Taken, Draining}
 use Rattle.sva_open.specs.declared.descriptors.Arrived.{Arrived}
@@ -33,11 +31,11 @@ use Rattle.sva_open.specs.Devices.{above_arrived, above_filed, above_message, ab
 use Rattle.sva_open.specs.Finding.{is_use}
 use Rattle.sva_open.specs.Host as host
 use Rattle.sva_open.specs.Units as unit
-use Rattle.sva_open.specs.World.{Part, if_so, is_of, lowest_free, put, sent, with_row}
+use Rattle.sva_open.specs.World.{Part, if_so, lowest_free, put, sent, with_row}
 use Rattle.sva_open_laws.specs.Pages.{is_left_at, place_in}
 use Rattle.sva_open_laws.specs.Occasions.{is_message_left, is_sent_left, isnt_use, part_without}
 use Rattle.sva_open_laws.specs.Occasions.Chain.{Asks}
-use Rattle.sva_open_laws.proofs.Filters.{fewer, filter_left, filter_without, get_in, remove_gone, remove_in, take_in, up_to}
+use Rattle.sva_open_laws.proofs.Filters.{fewer, filter_without, get_in, remove_gone, remove_in, take_in, up_to}
 use Rattle.sva_open_laws.proofs.OccasionParts.{IsLed, at_once, gone, highest_left, if_takes, next_at, sends, unless, where_open, where_so}
 use Rattle.sva_open_laws.proofs.PageActs.{and_so, none_still}
 use Rattle.sva_open_laws.proofs.PageBarriers.{and_none, none_of, or_none}

@@ -1,6 +1,6 @@
 -- What endpoints below one unit see of it, and what without asks, and without faults.
 use Rattle.std.proofs.Common.{◌≡◌, ◌∙◌, ℕ, Bool, true, false, Option, Some, None, option_map, List, [], ◌∷◌, map, refl, ap, sym, subst}
-use Rattle.std.specs.Prelude.{⊤, ◌&&◌, ◌||◌, if◌then◌else◌, slice_get}
+use Rattle.std.specs.Prelude.{⊤, if◌then◌else◌, slice_get}
 use Rattle.std.specs.List.{list_any}
 use Rattle.std.proofs.lemmas.Option.{slice_get-map}
 use Rattle.sva_open.specs.declared.acts.LocalAct.{LocalAct}

@@ -1,8 +1,7 @@
 -- What an act at an endpoint leaves, and what without faults.
-use Rattle.std.proofs.Common.{◌≡◌, ◌∙◌, ℕ, suc, Bool, true, false, Option, Some, None, List, [], ◌∷◌, ◌++◌, map, take, refl, ap, sym, subst}
-use Rattle.std.specs.Prelude.{◌==◌, ◌&&◌, ◌||◌, not, if◌then◌else◌, length, remove, position, slice_get, slice_set, filter}
+use Rattle.std.proofs.Common.{◌≡◌, ◌∙◌, ℕ, suc, Bool, true, false, Option, Some, None, List, [], ◌∷◌, ◌++◌, map, take, refl, ap}
+use Rattle.std.specs.Prelude.{◌==◌, ◌&&◌, ◌||◌, not, length, remove, slice_get, slice_set, filter}
 use Rattle.std.specs.List.{list_any}
-use Rattle.std.proofs.lemmas.List.{append-nil}
 use Rattle.std.proofs.lemmas.List.Elements.{filter-append}
 use Rattle.sva_open.specs.declared.frames.Translation.{Translation}
 use Rattle.sva_open.specs.declared.scopes.Scope.{Scope}
@@ -10,7 +9,6 @@ use Rattle.sva_open.specs.declared.rows.Row.{Row}
 use Rattle.sva_open.specs.declared.rows.KeptEntry.{KeptEntry}
 use Rattle.sva_open.specs.declared.messages.Barrier.{Barrier}
 use Rattle.sva_open.specs.declared.messages.Message.TheVariants as message
-use Rattle.sva_open.specs.declared.messages.Sent.{Sent}
 use Rattle.sva_open.specs.declared.works.Group.{Group}
 use Rattle.sva_open.specs.declared.works.Work.{Work}
 use Rattle.sva_open.specs.declared.works.Work.TheVariants.{Use, Taken, Draining}
@@ -28,10 +26,10 @@ use Rattle.sva_open.specs.declared.acts.Control.TheVariants.{Ats, PageRequests, 
 use Rattle.sva_open.specs.Devices as device
 use Rattle.sva_open.specs.Host as host
 use Rattle.sva_open.specs.Units as unit
-use Rattle.sva_open.specs.World.{Part, if_so, lowest_free, put, sent, with_row}
+use Rattle.sva_open.specs.World.{Part, lowest_free, put, with_row}
 use Rattle.sva_open_laws.specs.Occasions.{is_sent_left, part_without}
 use Rattle.sva_open_laws.specs.Occasions.Chain.{Faults}
-use Rattle.sva_open_laws.proofs.Filters.{fewer, filter_without}
+use Rattle.sva_open_laws.proofs.Filters.{fewer}
 use Rattle.sva_open_laws.proofs.OccasionParts.{IsLed, at_once, gone, if_takes, same_open, sends, unless, where_open, where_so}
 use Rattle.sva_open_laws.proofs.PageActs.{and_so, none_still}
 use Rattle.sva_open_laws.proofs.PageBarriers.{or_none}

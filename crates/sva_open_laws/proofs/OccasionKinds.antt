@@ -61,9 +61,11 @@ kind_of Asks (local.Evict pasid page) = none (λ part. refl) (record { waits = r
 kind_of Asks (local.Fault pasid page write last) = kept (λ part. refl) tt refl
 kind_of Asks (local.More index page write last) = kept (λ part. refl) tt refl
 kind_of Asks (local.Finish place) = moved (λ part. is_left_at isnt_use (slice_get part.works place))
-    (λ part. local.Finish (place_in isnt_use part.works place)) (λ part. refl) (record { waits = refl; closes = refl; takes = λ head. refl }) refl (λ part. refl) (λ part. finish_told place _) (λ part. refl)
+    (λ part. local.Finish (place_in isnt_use part.works place)) (λ part. refl)
+    (record { waits = refl; closes = refl; takes = λ head. refl }) refl (λ part. refl) (λ part. finish_told place _) (λ part. refl)
 kind_of Asks (local.Pass place) = moved (λ part. is_left_at isnt_use (slice_get part.works place))
-    (λ part. local.Pass (place_in isnt_use part.works place)) (λ part. refl) (record { waits = refl; closes = refl; takes = λ head. refl }) refl (λ part. refl) (λ part. pass_told place _) (λ part. refl)
+    (λ part. local.Pass (place_in isnt_use part.works place)) (λ part. refl)
+    (record { waits = refl; closes = refl; takes = λ head. refl }) refl (λ part. refl) (λ part. pass_told place _) (λ part. refl)
 kind_of Asks (local.Quit pasid) = kept (λ part. refl) tt refl
 kind_of Asks local.Leave = kept (λ part. refl) tt refl
 kind_of Asks local.Pump = kept (λ part. refl) tt refl
@@ -73,7 +75,8 @@ kind_of Asks local.Write = kept (λ part. refl) tt refl
 kind_of Asks (local.ForgetEntry place) = none (λ part. refl) (record { waits = refl; closes = refl; takes = λ head. refl })
 kind_of Asks (local.Forget place) = none (λ part. refl) (record { waits = refl; closes = refl; takes = λ head. refl })
 kind_of Asks (local.Deliver place) = moved (λ part. is_left_at (is_sent_left Asks) (slice_get part.flight place))
-    (λ part. local.Deliver (place_in (is_sent_left Asks) part.flight place)) (λ part. refl) (record { waits = refl; closes = refl; takes = λ head. refl }) refl (λ part. refl) (λ part. deliver_told place _) (λ part. refl)
+    (λ part. local.Deliver (place_in (is_sent_left Asks) part.flight place)) (λ part. refl)
+    (record { waits = refl; closes = refl; takes = λ head. refl }) refl (λ part. refl) (λ part. deliver_told place _) (λ part. refl)
 kind_of Faults (local.SetEntry pasid space) = kept (λ part. refl) tt refl
 kind_of Faults (local.Replace pasid space) = kept (λ part. refl) tt refl
 kind_of Faults (local.ClearEntry pasid) = kept (λ part. refl) tt refl
@@ -118,4 +121,5 @@ kind_of Faults local.Write = none (λ part. refl) (record { waits = refl; closes
 kind_of Faults (local.ForgetEntry place) = kept (λ part. refl) tt refl
 kind_of Faults (local.Forget place) = kept (λ part. refl) tt refl
 kind_of Faults (local.Deliver place) = moved (λ part. is_left_at (is_sent_left Faults) (slice_get part.flight place))
-    (λ part. local.Deliver (place_in (is_sent_left Faults) part.flight place)) (λ part. refl) (record { waits = refl; closes = refl; takes = λ head. refl }) refl (λ part. refl) (λ part. deliver_told place _) (λ part. refl)
+    (λ part. local.Deliver (place_in (is_sent_left Faults) part.flight place)) (λ part. refl)
+    (record { waits = refl; closes = refl; takes = λ head. refl }) refl (λ part. refl) (λ part. deliver_told place _) (λ part. refl)

@@ -1,6 +1,6 @@
 -- What comes of a message that is delivered, of the whole, and without asks, and without faults.
-use Rattle.std.proofs.Common.{◌≡◌, ◌∙◌, ℕ, suc, Bool, true, false, Option, Some, None, List, [], ◌∷◌, ◌++◌, map, take, refl, ap, sym, subst}
-use Rattle.std.specs.Prelude.{◌&&◌, not, if◌then◌else◌, position, remove, slice_get, filter}
+use Rattle.std.proofs.Common.{◌≡◌, ◌∙◌, ℕ, suc, Bool, true, false, Option, Some, None, List, [], map, take, refl, ap, sym, subst}
+use Rattle.std.specs.Prelude.{not, position, remove, slice_get}
 use Rattle.std.specs.List.{list_any}
 use Rattle.sva_open.specs.declared.frames.Mapping.{Mapping}
 use Rattle.sva_open.specs.declared.frames.Target.{Target}

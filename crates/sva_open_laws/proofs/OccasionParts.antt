@@ -1,10 +1,8 @@
 -- A part and what it is without a chain: messages that are sent, tests that are passed, and lists of which something is left out.
-use Rattle.std.proofs.Common.{arith, ◌≡◌, ◌∙◌, ℕ, zero, suc, Bool, true, false, Option, Some, None, List, [], ◌∷◌, ◌++◌, map, take, refl, ap, sym, subst}
-use Rattle.std.specs.Prelude.{⊤, ◌&&◌, ◌||◌, ◌≡◌, max, not, if◌then◌else◌, filter, slice_get}
-use Rattle.std.specs.List.{list_any}
+use Rattle.std.proofs.Common.{arith, ◌≡◌, ◌∙◌, ℕ, Bool, true, false, Option, Some, None, List, [], ◌∷◌, refl, ap}
+use Rattle.std.specs.Prelude.{⊤, ◌≡◌, max, if◌then◌else◌, filter}
 use Rattle.sva_open.specs.declared.frames.Mapping.{Mapping}
 use Rattle.sva_open.specs.declared.messages.Message.{Message}
-use Rattle.sva_open.specs.declared.messages.Sent.{Sent}
 use Rattle.sva_open.specs.declared.settings.Settings.{Settings}
 use Rattle.sva_open.specs.declared.acts.LocalAct.{LocalAct}
 use Rattle.sva_open.specs.Acts.{next_part}
@@ -71,11 +69,13 @@ pub same_open : (chain : Chain) (b : Bool) (one after other : Part) → part_wit
 same_open chain true one after other h k = k
 same_open chain false one after other h k = h
 
-pub if_takes : (chain : Chain) (b : Bool) (one other : Option Part) → IsLed chain one other → IsLed chain (if b then one else None) (if b then other else None)
+pub if_takes : (chain : Chain) (b : Bool) (one other : Option Part) → IsLed chain one other
+    → IsLed chain (if b then one else None) (if b then other else None)
 if_takes chain true one other h = h
 if_takes chain false one other h = tt
 
-pub unless : (chain : Chain) (b : Bool) (one other : Option Part) → IsLed chain one other → IsLed chain (if b then None else one) (if b then None else other)
+pub unless : (chain : Chain) (b : Bool) (one other : Option Part) → IsLed chain one other
+    → IsLed chain (if b then None else one) (if b then None else other)
 unless chain true one other h = tt
 unless chain false one other h = h
 

@@ -1,7 +1,7 @@
 -- What acts one after another lead to, of the whole, and without asks, and without faults.
-use Rattle.std.proofs.Common.{arith, ◌≡◌, ◌∙◌, ◌≤◌, ℕ, zero, suc, Bool, true, false, Option, Some, None, option_map, List, [], ◌∷◌, map, length}
+use Rattle.std.proofs.Common.{arith, ◌≡◌, ◌∙◌, ◌≤◌, ℕ, suc, Bool, true, false, Option, Some, None, option_map, List, [], ◌∷◌, map, length}
 use Rattle.std.proofs.Common.{refl, ap, sym, subst}
-use Rattle.std.specs.Prelude.{⊤, ◌&&◌, if◌then◌else◌, filter, slice_get, slice_set}
+use Rattle.std.specs.Prelude.{⊤, ◌&&◌, if◌then◌else◌, slice_get}
 use Rattle.std.specs.List.{cons_option, list_all, list_any}
 use Rattle.std.proofs.lemmas.Bool.{and_from}
 use Rattle.std.proofs.lemmas.Option.{same_Some}
@@ -11,11 +11,11 @@ use Rattle.sva_open.specs.declared.acts.Act.TheVariants as act
 use Rattle.sva_open.specs.declared.acts.LocalAct.{LocalAct}
 use Rattle.sva_open.specs.declared.settings.Conduct.{Conduct}
 use Rattle.sva_open.specs.declared.settings.Settings.{Settings}
-use Rattle.sva_open.specs.Acts.{at_endpoint, done_at, free_frame, freeze, next_open, next_part, parts_after, set_page, with_parts}
+use Rattle.sva_open.specs.Acts.{at_endpoint, free_frame, freeze, next_open, parts_after, set_page, with_parts}
 use Rattle.sva_open.specs.Below.{about, awaits_all, head_of, holds_up, is_of_unit, shared, with_told}
 use Rattle.sva_open.specs.Checks.{is_safe}
 use Rattle.sva_open.specs.World.{Open, Part, if_so, opened, part_opened, parts_opened}
-use Rattle.sva_open_laws.specs.Pages.{IsAlwaysSafe, IsSafeAlong, after, next_by}
+use Rattle.sva_open_laws.specs.Pages.{IsSafeAlong, after, next_by}
 use Rattle.sva_open_laws.specs.Occasions.{AreAlwaysSafeApart, AreFirstSafeApart, AreFoundApart, AreLeftOut, AreRunsApart, AreRunsSafeApart, Chain}
 use Rattle.sva_open_laws.specs.Occasions.{IsAlwaysSafeApart, IsApart, IsFoundApart, IsOccasionLaw, act_without, acts_without, are_times_apart}
 use Rattle.sva_open_laws.specs.Occasions.{is_act_apart, is_local_apart, is_sent_left, isnt_use, local_at, local_without, part_without, without}

@@ -1,6 +1,6 @@
 -- A moment is safe exactly where it is so without asks, and without faults.
 use Rattle.std.proofs.Common.{◌≡◌, ◌∙◌, ℕ, Bool, true, false, Option, Some, None, List, [], ◌∷◌, map, refl, ap, sym}
-use Rattle.std.specs.Prelude.{◌&&◌, ◌||◌, if◌then◌else◌, filter, not, slice_get}
+use Rattle.std.specs.Prelude.{◌||◌, if◌then◌else◌, filter, not, slice_get}
 use Rattle.std.specs.List.{list_all}
 use Rattle.std.proofs.lemmas.Bool.{and_from, and_parts}
 use Rattle.sva_open.specs.declared.frames.Tenure.{Tenure}
@@ -11,9 +11,8 @@ use Rattle.sva_open.specs.declared.messages.Sent.{Sent}
 use Rattle.sva_open.specs.declared.works.Request.{Request}
 use Rattle.sva_open.specs.declared.settings.Settings.{Settings}
 use Rattle.sva_open.specs.World.{Open, Part}
-use Rattle.sva_open.specs.Checks.{are_good_filed, is_good, is_good_arrived, is_good_entry, is_good_kept, is_good_received, is_good_request, is_good_work}
-use Rattle.sva_open.specs.Checks.{is_its_own, is_owned, is_right, is_right_sent, is_safe, is_safe_device, is_safe_for_workers, is_safe_part, is_safe_unit}
-use Rattle.sva_open.specs.Checks.{joins_own_group}
+use Rattle.sva_open.specs.Checks.{is_good_work}
+use Rattle.sva_open.specs.Checks.{is_its_own, is_right, is_right_sent, is_safe, is_safe_part}
 use Rattle.sva_open_laws.specs.Occasions.{AreSafeApart, Chain, is_message_left, is_sent_left, isnt_use, part_without, without}
 use Rattle.sva_open_laws.specs.Occasions.Chain.{Asks, Faults}
 use Rattle.sva_open_laws.proofs.Filters.{left}

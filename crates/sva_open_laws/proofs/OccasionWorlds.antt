@@ -5,7 +5,7 @@ use Rattle.std.proofs.lemmas.Bool.{and_parts}
 use Rattle.std.proofs.lemmas.Bool.Decides.{nat_tests}
 use Rattle.std.proofs.lemmas.List.{map-set}
 use Rattle.std.proofs.lemmas.Option.{slice_get-map}
-use Rattle.std.specs.Prelude.{⊤, ◌==◌, ◌&&◌, ◌≢◌, if◌then◌else◌, not, slice_get, slice_set}
+use Rattle.std.specs.Prelude.{◌==◌, ◌&&◌, ◌≢◌, if◌then◌else◌, not, slice_get, slice_set}
 use Rattle.std.specs.List.{list_any}
 use Rattle.sva_open.specs.declared.frames.Tenure.{Tenure}
 use Rattle.sva_open.specs.declared.acts.Act.{Act}
@@ -13,8 +13,8 @@ use Rattle.sva_open.specs.declared.acts.Act.TheVariants as act
 use Rattle.sva_open.specs.declared.acts.LocalAct.{LocalAct}
 use Rattle.sva_open.specs.declared.descriptors.Descriptor.{Descriptor}
 use Rattle.sva_open.specs.Acts.{at_endpoint, done_at, free_frame, freeze, next_open, next_part, parts_after, set_page, with_parts}
-use Rattle.sva_open.specs.Below.{about, awaits_all, closes, head_of, holds_up, is_beside, is_of_unit, is_one, left, left_at, matter_of, seen, shared}
-use Rattle.sva_open.specs.Below.{struck, taken_by, told, unfiled, with_told}
+use Rattle.sva_open.specs.Below.{about, awaits_all, head_of, holds_up, is_beside, is_of_unit, is_one, left, left_at, seen, shared}
+use Rattle.sva_open.specs.Below.{struck, taken_by, told, unfiled}
 use Rattle.sva_open.specs.World.{Open, Part, if_so}
 use Rattle.sva_open_laws.specs.OneUnit.{SeeOneUnit}
 use Rattle.sva_open_laws.specs.Pages.{next_by}

@@ -1,6 +1,6 @@
 -- A barrier: what it leaves of the whole, and of a page, as it is awaited, comes and is passed.
-use Rattle.std.proofs.Common.{◌≡◌, ◌∙◌, ℕ, zero, suc, Bool, true, false, Option, Some, None, List, [], ◌∷◌, take, refl, ap, sym, subst}
-use Rattle.std.specs.Prelude.{◌==◌, ◌&&◌, ◌||◌, if◌then◌else◌, remove, slice_get, filter}
+use Rattle.std.proofs.Common.{◌≡◌, ◌∙◌, ℕ, suc, Bool, true, false, Option, Some, None, List, [], ◌∷◌, take, refl, ap, sym, subst}
+use Rattle.std.specs.Prelude.{◌==◌, ◌&&◌, ◌||◌, remove, slice_get, filter}
 use Rattle.std.specs.List.{list_any}
 use Rattle.sva_open.specs.declared.frames.Mapping.{Mapping}
 use Rattle.sva_open.specs.declared.messages.Barrier.{Barrier}

@@ -149,7 +149,7 @@ IsOccasionLaw = (chain : Chain) (now next : Open) (one : Act) → IsApart chain 
 abbrev pub AreLeftOut : Type 0
 AreLeftOut = ((chain : Chain) (now : Open) → without chain (without chain now) ≡ without chain now)
     × ((chain : Chain) (settings : Settings) (conducts : List Conduct) (units : List ℕ) (pasids frames : ℕ)
-        → without chain (opened settings conducts units pasids frames) ≡ opened settings conducts units pasids frames)
+    → without chain (opened settings conducts units pasids frames) ≡ opened settings conducts units pasids frames)
 
 -- A moment is safe exactly where it is so without asks, and without faults.
 abbrev pub AreSafeApart : Type 0

@@ -74,8 +74,8 @@ without chain now = record now { parts = map (part_without chain) now.parts }
 
 -- ---- what an act is without them
 
--- None is one that begins a link of the chain, goes on with one, or takes one away. What names a place among works or in flight names it
--- among those that are left.
+-- None is one that begins something of the chain, or goes on with one thing of it, or ends that. What awaits or takes away whatever there
+-- is of the chain stays, and finds nothing. What names a place among works or in flight names it among those that are left.
 abbrev pub local_without : Chain → Part → LocalAct → Option LocalAct
 local_without Asks part (local.Ask pasid page) = None
 local_without Asks part (local.Use pasid page) = None

@@ -39,6 +39,7 @@ use Rattle.sva_open_laws.proofs.Filters.{fewer, filter_without, get_in, remove_g
 use Rattle.sva_open_laws.proofs.OccasionParts.{IsLed, at_once, gone, highest_left, if_takes, next_at, sends, unless, where_open, where_so}
 use Rattle.sva_open_laws.proofs.PageActs.{and_so, none_still}
 use Rattle.sva_open_laws.proofs.PageBarriers.{and_none, none_of, or_none}
+use Rattle.sva_open_laws.proofs.PagePlaces.{may}
 
 -- ---- the host
 
@@ -270,11 +271,6 @@ forget part place (Some kept) = refl
 
 -- ---- to complete an invalidation, to quit, and to go
 
-may_finish : (lies one other : Bool) → (one ≡ false → other ≡ false) → lies || not one ≡ true → lies || not other ≡ true
-may_finish true one other h k = refl
-may_finish false false other h k = ap not (h refl)
-may_finish false true other h k = absurd (cc)
-
 pub finish : (settings : Settings) (mappings : List Mapping) (part : Part) (place : ℕ) (o : Option Work) → slice_get part.works place ≡ o
     → IsLed Asks (device.finish part place o)
     (next_at Asks settings mappings part (if_so (is_left_at isnt_use o) (local.Finish (place_in isnt_use part.works place))))
@@ -286,7 +282,7 @@ finish settings mappings part place (Some (Taken itag scope)) h =
     (device.finish (part_without Asks part) (place_in isnt_use part.works place) o))
     (sym (get_in isnt_use part.works place (Taken itag scope) h refl))
     (where_so Asks _ _ _ _
-    (may_finish part.lies _ _ (λ none. ap (list_any (device.is_use_of scope)) (take_in isnt_use part.works place)
+    (may part.lies _ _ (λ none. ap (list_any (device.is_use_of scope)) (take_in isnt_use part.works place)
     ∙ fewer isnt_use (device.is_use_of scope) (take place part.works) none))
     (sends Asks (record part { works = remove part.works place }) 0 part.time (message.Invalidated itag) refl
     ∙ ap (λ (works : List Work). sent (record (part_without Asks part) { works = works }) 0 part.time (message.Invalidated itag))

@@ -27,6 +27,7 @@ use Rattle.sva_open_laws.proofs.OccasionKinds.Kind.{kept, none, moved}
 use Rattle.sva_open_laws.proofs.OccasionSafety.{safe_whole}
 use Rattle.sva_open_laws.proofs.OccasionWorlds.{act_in}
 use Rattle.sva_open_laws.proofs.OneUnit.{always, next_sees}
+use Rattle.sva_open_laws.proofs.PageRuns.{first_safe}
 
 -- ---- what is left out
 
@@ -227,10 +228,6 @@ runs_apart chain now last acts apart h = (
 )
 
 -- ---- what is safe along a list of acts
-
-first_safe : (now : Open) (acts : List Act) → IsSafeAlong (Some now) acts → is_safe now ≡ true
-first_safe now [] h = h
-first_safe now (one ∷ acts) h = h.0
 
 rest_safe : (chain : Chain) (now next : Open) (own : Option Act) (acts : List Act) → next_by (without chain now) own ≡ Some (without chain next)
     → IsSafeAlong (Some (without chain now)) (cons_option own acts) → IsSafeAlong (Some (without chain next)) acts

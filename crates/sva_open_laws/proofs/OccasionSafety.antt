@@ -16,13 +16,9 @@ use Rattle.sva_open.specs.Checks.{is_its_own, is_right, is_right_sent, is_safe, 
 use Rattle.sva_open_laws.specs.Occasions.{AreSafeApart, Chain, is_message_left, is_sent_left, isnt_use, part_without, without}
 use Rattle.sva_open_laws.specs.Occasions.Chain.{Asks, Faults}
 use Rattle.sva_open_laws.proofs.Filters.{left}
-use Rattle.sva_open_laws.proofs.PageSafety.{safe_of, tested}
+use Rattle.sva_open_laws.proofs.PageSafety.{rest_by, safe_of, tested}
 
 -- ---- lists
-
-rest_by : {A : Type 0} (q : A → Bool) (x : A) (xs : List A) (b : Bool) → list_all q (if b then (x ∷ xs) else xs) ≡ true → list_all q xs ≡ true
-rest_by q x xs true h = (and_parts _ _ h).1
-rest_by q x xs false h = h
 
 head_by : {A : Type 0} (q q_one q_other p r : A → Bool) (x : A) (xs : List A) (a b : Bool) → p x ≡ a → r x ≡ b → a || b ≡ true
     → (p x ≡ true → q_one x ≡ q x) → (r x ≡ true → q_other x ≡ q x)

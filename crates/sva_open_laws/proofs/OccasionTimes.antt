@@ -15,6 +15,7 @@ use Rattle.sva_open_laws.proofs.Filters.{fewer, filter_both}
 use Rattle.sva_open_laws.proofs.OccasionParts.{IsLed, where_so}
 use Rattle.sva_open_laws.proofs.PageActs.{and_so, none_still}
 use Rattle.sva_open_laws.proofs.PageBarriers.{or_none}
+use Rattle.sva_open_laws.proofs.PageTimes.{none_open}
 
 -- ---- whoever answers it
 
@@ -71,11 +72,6 @@ none_at_head chain settings part (Some (descriptor.Translations endpoint scope))
 none_at_head chain settings part (Some (descriptor.Entry endpoint pasid)) h = refl
 none_at_head chain settings part (Some (descriptor.Wait name drain fence)) h = none_if _ _ _ _ (same_pass chain settings part drain fence h)
 none_at_head chain settings part (Some (descriptor.Out itag)) h = refl
-
-none_open : (b : Bool) (one other : Option Part) → is_none one ≡ is_none other
-    → is_none (if b then one else None) ≡ is_none (if b then other else None)
-none_open true one other h = h
-none_open false one other h = refl
 
 none_pumped : (chain : Chain) (settings : Settings) (part : Part) → AreDrainsApart chain settings
     → is_none (unit.pump settings part) ≡ is_none (unit.pump settings (part_without chain part))

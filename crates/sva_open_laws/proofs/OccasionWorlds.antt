@@ -26,7 +26,7 @@ use Rattle.sva_open_laws.proofs.OccasionKinds.Kind.{kept, none, moved}
 use Rattle.sva_open_laws.proofs.OccasionParts.{IsLed, next_at}
 use Rattle.sva_open_laws.proofs.OneUnit.{Place, alone, numbered_set, place_of, set_here}
 use Rattle.sva_open_laws.proofs.OneUnit.Place.{here, elsewhere}
-use Rattle.sva_open_laws.proofs.PageBelow.{own_about}
+use Rattle.sva_open_laws.proofs.PageBelow.{not_both, own_about}
 
 -- ---- an act that is there
 
@@ -148,10 +148,6 @@ either chain now false true next told_next is h k = k
 either chain now false false next told_next is h k = h
 either chain now true c next told_next is h k = absurd (cc is)
 
-both_false : (a b : Bool) → a ≡ false → a && b ≡ false
-both_false false b h = refl
-both_false true b h = absurd (cc h)
-
 shared_still : (chain : Chain) (now : Open) (units : List ℕ) (at : ℕ) (own : LocalAct) (part after : Part) → now.units ≡ units → SeeOneUnit now
     → IsSilent own → slice_get now.parts at ≡ Some part → part_without chain after ≡ part_without chain part
     → IsLedTo chain (shared units at own now.parts (Some (with_parts now (slice_set now.parts at after)))) (Some (without chain now))
@@ -162,7 +158,7 @@ shared_still chain now (unit ∷ units) at own part after same one silent found 
     let head = head_of own (slice_get now.parts at) in
     let parts = slice_set now.parts at after in
     either chain now (awaits_all own && list_any (holds_up all at) now.parts) (is_of_unit own) (with_parts now parts) _
-    (both_false _ _ silent.waits)
+    (not_both _ _ silent.waits)
     (with_still chain now parts (set_same (part_without chain) now.parts at part after found h))
     (with_still chain now (told all at own head (slice_get parts at) parts)
     (subst (λ (of : List ℕ). map (part_without chain) (told of at own head (slice_get parts at) parts) ≡ map (part_without chain) now.parts) same

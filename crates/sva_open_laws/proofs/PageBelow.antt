@@ -61,7 +61,7 @@ chosen false false out told next h k = refl
 chosen true c out told next h k = absurd (cc h)
 chosen false true out told next h k = absurd (cc k)
 
-not_both : (a b : Bool) → a ≡ false → a && b ≡ false
+pub not_both : (a b : Bool) → a ≡ false → a && b ≡ false
 not_both false b h = refl
 not_both true b h = absurd (cc h)
 

@@ -61,7 +61,7 @@ end_use page settings mappings part place (Some (Use translation)) h = end_by pa
 
 -- ---- finish
 
-may : (lies one other : Bool) → (one ≡ false → other ≡ false) → lies || not one ≡ true → lies || not other ≡ true
+pub may : (lies one other : Bool) → (one ≡ false → other ≡ false) → lies || not one ≡ true → lies || not other ≡ true
 may true one other h k = refl
 may false false other h k = ap not (h refl)
 may false true other h k = absurd (cc)

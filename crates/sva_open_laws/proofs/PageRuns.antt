@@ -54,7 +54,7 @@ runs_apart page now last acts safe h = runs page (Some now) last acts safe h
 
 -- ---- what is safe along a list of acts
 
-first_safe : (now : Open) (acts : List Act) → IsSafeAlong (Some now) acts → is_safe now ≡ true
+pub first_safe : (now : Open) (acts : List Act) → IsSafeAlong (Some now) acts → is_safe now ≡ true
 first_safe now [] h = h
 first_safe now (one ∷ acts) h = h.0
 

@@ -36,7 +36,7 @@ all_apart q r f choose so (x ∷ xs) h =
     and_from (q x) (list_all q xs) (so x (and_parts _ _ (h (choose x))).0)
     (all_apart q r f choose so xs (λ page. (and_parts _ _ (h page)).1))
 
-rest_by : {A : Type 0} (q : A → Bool) (x : A) (xs : List A) (b : Bool) → list_all q (if b then (x ∷ xs) else xs) ≡ true → list_all q xs ≡ true
+pub rest_by : {A : Type 0} (q : A → Bool) (x : A) (xs : List A) (b : Bool) → list_all q (if b then (x ∷ xs) else xs) ≡ true → list_all q xs ≡ true
 rest_by q x xs true h = (and_parts _ _ h).1
 rest_by q x xs false h = h
 

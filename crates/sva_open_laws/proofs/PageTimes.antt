@@ -62,7 +62,7 @@ none_at_head page settings part (Some (descriptor.Entry endpoint pasid)) = refl
 none_at_head page settings part (Some (descriptor.Wait name drain fence)) = none_if (unit.may_pass settings part drain fence) _ _
 none_at_head page settings part (Some (descriptor.Out itag)) = refl
 
-none_open : (b : Bool) (one other : Option Part) → is_none one ≡ is_none other
+pub none_open : (b : Bool) (one other : Option Part) → is_none one ≡ is_none other
     → is_none (if b then one else None) ≡ is_none (if b then other else None)
 none_open true one other h = h
 none_open false one other h = refl

@@ -5,7 +5,7 @@ use Rattle.std.specs.Str.{bytes_eq}
 use denote.Ref.{Bor}
 use Rattle.sva_script_reading.specs.Begins.{Line}
 use Rattle.sva_variants.specs.Acts.{act_in, ends, goes_with, has_lent_wait, has_wait}
-use Rattle.sva_variants.specs.Cuts.{CutSaid, cut_if, cuts_from, kept_of, number_if, others_at, others_from}
+use Rattle.sva_variants.specs.Cuts.{CutSaid, cut_if, cuts_from, number_if, others_at, others_from}
 
 abbrev pub said : List (Bor (List ℕ)) → List (List ℕ)
 said words = map {A = Bor (List ℕ)} {B = List ℕ} (λ word. word.now) words
@@ -49,16 +49,16 @@ module _ (now left : List Line) (line : Line) (is : now ≡ line ∷ left) where
       ∙ append_assoc out (cut_if line.0 (act_in line.1) left) (cuts_from left)
       ∙ sym (ap (λ l. out ++ cuts_from l) is) ∙ so_far
 
-  pub kept_next : (cut : CutSaid) (out new whole : List ℕ) → new ≡ out ++ kept_of cut line
-      → out ++ flat_map (kept_of cut) now ≡ whole → new ++ flat_map (kept_of cut) left ≡ whole
-  kept_next cut out new whole puts so_far =
-      ap (λ l. l ++ flat_map (kept_of cut) left) puts
-      ∙ append_assoc out (kept_of cut line) (flat_map (kept_of cut) left)
-      ∙ sym (ap (λ l. out ++ flat_map (kept_of cut) l) is) ∙ so_far
+  pub kept_next : (put : Line → List ℕ) (out new whole : List ℕ) → new ≡ out ++ put line
+      → out ++ flat_map put now ≡ whole → new ++ flat_map put left ≡ whole
+  kept_next put out new whole puts so_far =
+      ap (λ l. l ++ flat_map put left) puts
+      ∙ append_assoc out (put line) (flat_map put left)
+      ∙ sym (ap (λ l. out ++ flat_map put l) is) ∙ so_far
 
 pub cuts_end : (now : List Line) (out whole : List CutSaid) → now ≡ [] → out ++ cuts_from now ≡ whole → out ≡ whole
 unfolding cuts_from
 cuts_end now out whole none so_far = sym (append-nil out) ∙ sym (ap (λ l. out ++ cuts_from l) none) ∙ so_far
 
-pub kept_end : (cut : CutSaid) (now : List Line) (out whole : List ℕ) → now ≡ [] → out ++ flat_map (kept_of cut) now ≡ whole → out ≡ whole
-kept_end cut now out whole none so_far = sym (append-nil out) ∙ sym (ap (λ l. out ++ flat_map (kept_of cut) l) none) ∙ so_far
+pub kept_end : (put : Line → List ℕ) (now : List Line) (out whole : List ℕ) → now ≡ [] → out ++ flat_map put now ≡ whole → out ≡ whole
+kept_end put now out whole none so_far = sym (append-nil out) ∙ sym (ap (λ l. out ++ flat_map put l) none) ∙ so_far

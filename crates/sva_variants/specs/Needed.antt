@@ -1,11 +1,7 @@
 -- On which lines of a driver its verdict rests: what is said of the texts without them.
 use Rattle.std.specs.Prelude.{◌≡◌, ℕ, Bool, true, false, List, [], ◌∷◌, ◌++◌, codes, decimal, flat_map}
-use Rattle.std.specs.Prelude.{if◌then◌else◌, Option, Some, None, Result, Ok, Err}
+use Rattle.std.specs.Prelude.{if◌then◌else◌, Option, Some, None}
 use Rattle.std.specs.List.{AllZip, list_any}
-use Rattle.std.specs.Io.KnownBytes.{Appends}
-use Rattle.sva_streams.specs.declared.streams.DriveFault.{DriveFault}
-use Rattle.sva_streams.specs.declared.streams.DriveFault.TheVariants.{Write}
-use Rattle.sva_streams.specs.Streams.{AppendsPrefix}
 use Rattle.sva_script_reading.specs.Begins.{Line, lines_from}
 use Rattle.sva_driver_reports.specs.Judged.{IsTextJudged}
 use Rattle.sva_driver_reports.specs.declared.reports.Ruling.{Ruling}
@@ -88,26 +84,7 @@ pub record AreTried (text : List ℕ) (most : ℕ) (own : List ℕ) (said : Opti
   pub ruling : said ≡ Some (ruling_of all)
   pub report : out ≡ report_text own all
 
--- a text that isn't safe has its own report alone; and so has one in which nothing was ever tried
+-- it is asked of a driver that is safe, and in which something was tried
 abbrev pub is_safe : Option Ruling → Bool
 is_safe (Some ruling.Safe) = true
 is_safe said = false
-
-abbrev pub IsTold : (text : List ℕ) → (most : ℕ) → (is_safe : Bool) → (first : Option Ruling) → (own : List ℕ)
-    → (said : Option Ruling) → (out : List ℕ) → Type 0
-IsTold text most true first own said out = AreTried text most own said out
-IsTold text most false first own said out = (said ≡ first) × (out ≡ own)
-
-pub record IsNeededTold (text : List ℕ) (most : ℕ) (said : Option Ruling) (out : List ℕ) : Type 0 where
-  pub first : Option Ruling
-  pub own : List ℕ
-  pub judged : IsTextJudged text (wanted_of most) first own
-  pub told : IsTold text most (is_safe first) first own said out
-
--- ---- What is written of it: all, or a prefix where writing failed; where memory lacked, nothing is
-
-abbrev pub TellsNeeded : (text : List ℕ) → (most : ℕ) → (old new : Option (List ℕ)) → Result (Option Ruling) DriveFault → Type 0
-TellsNeeded text most old new (Ok said) = (out : List ℕ) × IsNeededTold text most said out × Appends old new out
-TellsNeeded text most old new (Err Write) =
-    (out : List ℕ) × (said : Option Ruling) × IsNeededTold text most said out × AppendsPrefix old new out
-TellsNeeded text most old new (Err fault) = AppendsPrefix old new []

@@ -1,14 +1,19 @@
-//! A driver's text with a line left out, judged again: on which lines its verdict rests.
+//! Other texts that are made of a driver's own, and judged: without a line, and on other platforms. They tell on what its
+//! verdict rests.
 #![tactic(auto)]
 
 mod acts;
+mod asking;
 mod cuts;
 mod driving;
 mod leaving;
+mod platforms;
+mod standing;
 mod telling;
 mod trying;
 
+pub use asking::{Question, varied_text};
 pub use cuts::Cut;
-pub use driving::needed;
-pub use telling::needed_text;
+pub use driving::vary;
+pub use platforms::Platform;
 pub use trying::Tried;

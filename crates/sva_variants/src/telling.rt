@@ -5,9 +5,9 @@ ghost use Rattle.sva_variants.specs.Cuts.{cut_seen};
 ghost use Rattle.sva_variants.specs.Needed as spec;
 
 use crate::cuts::{Cut, cuts_in};
-use crate::trying::{Tried, try_all, wanted_of};
+use crate::trying::{Tried, try_all};
 use std::alloc::{AllocError, Global};
-use sva_driver_reports::{Ruling, judge_text};
+use sva_driver_reports::Ruling;
 use sva_script_reading::{Lines, put_number};
 use sva_search::Watch;
 
@@ -85,7 +85,7 @@ pub(crate) fn put_tried(
 }
 
 /// Appends what is told of each line.
-fn put_all(out: &mut Vec<u8>, all: &[Tried]) -> Result<(), AllocError>
+pub(crate) fn put_all(out: &mut Vec<u8>, all: &[Tried]) -> Result<(), AllocError>
     ensures { OnOk result (out.new.items ≡ out.old.items ++ flat_map spec.told_of all.now) }
 {
     for tried in all {
@@ -114,7 +114,7 @@ fn is_cut_off(said: Option<Ruling>) -> bool
 }
 
 /// Whether one of the searches was cut off.
-fn is_any_cut_off(all: &[Tried]) -> bool
+pub(crate) fn is_any_cut_off(all: &[Tried]) -> bool
     ensures { result ≡ spec.is_any_cut_off all.now }
 {
     all.iter().any(|tried| is_cut_off(tried.said))
@@ -132,7 +132,7 @@ fn ruling_of(all: &[Tried]) -> Ruling
 }
 
 /// Judges the texts without each line that is left out, and writes the report.
-fn tell_needed<P: Watch>(
+pub(crate) fn tell_needed<P: Watch>(
     alloc: Global,
     most: u64,
     text: &[u8],
@@ -147,34 +147,4 @@ fn tell_needed<P: Watch>(
     let all = try_all(alloc, most, text, cuts.as_slice(), watch)?;
     put_needed(out, own, all.as_slice())?;
     Ok(Some(ruling_of(all.as_slice())))
-}
-
-/// Whether a driver is safe, and something was tried in it.
-fn is_safe(said: Option<Ruling>) -> bool
-    ensures { result ≡ spec.is_safe said }
-{
-    matches!(said, Some(Ruling::Safe))
-}
-
-/// Judges a driver; and where that is safe, each text in which a line of it is left out, and what goes with that line:
-/// each search looks at so many moments at most. The first line of its report is written, whether each line is needed,
-/// with the first line of the report without it, and in which world. `CutOff` is said where one of the searches was cut
-/// off, and else `Safe`. A driver that isn't safe, or in which nothing was ever tried, has its own report alone.
-pub fn needed_text<P: Watch>(
-    alloc: Global,
-    most: u64,
-    text: &[u8],
-    out: &mut Vec<u8>,
-    watch: &mut P,
-) -> Result<Option<Ruling>, AllocError>
-    requires { out.old.items ≡ [] }
-    ensures { IfOk result (λ said. spec.IsNeededTold text.now most said out.new.items) }
-{
-    let mut own = Vec::new(alloc);
-    let said = judge_text(alloc, wanted_of(most), text, &mut own, watch)?;
-    if is_safe(said) {
-        return tell_needed(alloc, most, text, own.as_slice(), out, watch);
-    }
-    out.extend_from_slice(own.as_slice())?;
-    Ok(said)
 }

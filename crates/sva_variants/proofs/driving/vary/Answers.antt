@@ -1,11 +1,11 @@
 use Rattle.sva_streams.proofs.EndLemmas.{ends_well, ends_not_by_reading, ends_by_writing, ends_for_memory}
-use Rattle.sva_variants.proofs.Trials.{kept_told}
-use Rattle.sva_variants.proofs.driving.needed.Goals as goal
+use Rattle.sva_variants.proofs.Answered.{kept_told}
+use Rattle.sva_variants.proofs.driving.vary.Goals as goal
 
-pub returns-clause-needed : goal.returns-clause-needed
-returns-clause-needed g c =
-    kept_told _ _ _ c.args.most c.in_ok-text.text.items c.as_slice.result.now c.tell.result c.as_slice.ensures.value c.in_ok-text.ensures.ok
-    c.tell.ensures.needed
+pub returns-clause-varied : goal.returns-clause-varied
+returns-clause-varied g c =
+    kept_told c.args.question _ _ _ c.args.most c.in_ok-text.text.items c.as_slice.result.now c.tell.result c.as_slice.ensures.value c.in_ok-text.ensures.ok
+    c.tell.ensures.varied
 
 pub returns-clause-end : goal.returns-clause-end
 returns-clause-end g c =

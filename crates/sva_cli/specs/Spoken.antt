@@ -3,7 +3,7 @@
 use Rattle.std.specs.Prelude.{◌≡◌, ◌≢◌, ◌⊎◌, ℕ, ◌&&◌, ◌||◌, nat_lt, not, is_some, unwrap_or, Bool, true, false, codes, if◌then◌else◌}
 use Rattle.std.specs.Prelude.{List, [], ◌∷◌, ◌++◌, Option, Some, None, Result, Ok, Err, string_bytes}
 use Rattle.clap.specs.Words.{Text}
-use Rattle.sva_command.specs.Command.{Asks, faults_of, texts}
+use Rattle.sva_command.specs.Command.{Asks, faults_of, is_any, texts}
 use Rattle.sva_command.specs.Help.{Called, called}
 use Rattle.sva_command.specs.Help as help
 use Rattle.sva_command.specs.Files.{Named, after_of, files_of, jobs_of, named_in, part_of}
@@ -45,8 +45,8 @@ means (files.Wrong said) = Wrong said.items
 -- with `--run` the lines of drivers are taken; else all their orders are judged, within `--most`, by `--strict` and `--all` or not; races
 -- are explored, scenarios are read, and scripts tested or explained. No other command takes several files
 abbrev pub search_of : Asked → Search
-search_of (Judge true most strict all needed) = Lines
-search_of (Judge false most strict all needed) = Drivers most all strict
+search_of (Judge true most strict all beside) = Lines
+search_of (Judge false most strict all beside) = Drivers most all strict
 search_of (Explore most whys few_ends) = Races most
 search_of Check = Steps
 search_of Test = Tests
@@ -207,13 +207,13 @@ is_bare named =
     are_none named.files && not (is_some named.part) && not (is_some named.jobs) && not (is_some named.after)
     && not (awaits_jobs named.awaited || awaits_after named.awaited)
 
--- on which lines a verdict rests is asked of one file
+-- what is asked of a driver beside its verdict is asked of one file
 abbrev pub is_of_one : Asked → Bool
-is_of_one (Judge run most strict all needed) = needed
+is_of_one (Judge run most strict all beside) = is_any beside
 is_of_one asked = false
 
 abbrev pub of_several : List ℕ
-of_several = codes "svahost: --jobs and --part are of several files, and --needed takes one\n"
+of_several = codes "svahost: --jobs and --part are of several files, and --needed and --platforms take one\n"
 
 abbrev pub says_of_several : Named → Bool
 says_of_several named =

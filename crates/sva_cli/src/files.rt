@@ -9,8 +9,8 @@ use crate::inputs::inputs_in;
 use clap::error::ErrorKind;
 use std::alloc::{AllocError, Global};
 use sva_command::{
-    Asked, Awaited, Called, Named, Takes, Topic, after_of, files_of, help_in, jobs_of, named_in,
-    parse, part_of,
+    Asked, Awaited, Called, Named, Takes, Topic, after_of, files_of, help_in, is_any, jobs_of,
+    named_in, parse, part_of,
 };
 use sva_several::{Search, Wanted};
 
@@ -335,12 +335,12 @@ fn file_by(alloc: Global, asked: Asked, named: Named) -> Result<Files, AllocErro
     only_of(alloc, asked, after, named.files)
 }
 
-/// Whether a command that takes several files takes one here: on which lines a verdict rests is asked of one.
+/// Whether a command that takes several files takes one here: what is asked of a driver beside its verdict is asked of one.
 fn is_of_one(asked: Asked) -> bool
     ensures { result ≡ spoken.is_of_one asked }
 {
     match asked {
-        Asked::Judge { needed, .. } => needed,
+        Asked::Judge { beside, .. } => is_any(beside),
         _ => false,
     }
 }
@@ -361,7 +361,7 @@ fn one_by(alloc: Global, asked: Asked, named: Named) -> Result<Files, AllocError
     if says_of_several(&named) {
         return no_files(
             alloc,
-            "svahost: --jobs and --part are of several files, and --needed takes one\n",
+            "svahost: --jobs and --part are of several files, and --needed and --platforms take one\n",
         );
     }
     file_by(alloc, asked, named)

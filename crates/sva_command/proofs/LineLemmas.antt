@@ -15,6 +15,7 @@ use Rattle.clap.proofs.OnLiterals.{clap_on_literals}
 use Rattle.clap.proofs.ValueTestLemmas.{Accepts-accepts, accepts-Accepts}
 use Rattle.sva_command.specs.declared.command.Asked.{Asked}
 use Rattle.sva_command.specs.declared.command.Asked.TheVariants.{Replay, Check, Storm, Plain, Test, Show, Why, Chart, Explore, Judge, Trace}
+use Rattle.sva_command.specs.Command.{beside_in}
 use Rattle.sva_command.specs.Command.{Enters, GivesTurns, IsCommand, WritesTurns, apart, attached, chart_shape, is_given}
 use Rattle.sva_command.specs.Command.{explore_shape, judge_shape, most_by, most_text, svahost, trace_shape, usual}
 use Rattle.sva_command.proofs.FlagLemmas.{dashes, is_word, leaf_words, left, right, top, tops, tops_ask}
@@ -270,7 +271,7 @@ asks_first name word rest (is_judge is) e =
     subst (λ w. EntersRun (name ∷ w ∷ rest)) (sym is) (
       Judge (is_given (codes "run") (rows_after judge_shape.rules [] rest)) (most_by (most_text (rows_after judge_shape.rules [] rest)))
           (is_given (codes "strict") (rows_after judge_shape.rules [] rest)) (is_given (codes "all") (rows_after judge_shape.rules [] rest))
-          (is_given (codes "needed") (rows_after judge_shape.rules [] rest)),
+          (beside_in (rows_after judge_shape.rules [] rest)),
       (name, rest, (none, refl, refl, refl, refl, refl), refl),
     )
 asks_first name word rest (is_trace is) e =
@@ -398,7 +399,7 @@ taken_words Show words is = taken_bare showing words is
 taken_words Why words is = taken_bare explaining words is
 taken_words (Chart svg) words (name, rest, given, e) = subst (λ w. fault_of svahost w ≡ []) (sym e) (takes_chart name rest given.0)
 taken_words (Explore most whys few_ends) words (name, rest, given, e) = subst (λ w. fault_of svahost w ≡ []) (sym e) (takes_explore name rest given.0)
-taken_words (Judge run most strict all needed) words (name, rest, given, e) = subst (λ w. fault_of svahost w ≡ []) (sym e) (takes_judge name rest given.0)
+taken_words (Judge run most strict all beside) words (name, rest, given, e) = subst (λ w. fault_of svahost w ≡ []) (sym e) (takes_judge name rest given.0)
 taken_words (Trace live whys) words (name, rest, given, e) = subst (λ w. fault_of svahost w ≡ []) (sym e) (takes_trace name rest given.0)
 taken_words (Storm turns) words (name, rest, given, inl e) = subst (λ w. fault_of svahost w ≡ []) (sym e) (unfaulted name rest (given_taken turns rest given)).0
 taken_words (Storm turns) words (name, rest, given, inr e) = subst (λ w. fault_of svahost w ≡ []) (sym e) (unfaulted name rest (given_taken turns rest given)).1

@@ -18,6 +18,8 @@ use Rattle.clap.specs.declared.parser.matches.ArgMatches.TheViews.{out-ArgMatche
 use Rattle.clap.specs.declared.parser.matches.Found.{Found}
 use Rattle.clap.specs.declared.parser.matches.SubCommand.{SubCommand}
 use Rattle.sva_command.specs.declared.command.Asked.TheVariants.{Chart, Explore, Judge, Storm, Trace}
+use Rattle.sva_command.specs.declared.command.Beside.{Beside}
+use Rattle.sva_command.specs.Command.{beside_in}
 use Rattle.sva_command.specs.Command.{IsReadable, IsWritten, asked_by, is_given, most_by, most_text, turns_by, turns_text, within}
 
 -- what `u64` makes of a text
@@ -166,24 +168,24 @@ entered_explore m name rows most whys few_ends explore named found made told sho
         ((short ∙ ap (is_given (codes "ends")) (ap (λ o. unwrap_or o rows) found)) i))
 
 -- where `judge` was entered, the words ask for a driver to be judged
-pub entered_judge : (m : ArgMatches) (name : Text) (rows : List Row) (run : Bool) (most : ℕ) (strict all needed : Bool)
+pub entered_judge : (m : ArgMatches) (name : Text) (rows : List Row) (run : Bool) (most : ℕ) (strict all : Bool) (beside : Beside)
     → name ≡ codes "judge"
     → Some name ≡ subcommand_name_of m
     → Some rows ≡ option_map (λ p. p.1) (subcommand_rows (out-ArgMatches m).subcommand)
     → run ≡ is_given (codes "run") rows → most ≡ most_by (most_text rows) → strict ≡ is_given (codes "strict") rows
-    → all ≡ is_given (codes "all") rows → needed ≡ is_given (codes "needed") rows
-    → Judge run most strict all needed ≡ asked_by (subcommand_rows_of m)
-entered_judge m name rows run most strict all needed judge named found told made strictly each least =
+    → all ≡ is_given (codes "all") rows → beside ≡ beside_in rows
+    → Judge run most strict all beside ≡ asked_by (subcommand_rows_of m)
+entered_judge m name rows run most strict all beside judge named found told made strictly each least =
     go (out-ArgMatches m).subcommand named found
   where
     go : {Z : Type 0} (b : Option (Box SubCommand Z)) → Some name ≡ option_map (λ b. (out-SubCommand (box_value b)).name.now) b
         → Some rows ≡ option_map (λ p. p.1) (subcommand_rows b)
-        → Judge run most strict all needed ≡ asked_by (subcommand_rows b)
+        → Judge run most strict all beside ≡ asked_by (subcommand_rows b)
     go None named found = absurd (cc named)
     go (Some b) named found =
         let own = rows_of (found_of (out-SubCommand (box_value b)).matches) in
         let same : rows ≡ own = ap (λ o. unwrap_or o rows) found in
-        subst (λ n. Judge run most strict all needed ≡ asked_by (Some (n, own))) (sym judge ∙ ap (λ o. unwrap_or o name) named)
+        subst (λ n. Judge run most strict all beside ≡ asked_by (Some (n, own))) (sym judge ∙ ap (λ o. unwrap_or o name) named)
         (λ i. Judge ((told ∙ ap (is_given (codes "run")) same) i) ((made ∙ ap (λ l. most_by (most_text l)) same) i)
         ((strictly ∙ ap (is_given (codes "strict")) same) i) ((each ∙ ap (is_given (codes "all")) same) i)
-        ((least ∙ ap (is_given (codes "needed")) same) i))
+        ((least ∙ ap beside_in same) i))

@@ -15,6 +15,8 @@ use Rattle.clap.proofs.OnLiterals.{clap_on_literals}
 use Rattle.clap.proofs.ValueTestLemmas.{accepts-Accepts}
 use Rattle.sva_command.specs.declared.command.Asked.{Asked}
 use Rattle.sva_command.specs.declared.command.Asked.TheVariants.{Replay, Check, Storm, Plain, Test, Show, Why, Chart, Explore, Judge, Trace}
+use Rattle.sva_command.specs.declared.command.Beside.{Beside}
+use Rattle.sva_command.specs.Command.{beside_in}
 use Rattle.sva_command.specs.Command.{Asks, AsksRun, Enters, faults_of, GivesTurns, IsCommand, IsReadable, apart, asked_by, attached, chart_shape}
 use Rattle.sva_command.specs.Command.{explore_shape, is_given, judge_shape, most_by, most_text, own_faults, svahost, trace_shape, turns_by, turns_text, usual}
 use Rattle.sva_command.proofs.TakenLemmas.{found, text_accepted, text_of}
@@ -104,12 +106,12 @@ tells_explore name rest most whys few_ends is are short =
       subst IsReadable (sym enters) (λ is_storm. absurd (is_other explore refl is_storm)),
     )
 
-tells_judge : (name : Text) (rest : List Text) (run : Bool) (most : ℕ) (strict all needed : Bool)
+tells_judge : (name : Text) (rest : List Text) (run : Bool) (most : ℕ) (strict all : Bool) (beside : Beside)
     → run ≡ is_given (codes "run") (rows_after judge_shape.rules [] rest)
     → most ≡ most_by (most_text (rows_after judge_shape.rules [] rest)) → strict ≡ is_given (codes "strict") (rows_after judge_shape.rules [] rest)
-    → all ≡ is_given (codes "all") (rows_after judge_shape.rules [] rest) → needed ≡ is_given (codes "needed") (rows_after judge_shape.rules [] rest)
-    → Tells (Judge run most strict all needed) (name ∷ judge ∷ rest)
-tells_judge name rest run most strict all needed is are strictly each least =
+    → all ≡ is_given (codes "all") (rows_after judge_shape.rules [] rest) → beside ≡ beside_in (rows_after judge_shape.rules [] rest)
+    → Tells (Judge run most strict all beside) (name ∷ judge ∷ rest)
+tells_judge name rest run most strict all beside is are strictly each least =
     let enters = enters_judge name rest in (
       ap asked_by enters ∙ (λ i. Judge (sym is i) (sym are i) (sym strictly i) (sym each i) (sym least i)),
       subst IsReadable (sym enters) (λ is_storm. absurd (is_other judge refl is_storm)),
@@ -137,9 +139,9 @@ tells Why words is = bare_tells explaining words is
 tells (Chart svg) words (name, rest, given, e) = subst (Tells (Chart svg)) (sym e) (tells_chart name rest svg given.1)
 tells (Explore most whys few_ends) words (name, rest, given, e) =
     subst (Tells (Explore most whys few_ends)) (sym e) (tells_explore name rest most whys few_ends given.1 given.2 given.3)
-tells (Judge run most strict all needed) words (name, rest, given, e) =
-    subst (Tells (Judge run most strict all needed)) (sym e)
-    (tells_judge name rest run most strict all needed given.1 given.2 given.3 given.4 given.5)
+tells (Judge run most strict all beside) words (name, rest, given, e) =
+    subst (Tells (Judge run most strict all beside)) (sym e)
+    (tells_judge name rest run most strict all beside given.1 given.2 given.3 given.4 given.5)
 tells (Trace live whys) words (name, rest, given, e) = subst (Tells (Trace live whys)) (sym e) (tells_trace name rest live whys given.1 given.2)
 tells (Storm turns) words (name, rest, given, inl e) =
     let t = given_taken turns rest given in

@@ -16,6 +16,7 @@ use Rattle.clap.specs.declared.builder.value_parser.ValueParser.TheVariants.{Uns
 use Rattle.clap.specs.declared.error.kind.ErrorKind.{ErrorKind}
 use Rattle.clap.specs.declared.error.kind.ErrorKind.TheVariants.{ArgumentConflict, DisplayHelp, DisplayVersion}
 use Rattle.sva_command.specs.declared.command.Asked.{Asked}
+use Rattle.sva_command.specs.declared.command.Beside.{Beside}
 use Rattle.sva_command.specs.declared.command.Asked.TheVariants.{Replay, Check, Storm, Plain, Test, Show, Why, Chart, Explore, Judge, Trace}
 
 -- `--turns N`, a number that is read as u64, from 1 to 1000000, or 10000 where it isn't given
@@ -50,12 +51,12 @@ no_commands = let plain = new_app (codes "svahost") in
 -- the command `judge`
 abbrev pub judge_app : App
 judge_app =
-    with_rule (with_rule (with_rule (with_rule (with_rule (new_app (codes "judge")) most_rule) (flag_rule (codes "run")))
-    (flag_rule (codes "strict"))) (flag_rule (codes "all"))) (flag_rule (codes "needed"))
+    with_rule (with_rule (with_rule (with_rule (with_rule (with_rule (new_app (codes "judge")) most_rule) (flag_rule (codes "run")))
+    (flag_rule (codes "strict"))) (flag_rule (codes "all"))) (flag_rule (codes "needed"))) (flag_rule (codes "platforms"))
 
 -- `svahost` with a version and its commands: `storm`, which takes `--turns`, `chart`, which takes `--svg`, `explore`, which takes `--most`,
--- `--why` and `--ends`, `judge`, which takes `--most`, `--run`, `--strict`, `--all` and `--needed`, `trace`, which takes `--live`
--- and `--why`, and those that take no arguments; each has clap's flags for help
+-- `--why` and `--ends`, `judge`, which takes `--most`, `--run`, `--strict`, `--all`, `--needed` and `--platforms`, `trace`,
+-- which takes `--live` and `--why`, and those that take no arguments; each has clap's flags for help
 abbrev pub svahost : App
 svahost =
     let replaying = with_subcommand no_commands (new_app (codes "replay")).top in
@@ -173,20 +174,24 @@ GivesFlags live whys words =
 abbrev pub IsTrace : (live whys : Bool) → List Text → Type 0
 IsTrace live whys words = (name : Text) × (rest : List Text) × GivesFlags live whys rest × (words ≡ name ∷ codes "trace" ∷ rest)
 
+-- what is asked of a driver beside its verdict
+abbrev pub beside_in : List Row → Beside
+beside_in rows = record { needed = is_given (codes "needed") rows; platforms = is_given (codes "platforms") rows }
+
 -- the words behind `judge`, by clap's definitions: they have no fault, each of its flags is among them or not, and they give this number
-abbrev pub GivesJudge : (run : Bool) → (most : ℕ) → (strict all needed : Bool) → List Text → Type 0
-GivesJudge run most strict all needed words =
+abbrev pub GivesJudge : (run : Bool) → (most : ℕ) → (strict all : Bool) → Beside → List Text → Type 0
+GivesJudge run most strict all beside words =
     (level_fault judge_shape [] nothing_held words false [] ≡ [])
     × (run ≡ is_given (codes "run") (rows_after judge_shape.rules [] words))
     × (most ≡ most_by (most_text (rows_after judge_shape.rules [] words)))
     × (strict ≡ is_given (codes "strict") (rows_after judge_shape.rules [] words))
     × (all ≡ is_given (codes "all") (rows_after judge_shape.rules [] words))
-    × (needed ≡ is_given (codes "needed") (rows_after judge_shape.rules [] words))
+    × (beside ≡ beside_in (rows_after judge_shape.rules [] words))
 
 -- the words are the program's name, `judge`, and words that say this of `--most` and of each of its flags
-abbrev pub IsJudge : (run : Bool) → (most : ℕ) → (strict all needed : Bool) → List Text → Type 0
-IsJudge run most strict all needed words =
-    (name : Text) × (rest : List Text) × GivesJudge run most strict all needed rest × (words ≡ name ∷ codes "judge" ∷ rest)
+abbrev pub IsJudge : (run : Bool) → (most : ℕ) → (strict all : Bool) → Beside → List Text → Type 0
+IsJudge run most strict all beside words =
+    (name : Text) × (rest : List Text) × GivesJudge run most strict all beside rest × (words ≡ name ∷ codes "judge" ∷ rest)
 
 -- the words behind `chart`, by clap's definitions: they have no fault, and `--svg` is among them or not
 abbrev pub GivesSvg : Bool → List Text → Type 0
@@ -208,17 +213,24 @@ Enters Show words = IsCommand (codes "show") words
 Enters Why words = IsCommand (codes "why") words
 Enters (Chart svg) words = IsChart svg words
 Enters (Explore most whys few_ends) words = IsExplore most whys few_ends words
-Enters (Judge run most strict all needed) words = IsJudge run most strict all needed words
+Enters (Judge run most strict all beside) words = IsJudge run most strict all beside words
 Enters (Trace live whys) words = IsTrace live whys words
 
--- `--strict`, `--all` and `--needed` are of a verdict on all orders, and with `--run` there is none. Where a driver is judged again with a
--- line left out, none of its findings is told, and it is no matter what was tried
-abbrev pub clash : (run strict all needed : Bool) → Bool
-clash run strict all needed =
-    run && (strict || all || needed) || needed && (strict || all)
+-- one of these was given, or two of them
+abbrev pub is_any : Beside → Bool
+is_any beside = beside.needed || beside.platforms
+
+abbrev pub is_more : Beside → Bool
+is_more beside = beside.needed && beside.platforms
+
+-- each is of a verdict on all orders, and with `--run` there is none. Where other texts of a driver are judged too, none of its findings is
+-- told, and it is no matter what was tried; and one thing is asked at a time
+abbrev pub clash : (run strict all : Bool) → Beside → Bool
+clash run strict all beside =
+    run && (strict || all || is_any beside) || (strict || all) && is_any beside || is_more beside
 
 abbrev pub is_clash : Asked → Bool
-is_clash (Judge run most strict all needed) = clash run strict all needed
+is_clash (Judge run most strict all beside) = clash run strict all beside
 is_clash asked = false
 
 -- two options can't be meant together
@@ -253,7 +265,7 @@ asked_by (Some (name, rows)) =
     if bytes_eq name (codes "explore") then Explore (most_by (most_text rows)) (is_given (codes "why") rows) (is_given (codes "ends") rows) else
     if bytes_eq name (codes "judge") then
     Judge (is_given (codes "run") rows) (most_by (most_text rows)) (is_given (codes "strict") rows) (is_given (codes "all") rows)
-    (is_given (codes "needed") rows) else
+    (beside_in rows) else
     if bytes_eq name (codes "trace") then Trace (is_given (codes "live") rows) (is_given (codes "why") rows) else
     Replay
 
@@ -281,11 +293,11 @@ AsksExplore words = (most : ℕ) × (whys : Bool) × (few_ends : Bool) × Asks (
 -- the words ask for a driver to be judged, or its lines to be taken
 abbrev pub AsksJudge : List Text → Type 0
 AsksJudge words =
-    (run : Bool) × (most : ℕ) × (strict : Bool) × (all : Bool) × (needed : Bool) × Asks (Judge run most strict all needed) words
+    (run : Bool) × (most : ℕ) × (strict : Bool) × (all : Bool) × (beside : Beside) × Asks (Judge run most strict all beside) words
 
 -- the words ask for a driver to be judged, and for a verdict that says nothing to have a status of its own
 abbrev pub AsksStrict : List Text → Type 0
-AsksStrict words = (most : ℕ) × (all : Bool) × (needed : Bool) × Asks (Judge false most true all needed) words
+AsksStrict words = (most : ℕ) × (all : Bool) × (beside : Beside) × Asks (Judge false most true all beside) words
 
 -- a call for help: by a flag in the place of the command, whatever follows, or behind the command
 pub data CallsHelp (words : List Text) : Type 0 where

@@ -9,6 +9,10 @@ use Rattle.sva_command.specs.Command.{flag_rule}
 abbrev pub AddsFlag : Text → Command → Command → Type 0
 AddsFlag name old new = (arg : Arg) × AddsArg old arg new × (rule_of arg ≡ flag_rule name) × (arg.global ≡ false)
 
--- `judge` takes the flags that say what is told of drivers
+-- `judge` takes the flags that ask something beside its verdict
+abbrev pub AddsBeside : Command → Command → Type 0
+AddsBeside old new = (one : Command) × AddsFlag (codes "needed") old one × AddsFlag (codes "platforms") one new
+
+-- and those that say what is told of drivers
 abbrev pub AddsTelling : Command → Command → Type 0
-AddsTelling old new = (one : Command) × AddsFlag (codes "all") old one × AddsFlag (codes "needed") one new
+AddsTelling old new = (one : Command) × AddsFlag (codes "all") old one × AddsBeside one new

@@ -2,17 +2,12 @@
 
 ghost use Rattle.std.specs.Prelude.{◌≡◌, ◌∷◌, [], IfOk, codes, false, is_some};
 ghost use Rattle.clap.specs.Words.{FailsBy, app_of, found_of, new_app, rows_of, rule_of, subcommand_rows_of, with_rule, with_subcommand};
-ghost use Rattle.sva_command.specs.Command.{Asks, IsReadable, IsWritten, asked_by, clash, faults_of, flag_rule, is_clash, is_given, judge_app, no_commands, own_faults};
-ghost use Rattle.sva_command.specs.Flags.{AddsTelling};
+ghost use Rattle.sva_command.specs.Command.{Asks, IsReadable, IsWritten, asked_by, beside_in, clash, faults_of, flag_rule, is_any, is_clash, is_given, is_more, judge_app, no_commands, own_faults};
+ghost use Rattle.sva_command.specs.Flags.{AddsBeside, AddsTelling};
 ghost use Rattle.sva_command.specs.Command.{most_by, most_rule, most_text, svahost, texts, turns_by, turns_rule, turns_text, within};
 
 use crate::help::{
-    ABOUT, ALL, ALL_NEEDED, ALL_RUN, CHART, CHART_ENDS, CHART_USAGE, CHECK, CHECK_ENDS,
-    CHECK_USAGE, ENDS, EXPLORE, EXPLORE_ENDS, EXPLORE_USAGE, JUDGE, JUDGE_ENDS, JUDGE_USAGE, LIVE,
-    MOST, NEEDED, NEEDED_RUN, PLAIN, PLAIN_ENDS, PLAIN_USAGE, REPLAY, REPLAY_ENDS, REPLAY_USAGE,
-    RUN, SHOW, SHOW_ENDS, SHOW_USAGE, STORM, STORM_ENDS, STORM_USAGE, STRICT, STRICT_NEEDED,
-    STRICT_RUN, SVG, TEST, TEST_ENDS, TEST_USAGE, TOPICS, TRACE, TRACE_ENDS, TRACE_USAGE, TURNS,
-    VERSION, WAITS, WHY, WHY_ENDS, WHY_USAGE, WHYS,
+    ABOUT, ALL, ALL_NEEDED, ALL_PLATFORMS, ALL_RUN, CHART, CHART_ENDS, CHART_USAGE, CHECK, CHECK_ENDS, CHECK_USAGE, ENDS, EXPLORE, EXPLORE_ENDS, EXPLORE_USAGE, JUDGE, JUDGE_ENDS, JUDGE_USAGE, LIVE, MOST, NEEDED, NEEDED_RUN, PLAIN, PLAIN_ENDS, PLAIN_USAGE, PLATFORMS, PLATFORMS_NEEDED, PLATFORMS_RUN, REPLAY, REPLAY_ENDS, REPLAY_USAGE, RUN, SHOW, SHOW_ENDS, SHOW_USAGE, STORM, STORM_ENDS, STORM_USAGE, STRICT, STRICT_NEEDED, STRICT_PLATFORMS, STRICT_RUN, SVG, TEST, TEST_ENDS, TEST_USAGE, TOPICS, TRACE, TRACE_ENDS, TRACE_USAGE, TURNS, VERSION, WAITS, WHY, WHYS, WHY_ENDS, WHY_USAGE,
 };
 use clap::builder::ValueParser;
 use clap::error::ErrorKind;
@@ -30,6 +25,16 @@ const MOST_MOMENTS: u64 = 1_000_000_000;
 
 /// How many are looked at where nothing is said of them. clap is given the same number as a text.
 const USUAL_MOMENTS: u64 = 1_000_000;
+
+/// What is asked of a driver beside its verdict: other texts are made of its own, and judged. A command that is meant asks
+/// one of these at most.
+#[derive(Clone, Copy, PartialEq, Eq)]
+pub struct Beside {
+    /// Is each line left out in turn?
+    pub needed: bool,
+    /// Are other platforms set?
+    pub platforms: bool,
+}
 
 /// A command of the program.
 #[derive(Clone, Copy, PartialEq, Eq)]
@@ -75,8 +80,8 @@ pub enum Asked {
         strict: bool,
         /// Are all findings told, but for what is behind one? Not where the lines are taken one after another.
         all: bool,
-        /// Is each line left out in turn, and the rest judged again? Not with `run`, `strict` or `all`.
-        needed: bool,
+        /// What is asked beside the verdict? Nothing with `run`, `strict` or `all`.
+        beside: Beside,
     },
     /// Each step of a script with its answer and its messages, as it comes.
     Trace {
@@ -190,12 +195,20 @@ fn flag<'a>(alloc: Global, name: &'a str, about: &'a str) -> Arg<'a>
         .help(about)
 }
 
+/// A command with the flags that ask something of a driver beside its verdict.
+fn with_beside<'a>(judge: Command<'a>, alloc: Global) -> Result<Command<'a>, AllocError>
+    ensures { IfOk result (λ command. AddsBeside judge.entry command) }
+{
+    let with_needed = judge.arg(flag(alloc, "needed", NEEDED))?;
+    with_needed.arg(flag(alloc, "platforms", PLATFORMS))
+}
+
 /// A command with the flags that say what is told of drivers.
 fn with_telling<'a>(judge: Command<'a>, alloc: Global) -> Result<Command<'a>, AllocError>
     ensures { IfOk result (λ command. AddsTelling judge.entry command) }
 {
     let with_all = judge.arg(flag(alloc, "all", ALL))?;
-    with_all.arg(flag(alloc, "needed", NEEDED))
+    with_beside(with_all, alloc)
 }
 
 /// The program with its command `judge`.
@@ -292,18 +305,73 @@ fn conflict(alloc: Global, told: &'static str) -> Result<Asked, Error>
     Err(judge.error(ErrorKind::ArgumentConflict, told)?)
 }
 
-/// Which two options of `judge` can't be meant together, if there are such: with `--run` there is no verdict on all orders,
-/// and a driver that is judged again with a line left out has none of its findings told.
-fn clash(run: bool, strict: bool, all: bool, needed: bool) -> Option<&'static str>
-    ensures { is_some result ≡ clash run strict all needed }
+/// Whether something is asked of a driver beside its verdict.
+pub fn is_any(beside: Beside) -> bool
+    ensures { result ≡ is_any beside }
 {
-    match (run, strict, all, needed) {
-        (true, true, _, _) => Some(STRICT_RUN),
-        (true, _, true, _) => Some(ALL_RUN),
-        (true, _, _, true) => Some(NEEDED_RUN),
-        (_, true, _, true) => Some(STRICT_NEEDED),
-        (_, _, true, true) => Some(ALL_NEEDED),
-        _ => None,
+    beside.needed || beside.platforms
+}
+
+/// What can't be meant with `--run`: there is no verdict on all orders.
+fn clash_run(beside: Beside) -> Option<&'static str>
+    ensures { is_some result ≡ is_any beside }
+{
+    if beside.needed {
+        Some(NEEDED_RUN)
+    } else if beside.platforms {
+        Some(PLATFORMS_RUN)
+    } else {
+        None
+    }
+}
+
+/// What can't be meant with `--strict`: it is no matter what was tried.
+fn clash_strict(beside: Beside) -> Option<&'static str>
+    ensures { is_some result ≡ is_any beside }
+{
+    if beside.needed {
+        Some(STRICT_NEEDED)
+    } else if beside.platforms {
+        Some(STRICT_PLATFORMS)
+    } else {
+        None
+    }
+}
+
+/// What can't be meant with `--all`: no finding is told.
+fn clash_all(beside: Beside) -> Option<&'static str>
+    ensures { is_some result ≡ is_any beside }
+{
+    if beside.needed {
+        Some(ALL_NEEDED)
+    } else if beside.platforms {
+        Some(ALL_PLATFORMS)
+    } else {
+        None
+    }
+}
+
+/// What can't be meant at a time.
+fn clash_more(beside: Beside) -> Option<&'static str>
+    ensures { is_some result ≡ is_more beside }
+{
+    if beside.needed && beside.platforms {
+        return Some(PLATFORMS_NEEDED);
+    }
+    None
+}
+
+/// Which two options of `judge` can't be meant together, if there are such.
+fn clash(run: bool, strict: bool, all: bool, beside: Beside) -> Option<&'static str>
+    ensures { is_some result ≡ clash run strict all beside }
+{
+    match (run, strict, all) {
+        (true, true, _) => Some(STRICT_RUN),
+        (true, _, true) => Some(ALL_RUN),
+        (true, _, _) => clash_run(beside),
+        (_, true, _) => clash_strict(beside),
+        (_, _, true) => clash_all(beside),
+        _ => clash_more(beside),
     }
 }
 
@@ -316,9 +384,9 @@ fn clash_of(asked: Asked) -> Option<&'static str>
             run,
             strict,
             all,
-            needed,
+            beside,
             ..
-        } => clash(run, strict, all, needed),
+        } => clash(run, strict, all, beside),
         _ => None,
     }
 }
@@ -360,13 +428,23 @@ fn entered(matches: &ArgMatches<'_>) -> Asked
             most: most(below),
             strict: is_given(below, "strict"),
             all: is_given(below, "all"),
-            needed: is_given(below, "needed"),
+            beside: beside_in(below),
         },
         Some(("trace", below)) => Asked::Trace {
             live: is_given(below, "live"),
             whys: is_given(below, "why"),
         },
         _ => Asked::Replay,
+    }
+}
+
+/// What is asked of a driver beside its verdict.
+fn beside_in(below: &ArgMatches<'_>) -> Beside
+    ensures { result ≡ beside_in (rows_of (found_of below.now)) }
+{
+    Beside {
+        needed: is_given(below, "needed"),
+        platforms: is_given(below, "platforms"),
     }
 }
 

@@ -106,6 +106,22 @@ pub const STRICT_NEEDED: &str = "the argument '--strict' cannot be used with '--
 /// What is told of `--all` with `--needed`.
 pub const ALL_NEEDED: &str = "the argument '--all' cannot be used with '--needed'";
 
+/// What `-h` says of `--platforms`.
+pub const PLATFORMS: &str =
+    "The driver is judged on VT-d too, and on VT-d with each setting by which less is left open";
+
+/// What is told of `--platforms` with `--run`.
+pub const PLATFORMS_RUN: &str = "the argument '--platforms' cannot be used with '--run'";
+
+/// What is told of `--strict` with `--platforms`.
+pub const STRICT_PLATFORMS: &str = "the argument '--strict' cannot be used with '--platforms'";
+
+/// What is told of `--all` with `--platforms`.
+pub const ALL_PLATFORMS: &str = "the argument '--all' cannot be used with '--platforms'";
+
+/// What is told of `--platforms` with `--needed`.
+pub const PLATFORMS_NEEDED: &str = "the argument '--platforms' cannot be used with '--needed'";
+
 /// What is told of `--all` with `--run`.
 pub const ALL_RUN: &str = "the argument '--all' cannot be used with '--run'";
 

@@ -7,7 +7,7 @@ mod help;
 mod passages;
 mod topics;
 
-pub use command::{Asked, parse};
+pub use command::{Asked, Beside, is_any, parse};
 pub use files::{
     Awaited, Kind, Named, Part, Takes, after_of, files_of, jobs_of, named_in, part_of,
 };

@@ -23,9 +23,11 @@ use Rattle.sva_script_reports.specs.Whys.{whys_of}
 use Rattle.sva_script_reports.specs.Traces.{trace_of}
 use Rattle.sva_why.specs.Why.{why_of}
 use Rattle.sva_program.specs.Run.{HasCause, Makes, Reports, Rules, RulesOf, RunsTo, WhereKnown, explored_of, is_strict, ran_of, ruled_of, status_of, status_of_untried}
-use Rattle.sva_program.specs.Run.{style_of, wanted_of_driver}
+use Rattle.sva_program.specs.Run.{question_of, style_of, wanted_of_driver}
 use Rattle.sva_command.specs.Command.{Asks, AsksStrict}
 use Rattle.sva_command.specs.declared.command.Asked.{Asked}
+use Rattle.sva_command.specs.declared.command.Beside.{Beside}
+use Rattle.sva_variants.specs.declared.asking.Question.{Question}
 use Rattle.sva_driver_reports.specs.declared.reports.Ruling.{Ruling}
 use Rattle.sva_driver_reports.specs.declared.reports.Ruling.TheVariants.{Safe, Untried, Right, Unsafe, UnsafeSoFar, Stuck, CutOff}
 use Rattle.sva_driver_reports.specs.declared.wanted.Wanted as driver
@@ -127,7 +129,7 @@ run_status strict found ended is = subst (λ e. status_of strict e ≤ 2) (sym i
 -- of a command on steps
 pub steps_status : (asked : Asked) (input old new : Option (List ℕ)) (ended : Result Ending DriveFault)
     → ((most : ℕ) (whys few_ends : Bool) → asked ≡ Explore most whys few_ends → ⊥)
-    → ((run : Bool) (most : ℕ) (strict all needed : Bool) → asked ≡ Judge run most strict all needed → ⊥)
+    → ((run : Bool) (most : ℕ) (strict all : Bool) (beside : Beside) → asked ≡ Judge run most strict all beside → ⊥)
     → Reports asked input old new ended → status_of (is_strict asked) ended ≤ 2
 steps_status Replay input old new ended other one h = run_status false h.0 ended h.1
 steps_status Check input old new ended other one h = run_status false h.0 ended h.1
@@ -137,7 +139,7 @@ steps_status Test input old new ended other one h = run_status false h.0 ended h
 steps_status Show input old new ended other one h = run_status false h.0 ended h.1
 steps_status Why input old new ended other one h = run_status false h.0 ended h.1
 steps_status (Explore most whys few_ends) input old new ended other one h = absurd (other most whys few_ends refl)
-steps_status (Judge run most strict all needed) input old new ended other one h = absurd (one run most strict all needed refl)
+steps_status (Judge run most strict all beside) input old new ended other one h = absurd (one run most strict all beside refl)
 steps_status (Chart svg) input old new ended other one h = run_status false h.0 ended h.1
 steps_status (Trace live whys) input old new ended other one h = run_status false h.0 ended h.1
 
@@ -164,9 +166,9 @@ untried_status : (strict : Bool) → IsOfJudging strict (status_of_untried stric
 untried_status true = inr (inr (inr (inr (refl, refl))))
 untried_status false = inl refl
 
-pub ruling_status : (run : Bool) (most : ℕ) (strict all needed : Bool) (input old new : Option (List ℕ)) (ended : Result Ending DriveFault)
-    → Reports (Judge run most strict all needed) input old new ended → IsOfJudging strict (status_of strict ended)
-ruling_status run most strict all needed input old new ended h = subst (λ e. IsOfJudging strict (status_of strict e)) (sym h.1) (go h.0)
+pub ruling_status : (run : Bool) (most : ℕ) (strict all : Bool) (beside : Beside) (input old new : Option (List ℕ)) (ended : Result Ending DriveFault)
+    → Reports (Judge run most strict all beside) input old new ended → IsOfJudging strict (status_of strict ended)
+ruling_status run most strict all beside input old new ended h = subst (λ e. IsOfJudging strict (status_of strict e)) (sym h.1) (go h.0)
   where
     go : (found : Result (Option Ruling) DriveFault) → IsOfJudging strict (status_of strict (ruled_of found))
     go (Ok None) = inr (inl refl)
@@ -180,16 +182,16 @@ ruling_status run most strict all needed input old new ended h = subst (λ e. Is
     go (Err fault) = inr (inl refl)
 
 -- where the words ask for it, that is `--strict` of theirs
-pub strictly : (run : Bool) (most : ℕ) (strict all needed : Bool) (words : List Text) (status : ℕ) → Asks (Judge run most strict all needed) words
+pub strictly : (run : Bool) (most : ℕ) (strict all : Bool) (beside : Beside) (words : List Text) (status : ℕ) → Asks (Judge run most strict all beside) words
     → IsOfJudging strict status
     → (status ≡ 0) ⊎ (status ≡ 1) ⊎ (status ≡ 4) ⊎ (status ≡ 5) ⊎ ((status ≡ 8) × AsksStrict words)
-strictly run most strict all needed words status asks (inl done) = inl done
-strictly run most strict all needed words status asks (inr (inl fault)) = inr (inl fault)
-strictly run most strict all needed words status asks (inr (inr (inl failed))) = inr (inr (inl failed))
-strictly run most strict all needed words status asks (inr (inr (inr (inl unknown)))) = inr (inr (inr (inl unknown)))
-strictly true most true all needed words status asks (inr (inr (inr (inr (untried, is))))) = absurd (cc asks.1)
-strictly false most true all needed words status asks (inr (inr (inr (inr (untried, is))))) = inr (inr (inr (inr (untried, (most, all, needed, asks)))))
-strictly run most false all needed words status asks (inr (inr (inr (inr (untried, is))))) = absurd (cc is)
+strictly run most strict all beside words status asks (inl done) = inl done
+strictly run most strict all beside words status asks (inr (inl fault)) = inr (inl fault)
+strictly run most strict all beside words status asks (inr (inr (inl failed))) = inr (inr (inl failed))
+strictly run most strict all beside words status asks (inr (inr (inr (inl unknown)))) = inr (inr (inr (inl unknown)))
+strictly true most true all beside words status asks (inr (inr (inr (inr (untried, is))))) = absurd (cc asks.1)
+strictly false most true all beside words status asks (inr (inr (inr (inr (untried, is))))) = inr (inr (inr (inr (untried, (most, all, beside, asks)))))
+strictly run most false all beside words status asks (inr (inr (inr (inr (untried, is))))) = absurd (cc is)
 
 appends_nothing : (old : Option (List ℕ)) → Appends old old []
 appends_nothing None = tt
@@ -215,9 +217,9 @@ unruled : (run : Bool) (wanted : driver.Wanted) (text : List ℕ) (old : Option 
 unruled true wanted text old = nothing_of old []
 unruled false wanted text old = nothing_of old []
 
-unruled_of : (run needed : Bool) (wanted : driver.Wanted) (text : List ℕ) (old : Option (List ℕ)) → RulesOf run needed wanted text old old (Err Memory)
-unruled_of run true wanted text old = nothing_of old []
-unruled_of run false wanted text old = unruled run wanted text old
+unruled_of : (run : Bool) (question : Option Question) (wanted : driver.Wanted) (text : List ℕ) (old : Option (List ℕ)) → RulesOf run question wanted text old old (Err Memory)
+unruled_of run (Some question) wanted text old = nothing_of old []
+unruled_of run None wanted text old = unruled run wanted text old
 
 unwritten_by : (asked : Asked) (input old : Option (List ℕ)) → Reports asked input old old (Err Memory)
 unwritten_by Replay input old = lacking (unwritten_where Outcome _ input old (λ text. (nothing_of old (report_of text), tt)))
@@ -230,8 +232,8 @@ unwritten_by Why input old = lacking (unwritten_where Outcome _ input old (λ te
 unwritten_by (Chart svg) input old =
     lacking (unwritten_where Outcome _ input old (λ text. (show_of text, (refl, λ wrong. refl), unprinted (show_of text) old)))
 unwritten_by (Explore most whys few_ends) input old = (Err Memory, refl, unwritten_where (Option Judged) _ input old (λ text. nothing_of old []))
-unwritten_by (Judge run most strict all needed) input old =
-    (Err Memory, refl, unwritten_where (Option Ruling) _ input old (λ text. unruled_of run needed (wanted_of_driver most all) text old))
+unwritten_by (Judge run most strict all beside) input old =
+    (Err Memory, refl, unwritten_where (Option Ruling) _ input old (λ text. unruled_of run (question_of beside) (wanted_of_driver most all) text old))
 unwritten_by (Trace live whys) None old = lacking tt
 unwritten_by (Trace live whys) (Some text) old = lacking (unprinted (trace_of why_of (style_of live whys) text) old)
 

@@ -28,19 +28,22 @@ use Rattle.sva_driver_reports.specs.declared.reports.Ruling.{Ruling}
 use Rattle.sva_driver_reports.specs.declared.reports.Ruling.TheVariants.{Safe, Untried, Right, Unsafe, UnsafeSoFar, Stuck, CutOff}
 use Rattle.sva_driver_reports.specs.declared.wanted.Wanted as driver
 use Rattle.sva_driver_reports.specs.Judged.{Judges, Runs}
-use Rattle.sva_variants.specs.Needed.{TellsNeeded}
+use Rattle.sva_variants.specs.declared.asking.Question.{Question}
+use Rattle.sva_variants.specs.declared.asking.Question.TheVariants.{Needed, Platforms}
+use Rattle.sva_variants.specs.Questions.{TellsVaried}
 use Rattle.std.specs.declared.alloc.AllocError.{AllocError}
 use Rattle.sva_located.specs.Located.{located}
 use Rattle.sva_located.specs.declared.languages.Language.{Language}
 use Rattle.sva_located.specs.declared.languages.Language.TheVariants.{Scenario, Script, Race, Driver}
 use Rattle.sva_command.specs.declared.command.Asked.{Asked}
+use Rattle.sva_command.specs.declared.command.Beside.{Beside}
 use Rattle.sva_command.specs.declared.command.Asked.TheVariants.{Replay, Check, Storm, Plain, Test, Show, Why, Chart, Explore, Judge, Trace}
 use Rattle.sva_program.specs.declared.run.Ending.{Ending}
 use Rattle.sva_program.specs.declared.run.Ending.TheVariants.{Explored, Ran, Ruled}
 
 -- `--strict` is of a driver that is judged
 abbrev pub is_strict : Asked → Bool
-is_strict (Judge run most strict all needed) = strict
+is_strict (Judge run most strict all beside) = strict
 is_strict asked = false
 
 -- where nothing was ever tried in a driver that is safe, the verdict says nothing
@@ -148,11 +151,18 @@ abbrev pub Rules : (run : Bool) → driver.Wanted → (text : List ℕ) → (old
 Rules true wanted text old new found = Runs text old new found
 Rules false wanted text old new found = Judges text wanted old new found
 
--- or it was told on which of its lines the verdict rests
-abbrev pub RulesOf : (run needed : Bool) → driver.Wanted → (text : List ℕ) → (old new : Option (List ℕ))
+-- what is asked of it beside its verdict
+abbrev pub question_of : Beside → Option Question
+question_of beside =
+    if beside.needed then Some Needed else
+    if beside.platforms then Some Platforms else
+    None
+
+-- or that was answered
+abbrev pub RulesOf : (run : Bool) → Option Question → driver.Wanted → (text : List ℕ) → (old new : Option (List ℕ))
     → Result (Option Ruling) DriveFault → Type 0
-RulesOf run true wanted text old new found = TellsNeeded text wanted.most old new found
-RulesOf run false wanted text old new found = Rules run wanted text old new found
+RulesOf run (Some question) wanted text old new found = TellsVaried question text wanted.most old new found
+RulesOf run None wanted text old new found = Rules run wanted text old new found
 
 -- What a command wrote. What a storm makes of its input depends on its threads: they have played the scenario in so many turns each, and
 -- what is written is what the audit of their receipts found, the sum of its own counts or a bad receipt; where memory lacked, nothing is. A
@@ -172,8 +182,8 @@ Reports Why input old new = RunsTo (λ found. WhereKnown (λ text. Prints (whys_
 Reports (Chart svg) input old new = RunsTo (λ found. WhereKnown (λ text. Charts text old new found) input old new found)
 Reports (Explore most whys few_ends) input old new =
     ExploresTo (λ found. WhereKnown (λ text. Explores why_of text (wanted_of most whys few_ends) old new found) input old new found)
-Reports (Judge run most strict all needed) input old new =
-    RulesTo (λ found. WhereKnown (λ text. RulesOf run needed (wanted_of_driver most all) text old new found) input old new found)
+Reports (Judge run most strict all beside) input old new =
+    RulesTo (λ found. WhereKnown (λ text. RulesOf run (question_of beside) (wanted_of_driver most all) text old new found) input old new found)
 Reports (Trace live whys) input old new = RunsTo (λ found. IfSome input (λ text. Prints (trace_of why_of (style_of live whys) text) old new found))
 
 -- a text for the user: something is said, and where the value's own text is known and isn't empty, it is that one
@@ -199,7 +209,7 @@ language_of Replay = Scenario
 language_of Check = Scenario
 language_of (Storm turns) = Scenario
 language_of (Explore most whys few_ends) = Race
-language_of (Judge run most strict all needed) = Driver
+language_of (Judge run most strict all beside) = Driver
 language_of asked = Script
 
 -- neither a text nor a buffer fails but for want of memory

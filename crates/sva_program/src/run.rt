@@ -4,7 +4,7 @@ ghost use Rattle.std.specs.Prelude.{◌≡◌, ◌≢◌, ◌≤◌, ◌<◌, �
 ghost use Rattle.std.specs.Io.KnownBytes.{Appends};
 ghost use Rattle.std.specs.IoError.{error_kind};
 ghost use Rattle.sva_command.specs.Command.{Asks, AsksExplore, AsksJudge, AsksRun, AsksStrict, AsksText, CallsHelp, CallsVersion, IsMistaken, texts};
-ghost use Rattle.sva_program.specs.Run.{HasCause, IsSaid, Reports, Rules, RulesOf, Says, WhereKnown, columns_of, complaint, explored_of, fault_line, is_strict, ran_of, ruled_of};
+ghost use Rattle.sva_program.specs.Run.{HasCause, IsSaid, Reports, Rules, RulesOf, Says, WhereKnown, columns_of, complaint, explored_of, fault_line, is_strict, question_of, ran_of, ruled_of};
 ghost use Rattle.sva_program.specs.Run.{status_of, status_of_untried, style_of, unread_line, wanted_of, wanted_of_driver};
 ghost use Rattle.sva_streams.specs.Streams.{IsNew, Writes};
 
@@ -17,13 +17,13 @@ use std::io::{ErrorKind as IoErrorKind, Read, Write};
 use std::sync::Wait;
 use std::thread::Threads;
 use sva_charts::{Drawing, chart};
-use sva_command::{Asked, NO_TEXT, parse};
+use sva_command::{Asked, Beside, NO_TEXT, parse};
 use sva_driver_reports::{Ruling, judge, run};
 use sva_race_reports::{Judged, Wanted, explore};
 use sva_scenario::{DriveFault, Outcome, Told, check, drive, write_all};
 use sva_script_reports::{Columns, Saying, Style, print, trace};
 use sva_search::Watch;
-use sva_variants::needed;
+use sva_variants::{Question, vary};
 use sva_why::Explainer;
 
 /// The steps were run, all claims of a race hold, a driver is safe, or help was shown.
@@ -160,11 +160,12 @@ pub(crate) fn perform<X: AllocGlobal + Threads + Wait + Sync, R: Read, W: Write,
             run,
             most,
             all,
-            needed,
+            beside,
             ..
         } => {
             let wanted = wanted_of_driver(most, all);
-            ruled(rule_of(rt.alloc(), run, needed, wanted, reader, writer, watch))
+            let question = question_of(beside);
+            ruled(rule_of(rt.alloc(), run, question, wanted, reader, writer, watch))
         }
         Asked::Trace { live, whys } => ran(trace::<Explainer, R, W>(
             rt.alloc(),
@@ -262,11 +263,24 @@ fn rule<R: Read, W: Write, P: Watch>(
     }
 }
 
-/// Tells on which lines of a driver its verdict rests; or judges it, or takes its lines one after another.
+/// What is asked of a driver beside its verdict.
+fn question_of(beside: Beside) -> Option<Question>
+    ensures { result ≡ question_of beside }
+{
+    if beside.needed {
+        Some(Question::Needed)
+    } else if beside.platforms {
+        Some(Question::Platforms)
+    } else {
+        None
+    }
+}
+
+/// Answers what is asked of a driver; or judges it, or takes its lines one after another.
 fn rule_of<R: Read, W: Write, P: Watch>(
     alloc: Global,
     in_order: bool,
-    is_needed: bool,
+    question: Option<Question>,
     wanted: sva_driver_reports::Wanted,
     reader: &mut Told<R>,
     writer: &mut Told<W>,
@@ -274,15 +288,14 @@ fn rule_of<R: Read, W: Write, P: Watch>(
 ) -> Result<Option<Ruling>, DriveFault>
     requires reader { IsNew reader.old }
     requires writer { IsNew writer.old }
-    ensures ruled { WhereKnown (λ text. RulesOf in_order is_needed wanted text (W.contents writer.old.inner)
+    ensures ruled { WhereKnown (λ text. RulesOf in_order question wanted text (W.contents writer.old.inner)
         (W.contents writer.new.inner) result)
         (R.remaining reader.old.inner) (W.contents writer.old.inner) (W.contents writer.new.inner) result }
     ensures cause { HasCause reader.new writer.new result }
 {
-    if is_needed {
-        needed(alloc, wanted.most, reader, writer, watch)
-    } else {
-        rule(alloc, in_order, wanted, reader, writer, watch)
+    match question {
+        Some(question) => vary(alloc, question, wanted.most, reader, writer, watch),
+        None => rule(alloc, in_order, wanted, reader, writer, watch),
     }
 }
 

@@ -3,8 +3,8 @@ use Rattle.sva_command.proofs.command.with_telling.Goals as goal
 
 pub returns : goal.returns
 returns c =
-    IfOk-weaker c.arg-2.result _ _ (λ r added. (
+    IfOk-weaker c.with_beside.result _ _ (λ r added. (
       c.in_ok-with_all.with_all,
       (_, c.in_ok-with_all.ensures, c.flag.ensures.rule, c.flag.ensures.local),
-      (_, added, c.flag-2.ensures.rule, c.flag-2.ensures.local),
-    )) c.arg-2.ensures
+      added,
+    )) c.with_beside.ensures

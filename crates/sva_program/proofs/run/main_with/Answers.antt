@@ -32,7 +32,7 @@ returns-in-Ok-clause-status g c other one =
     subst (λ status. status ≤ 2) (sym (c.finish.ensures.status ∙ ap (λ strict. status_of strict ran.result) c.is_strict.ensures))
     (steps_status c.in-Ok.asked _ _ _ ran.result
     (λ most whys few_ends is. other (most, whys, few_ends, subst (λ a. Asks a (texts c.args.words.now)) is c.in-Ok.ensures.asked))
-    (λ run most strict all needed is. one (run, most, strict, all, needed, subst (λ a. Asks a (texts c.args.words.now)) is c.in-Ok.ensures.asked)) ran.ensures.report)
+    (λ run most strict all beside is. one (run, most, strict, all, beside, subst (λ a. Asks a (texts c.args.words.now)) is c.in-Ok.ensures.asked)) ran.ensures.report)
 
 pub returns-in-Ok-clause-explored : goal.returns-in-Ok-clause-explored
 returns-in-Ok-clause-explored g c (most, whys, few_ends, asks) =
@@ -52,19 +52,19 @@ returns-in-Err-clause-explored g c (most, whys, few_ends, asks) =
     inr (inl memory.0)
 
 pub returns-in-Ok-clause-judged : goal.returns-in-Ok-clause-judged
-returns-in-Ok-clause-judged g c (run, most, strict, all, needed, asks) =
+returns-in-Ok-clause-judged g c (run, most, strict, all, beside, asks) =
     let ran = c.perform-ended in
-    let alone = one_alone (Judge run most strict all needed) c.in-Ok.asked (texts c.args.words.now) asks c.in-Ok.ensures.asked in
+    let alone = one_alone (Judge run most strict all beside) c.in-Ok.asked (texts c.args.words.now) asks c.in-Ok.ensures.asked in
     let is = c.is_strict.ensures ∙ ap is_strict (sym alone) in
-    strictly run most strict all needed _ _ asks (subst (IsOfJudging strict) (sym (c.finish.ensures.status ∙ ap (λ strict. status_of strict ran.result) is))
-    (ruling_status run most strict all needed _ _ _ ran.result
+    strictly run most strict all beside _ _ asks (subst (IsOfJudging strict) (sym (c.finish.ensures.status ∙ ap (λ strict. status_of strict ran.result) is))
+    (ruling_status run most strict all beside _ _ _ ran.result
     (subst (λ a. Reports a (g.R.Read.remaining c.args.reader.now.inner) (g.W.Write.contents c.args.writer.now.inner)
     (g.W.Write.contents ran.new.writer.inner) ran.result) (sym alone) ran.ensures.report)))
 
 pub returns-in-Err-clause-judged : goal.returns-in-Err-clause-judged
-returns-in-Err-clause-judged g c (run, most, strict, all, needed, asks) =
+returns-in-Err-clause-judged g c (run, most, strict, all, beside, asks) =
     let fails : HasKind (faults_of (texts c.args.words.now)) c.in-Err.error = search rules in
-    let memory = c.answer.ensures.memory (c.kind.ensures ∙ only_memory _ c.in-Err.error (takes (Judge run most strict all needed) _ asks) fails) in
+    let memory = c.answer.ensures.memory (c.kind.ensures ∙ only_memory _ c.in-Err.error (takes (Judge run most strict all beside) _ asks) fails) in
     inr (inl memory.0)
 
 pub returns-in-Err-clause-run : goal.returns-in-Err-clause-run

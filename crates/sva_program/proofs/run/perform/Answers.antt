@@ -11,7 +11,7 @@ use Rattle.sva_script_reports.specs.Traces.{trace_of}
 use Rattle.sva_why.specs.Why.{why_of}
 use Rattle.sva_race_reports.specs.Explored.{Explores}
 use Rattle.sva_driver_reports.specs.declared.wanted.Wanted.{Wanted}
-use Rattle.sva_program.specs.Run.{Reports, RulesOf, WhereKnown, wanted_of}
+use Rattle.sva_program.specs.Run.{Reports, RulesOf, WhereKnown, question_of, wanted_of}
 use Rattle.sva_program.proofs.RunLemmas.{caused, caused_exploring, caused_ruling, caused_run, printed, reported, run_reported}
 use Rattle.sva_program.proofs.run.perform.Goals as goal
 
@@ -225,7 +225,7 @@ returns-in-Judge-clause-report g c =
     subst (λ a. Reports a input old new c.ruled.result) (sym c.in-Judge.is) (
       found.result,
       c.ruled.ensures,
-      subst (λ (wanted : Wanted). WhereKnown (λ text. RulesOf c.in-Judge.run' c.in-Judge.needed wanted text old new found.result) input old new found.result)
+      subst (λ (wanted : Wanted). WhereKnown (λ text. RulesOf c.in-Judge.run' (question_of c.in-Judge.beside) wanted text old new found.result) input old new found.result)
           c.wanted_of_driver-wanted.ensures found.ensures.ruled,
     )
 

@@ -49,7 +49,7 @@ module _ (now left : List Line) (line : Line) (is : now ≡ line ∷ left) where
       ∙ append_assoc out (cut_if line.0 (act_in line.1) left) (cuts_from left)
       ∙ sym (ap (λ l. out ++ cuts_from l) is) ∙ so_far
 
-  pub kept_next : (put : Line → List ℕ) (out new whole : List ℕ) → new ≡ out ++ put line
+  pub kept_next : {B : Type 0} (put : Line → List B) (out new whole : List B) → new ≡ out ++ put line
       → out ++ flat_map put now ≡ whole → new ++ flat_map put left ≡ whole
   kept_next put out new whole puts so_far =
       ap (λ l. l ++ flat_map put left) puts
@@ -60,5 +60,5 @@ pub cuts_end : (now : List Line) (out whole : List CutSaid) → now ≡ [] → o
 unfolding cuts_from
 cuts_end now out whole none so_far = sym (append-nil out) ∙ sym (ap (λ l. out ++ cuts_from l) none) ∙ so_far
 
-pub kept_end : (put : Line → List ℕ) (now : List Line) (out whole : List ℕ) → now ≡ [] → out ++ flat_map put now ≡ whole → out ≡ whole
+pub kept_end : {B : Type 0} (put : Line → List B) (now : List Line) (out whole : List B) → now ≡ [] → out ++ flat_map put now ≡ whole → out ≡ whole
 kept_end put now out whole none so_far = sym (append-nil out) ∙ sym (ap (λ l. out ++ flat_map put l) none) ∙ so_far

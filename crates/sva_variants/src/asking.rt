@@ -1,6 +1,6 @@
 //! What is asked of a driver beside its verdict.
 
-ghost use Rattle.std.specs.Prelude.{◌≡◌, ◌++◌, IfOk, OnOk, [], is_some};
+ghost use Rattle.std.specs.Prelude.{◌≡◌, IfOk, []};
 ghost use Rattle.sva_variants.specs.Needed.{is_safe};
 ghost use Rattle.sva_variants.specs.Questions as spec;
 

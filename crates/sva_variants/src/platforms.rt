@@ -1,7 +1,6 @@
 //! The texts of a driver on other platforms.
 
-ghost use Rattle.std.specs.Prelude.{◌≡◌, ◌++◌, ◌∷◌, [], IfOk, OnOk, flat_map, map};
-ghost use Rattle.sva_script.specs.Lines.{script_words};
+ghost use Rattle.std.specs.Prelude.{◌≡◌, ◌++◌, IfOk, OnOk, map};
 ghost use Rattle.sva_variants.specs.Platforms as spec;
 
 use std::alloc::{AllocError, Global};

@@ -1,8 +1,7 @@
 //! What is told of the settings on which a verdict rests.
 
-ghost use Rattle.std.specs.Prelude.{◌≡◌, ◌++◌, IfOk, OnOk, [], flat_map};
+ghost use Rattle.std.specs.Prelude.{◌≡◌, ◌++◌, IfOk, OnOk, []};
 ghost use Rattle.std.specs.List.{AllZip};
-ghost use Rattle.sva_variants.specs.Needed.{wanted_of};
 ghost use Rattle.sva_variants.specs.Platforms as spec;
 
 use crate::platforms::{Platform, label_of, others_of, own_settings, settings_of, under};

@@ -1,5 +1,7 @@
 -- What was said of the texts without a line.
-use Rattle.std.proofs.Common.{◌≡◌, ◌∙◌, ◌++◌, ap, subst, ℕ, List, [], ◌∷◌, map, Option, Some}
+use Rattle.std.proofs.Common.{◌≡◌, ◌∙◌, ◌++◌, ◌+◌, ◌<◌, ap, subst, sym, ℕ, List, [], ◌∷◌, get_or, length, map, take, Option, Some}
+use Rattle.std.proofs.lemmas.List.{take_more}
+use Rattle.std.proofs.lemmas.Slice.Zip.{all_zipped_more}
 use Rattle.std.specs.List.{AllZip}
 use Rattle.sva_driver_reports.specs.declared.reports.Ruling.{Ruling}
 use Rattle.sva_driver_reports.specs.declared.wanted.Wanted.{Wanted}
@@ -53,6 +55,14 @@ is_on text most platform wanted settings other report label line before told tri
   (subst (λ w. IsTextJudged other w tried.said report) asks judged),
   same ∙ puts ∙ ap (λ l. l ++ row_text label line) none ∙ ap (λ n. row_text n line) named ∙ ap (row_text (label_of platform)) first,
 )
+
+pub on_more : (text : List ℕ) (most : ℕ) (platforms : List Platform) (place : ℕ) (blank : Platform) (all new : List Tried) (tried : Tried)
+    → place < length platforms → AllZip (IsOn text most) (take place platforms) all → IsOn text most (get_or platforms place blank) tried
+    → new ≡ all ++ tried ∷ [] → AllZip (IsOn text most) (take (place + 1) platforms) new
+on_more text most platforms place blank all new tried inside so_far is puts =
+    subst (λ front. AllZip (IsOn text most) front new) (sym (take_more platforms place blank inside))
+    (subst (AllZip (IsOn text most) (take place platforms ++ get_or platforms place blank ∷ [])) (sym puts)
+    (all_zipped_more (IsOn text most) (take place platforms) all (get_or platforms place blank) tried so_far is))
 
 pub are_on : (text : List ℕ) (most : ℕ) (first : Option Ruling) (own settings : List ℕ) (others : List Platform) (all : List Tried)
     (said : Option Ruling) (before out : List ℕ) → settings ≡ own_settings text → others ≡ others_of settings

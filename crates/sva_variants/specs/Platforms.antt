@@ -90,11 +90,14 @@ IsOn text most platform tried =
 abbrev pub as_it_stands : List ℕ
 as_it_stands = codes "as it stands       "
 
+unfoldable pub own_row : (own : List ℕ) → List ℕ
+own_row own = row_text as_it_stands (first_line own)
+
 abbrev pub otherwise_text : List ℕ
 otherwise_text = codes "each platform's lines stand behind config, in place of the file's own; all else is as it stands\n"
 
 abbrev pub report_text : (own : List ℕ) → List Tried → List ℕ
-report_text own all = row_text as_it_stands (first_line own) ++ flat_map told_of all ++ otherwise_text
+report_text own all = own_row own ++ flat_map told_of all ++ otherwise_text
 
 -- the verdict of the text as it stands is the answer; but of one that is safe, that a search was cut off, if one was
 abbrev pub is_safe_or_untried : Option Ruling → Bool

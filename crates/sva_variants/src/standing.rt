@@ -20,6 +20,14 @@ fn put_row(out: &mut Vec<u8>, label: &str, line: &[u8]) -> Result<(), AllocError
     out.extend_from_slice(b"\n")
 }
 
+/// Appends the row of the text as it stands.
+fn put_own_row(out: &mut Vec<u8>, own: &[u8]) -> Result<(), AllocError>
+    ensures { OnOk result (out.new.items ≡ out.old.items ++ spec.own_row own.now) }
+{
+    put_row(out, "as it stands       ", first_line(own))?;
+    Ok(())
+}
+
 /// Judges the text on a platform.
 fn try_on<P: Watch>(
     alloc: Global,
@@ -60,7 +68,7 @@ fn try_each<P: Watch>(
 fn put_standing(out: &mut Vec<u8>, own: &[u8], all: &[Tried]) -> Result<(), AllocError>
     ensures { OnOk result (out.new.items ≡ out.old.items ++ spec.report_text own.now all.now) }
 {
-    put_row(out, "as it stands       ", first_line(own))?;
+    put_own_row(out, own)?;
     put_all(out, all)?;
     out.extend_from_slice(
         b"each platform's lines stand behind config, in place of the file's own; all else is as it stands\n",

@@ -32,7 +32,7 @@ told_open question text most wanted first own slice said out asks judged same so
   own = own;
   judged = subst (λ w. IsTextJudged text w first own) asks judged;
   told = subst (λ b. questions.IsTold question text most b first own said out) (sym so)
-  (subst (λ o. IsAnswered question text most first o said out) same answered);
+      (subst (λ o. IsAnswered question text most first o said out) same answered);
 }
 
 pub told_alone : (question : Question) (text : List ℕ) (most : ℕ) (wanted : Wanted) (first : Option Ruling) (own slice before out : List ℕ)
@@ -43,7 +43,7 @@ told_alone question text most wanted first own slice before out asks judged same
   own = own;
   judged = subst (λ w. IsTextJudged text w first own) asks judged;
   told = subst (λ b. questions.IsTold question text most b first own first out) (sym other)
-  (refl, puts ∙ ap (λ l. l ++ slice) none ∙ same);
+      (refl, puts ∙ ap (λ l. l ++ slice) none ∙ same);
 }
 
 -- ---- More than the first 1,048,577 bytes don't matter: the text is too large anyhow, and then nothing is judged

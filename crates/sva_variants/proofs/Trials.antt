@@ -52,7 +52,7 @@ pub is_on : (text : List ℕ) (most : ℕ) (platform : Platform) (wanted : Wante
 is_on text most platform wanted settings other report label line before told tried are is asks judged named first none puts same = (
   report,
   subst (λ t. IsTextJudged t (wanted_of most) tried.said report) (is ∙ ap (λ s. under s text) are)
-  (subst (λ w. IsTextJudged other w tried.said report) asks judged),
+      (subst (λ w. IsTextJudged other w tried.said report) asks judged),
   same ∙ puts ∙ ap (λ l. l ++ row_text label line) none ∙ ap (λ n. row_text n line) named ∙ ap (row_text (label_of platform)) first,
 )
 

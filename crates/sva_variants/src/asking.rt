@@ -82,7 +82,16 @@ pub fn varied_text<P: Watch>(
     let mut own = Vec::new(alloc);
     let said = judge_text(alloc, wanted_of(most), text, &mut own, watch)?;
     if is_open(question, said) {
-        return answer(alloc, question, most, text, said, own.as_slice(), out, watch);
+        return answer(
+            alloc,
+            question,
+            most,
+            text,
+            said,
+            own.as_slice(),
+            out,
+            watch,
+        );
     }
     out.extend_from_slice(own.as_slice())?;
     Ok(said)

@@ -6,7 +6,7 @@ use Rattle.sva_variants.proofs.platforms.under.Given as goal
 
 -- the lines so far, and those that are left
 abbrev pub invariant-loop-number : goal.invariant-loop-number
-invariant-loop-number l = 
+invariant-loop-number l =
     l.out.items ++ flat_map (line_under l.settings) (lines_from (l.lines.number + 1) l.lines.rest.now) ≡ under l.settings l.text
 
 -- what is left gets shorter

@@ -33,6 +33,6 @@ returns-in-Some-judge-default c readable =
     let stage = c.in-Some-judge-default in
     entered_judge c.args.matches.now stage.field-0-0.now (rows_of (found_of stage.below.now)) c.is_given-in-Some-judge-default.result
     c.most-in-Some-judge-default.result c.is_given-in-Some-judge-default-2.result c.is_given-in-Some-judge-default-3.result
-    c.is_given-in-Some-judge-default-4.result stage.is-judge stage.ensures.name stage.ensures.rows
+    c.beside_in.result stage.is-judge stage.ensures.name stage.ensures.rows
     c.is_given-in-Some-judge-default.ensures c.most-in-Some-judge-default.ensures c.is_given-in-Some-judge-default-2.ensures
-    c.is_given-in-Some-judge-default-3.ensures c.is_given-in-Some-judge-default-4.ensures
+    c.is_given-in-Some-judge-default-3.ensures c.beside_in.ensures

@@ -1,1 +1,2 @@
 pub mod ChartLemmas
+mod WitnessLemmas

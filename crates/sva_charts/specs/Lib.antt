@@ -1,1 +1,2 @@
 pub mod Charts
+pub mod Witnesses

@@ -31,7 +31,7 @@ _svahost() {
     fi
     case $command in
       check | test | why) words='--part --jobs --help' ;;
-      judge) words='--run --strict --all --needed --platforms --most --part --jobs --help' ;;
+      judge) words='--run --strict --all --needed --platforms --chart --most --part --jobs --help' ;;
       explore) words='--why --ends --most --part --jobs --help' ;;
       trace) words='--live --why --help' ;;
       chart) words='--svg --help' ;;

@@ -55,6 +55,15 @@ rows_end drawn place now out whole none so_far = sym (append-nil out) ∙ sym (a
 
 -- ---- A chart
 
+-- what was appended piece by piece
+pub placed : (out one two three four first heads rows : List ℕ) → one ≡ out ++ first → two ≡ one ++ 10 ∷ [] → three ≡ two ++ heads
+    → four ≡ three ++ rows → four ≡ out ++ (first ++ 10 ∷ (heads ++ rows))
+placed out one two three four first heads rows puts_first ends puts_heads puts_rows =
+    puts_rows ∙ ap (λ l. l ++ rows) (puts_heads ∙ ap (λ l. l ++ heads) (ends ∙ ap (λ l. l ++ 10 ∷ []) puts_first))
+    ∙ append_assoc ((out ++ first) ++ 10 ∷ []) heads rows
+    ∙ append_assoc (out ++ first) (10 ∷ []) (heads ++ rows)
+    ∙ append_assoc out first (10 ∷ (heads ++ rows))
+
 pub has_chart : (report : List ℕ) (sketch : Sketch) (events : List Line) (before out : List ℕ) → Some events ≡ events_in report → before ≡ []
     → out ≡ before ++ charted report sketch events → IsChartOf report out
 has_chart report sketch events before out is none puts =

@@ -1,6 +1,6 @@
 //! The events of a witness in a report, and what the line of one says.
 
-ghost use Rattle.std.specs.Prelude.{◌≡◌, ◌+◌, ◌==◌, ◌≤◌, ◌<◌, drop, length, map, option_map, position, OnOk};
+ghost use Rattle.std.specs.Prelude.{◌≡◌, ◌+◌, ◌==◌, ◌≤◌, ◌<◌, drop, length, map, option_map, position, IfSome, OnOk};
 ghost use Rattle.sva_script.specs.Lines.{begins_comment};
 ghost use Rattle.sva_script_reading.specs.Begins.{lines_from};
 ghost use Rattle.sva_charts.specs.Witnesses as witnesses;
@@ -54,12 +54,20 @@ pub(crate) fn event_lines<'a>(
     Ok(all)
 }
 
+/// Where a byte stands first, if it is there.
+fn position_of(byte: u8, text: &[u8]) -> Option<usize>
+    ensures at { result ≡ position (λ one. one == byte) text.now }
+    ensures within { IfSome result (λ place. place < length text.now) }
+{
+    text.iter().position(|one| *one == byte)
+}
+
 /// Where a byte stands first, or the end.
 fn place_of(byte: u8, text: &[u8]) -> usize
     ensures place { result ≡ witnesses.place_of byte text.now }
     ensures within { result ≤ length text.now }
 {
-    match text.iter().position(|one| *one == byte) {
+    match position_of(byte, text) {
         Some(place) => place,
         None => text.len(),
     }

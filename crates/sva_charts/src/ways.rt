@@ -342,6 +342,11 @@ fn take_line(
     Ok(true)
 }
 
+/// Of each endpoint, which unit it has.
+fn units_of(alloc: Global, spot: &Spot) -> Result<Vec<usize>, AllocError> {
+    Vec::from_slice(alloc, spot.world.units.as_slice())
+}
+
 /// The ways of the messages of a witness, which is read as a driver whose line `race` is the first of its events. Where it
 /// can't be read, there are none.
 pub(crate) fn ways_of(alloc: Global, witness: &[u8], race: u64) -> Result<Ways, AllocError> {
@@ -351,9 +356,7 @@ pub(crate) fn ways_of(alloc: Global, witness: &[u8], race: u64) -> Result<Ways, 
         return Ok(ways);
     };
     let mut spot = start(alloc, &read.opening)?;
-    for unit in spot.world.units.as_slice() {
-        ways.units.push(*unit)?;
-    }
+    ways.units = units_of(alloc, &spot)?;
     for place in 0..read.opening.lines.len() {
         let taken = take_line(alloc, &read, &mut spot, &mut ways, place, race)?;
         if !taken {

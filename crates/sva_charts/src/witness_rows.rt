@@ -1,6 +1,6 @@
 //! The rows of a driver's chart: one for each event of its witness.
 
-ghost use Rattle.std.specs.Prelude.{◌≡◌, ◌++◌, ◌+◌, ◌∷◌, OnOk, flat_map, map, option_map, replicate};
+ghost use Rattle.std.specs.Prelude.{◌≡◌, ◌++◌, ◌+◌, ◌∷◌, OnOk, flat_map, map, replicate, slice_get};
 ghost use Rattle.sva_script_reading.specs.Begins.{lines_from};
 ghost use Rattle.sva_driver_words.specs.Pieces.{and_number};
 ghost use Rattle.sva_charts.specs.Witnesses as witnesses;
@@ -160,21 +160,22 @@ fn put_front(
     put_cell(out, 5, number_in(line))
 }
 
-/// Appends the row of an event.
+/// Appends the row of an event, of which is drawn what stands at this place.
 fn put_row(
     alloc: Global,
     out: &mut Vec<u8>,
     number: u64,
     line: &[u8],
-    drawn: Option<&Drawn>,
+    rows: &[Drawn],
+    place: usize,
 ) -> Result<(), AllocError>
     ensures { OnOk result (out.new.items ≡ out.old.items
-        ++ witnesses.row_text number line.now (option_map (λ drawn. drawn.now) drawn)) }
+        ++ witnesses.row_text number line.now (slice_get rows.now place)) }
 {
     let mut words = Vec::new(alloc);
     split_event(line, &mut words)?;
     put_front(alloc, out, number, line)?;
-    match drawn {
+    match rows.get(place) {
         None => {
             put_words(out, words.as_slice())?;
             out.extend_from_slice(b"\n")
@@ -200,7 +201,7 @@ fn put_rows(
     let mut lines = events;
     let mut place = 0;
     while let Some((_number, line)) = lines.next() {
-        put_row(alloc, out, place as u64 + 1, line, rows.get(place))?;
+        put_row(alloc, out, place as u64 + 1, line, rows, place)?;
         place += 1;
     }
     Ok(())
@@ -225,15 +226,23 @@ fn put_head(out: &mut Vec<u8>, head: &Head) -> Result<(), AllocError>
     put_numbers(out, head.numbers.as_slice())
 }
 
+/// Appends the heads of rails.
+fn put_rails(out: &mut Vec<u8>, heads: &[Head]) -> Result<(), AllocError>
+    ensures { OnOk result (out.new.items ≡ out.old.items ++ flat_map witnesses.head_text heads.now) }
+{
+    for head in heads {
+        put_head(out, head)?;
+    }
+    Ok(())
+}
+
 /// Appends the heads of columns and rails.
 fn put_heads(out: &mut Vec<u8>, heads: &[Head]) -> Result<(), AllocError>
     ensures { OnOk result (out.new.items ≡ out.old.items ++ witnesses.heads_text heads.now) }
 {
     put_cell(out, 5, b"event")?;
     put_cell(out, 5, b"line")?;
-    for head in heads {
-        put_head(out, head)?;
-    }
+    put_rails(out, heads)?;
     out.extend_from_slice(b"\n")
 }
 
@@ -251,5 +260,6 @@ pub(crate) fn put_sketched(
     out.extend_from_slice(first_line(report))?;
     out.extend_from_slice(b"\n")?;
     put_heads(out, sketch.heads.as_slice())?;
-    put_rows(alloc, out, sketch.rows.as_slice(), events)
+    put_rows(alloc, out, sketch.rows.as_slice(), events)?;
+    Ok(())
 }

@@ -213,7 +213,7 @@ is_of_one (Judge run most strict all beside) = is_any beside
 is_of_one asked = false
 
 abbrev pub of_several : List ℕ
-of_several = codes "svahost: --jobs and --part are of several files, and --needed and --platforms take one\n"
+of_several = codes "svahost: --jobs and --part are of several files, and --needed, --platforms and --chart take one\n"
 
 abbrev pub says_of_several : Named → Bool
 says_of_several named =

@@ -361,7 +361,7 @@ fn one_by(alloc: Global, asked: Asked, named: Named) -> Result<Files, AllocError
     if says_of_several(&named) {
         return no_files(
             alloc,
-            "svahost: --jobs and --part are of several files, and --needed and --platforms take one\n",
+            "svahost: --jobs and --part are of several files, and --needed, --platforms and --chart take one\n",
         );
     }
     file_by(alloc, asked, named)

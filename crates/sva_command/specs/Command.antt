@@ -51,11 +51,12 @@ no_commands = let plain = new_app (codes "svahost") in
 -- the command `judge`
 abbrev pub judge_app : App
 judge_app =
-    with_rule (with_rule (with_rule (with_rule (with_rule (with_rule (new_app (codes "judge")) most_rule) (flag_rule (codes "run")))
-    (flag_rule (codes "strict"))) (flag_rule (codes "all"))) (flag_rule (codes "needed"))) (flag_rule (codes "platforms"))
+    with_rule (with_rule (with_rule (with_rule (with_rule (with_rule (with_rule (new_app (codes "judge")) most_rule) (flag_rule (codes "run")))
+    (flag_rule (codes "strict"))) (flag_rule (codes "all"))) (flag_rule (codes "needed"))) (flag_rule (codes "platforms")))
+    (flag_rule (codes "chart"))
 
 -- `svahost` with a version and its commands: `storm`, which takes `--turns`, `chart`, which takes `--svg`, `explore`, which takes `--most`,
--- `--why` and `--ends`, `judge`, which takes `--most`, `--run`, `--strict`, `--all`, `--needed` and `--platforms`, `trace`,
+-- `--why` and `--ends`, `judge`, which takes `--most`, `--run`, `--strict`, `--all`, `--needed`, `--platforms` and `--chart`, `trace`,
 -- which takes `--live` and `--why`, and those that take no arguments; each has clap's flags for help
 abbrev pub svahost : App
 svahost =
@@ -176,7 +177,7 @@ IsTrace live whys words = (name : Text) × (rest : List Text) × GivesFlags live
 
 -- what is asked of a driver beside its verdict
 abbrev pub beside_in : List Row → Beside
-beside_in rows = record { needed = is_given (codes "needed") rows; platforms = is_given (codes "platforms") rows }
+beside_in rows = record { needed = is_given (codes "needed") rows; platforms = is_given (codes "platforms") rows; chart = is_given (codes "chart") rows }
 
 -- the words behind `judge`, by clap's definitions: they have no fault, each of its flags is among them or not, and they give this number
 abbrev pub GivesJudge : (run : Bool) → (most : ℕ) → (strict all : Bool) → Beside → List Text → Type 0
@@ -218,10 +219,10 @@ Enters (Trace live whys) words = IsTrace live whys words
 
 -- one of these was given, or two of them
 abbrev pub is_any : Beside → Bool
-is_any beside = beside.needed || beside.platforms
+is_any beside = beside.needed || beside.platforms || beside.chart
 
 abbrev pub is_more : Beside → Bool
-is_more beside = beside.needed && beside.platforms
+is_more beside = beside.needed && (beside.platforms || beside.chart) || beside.platforms && beside.chart
 
 -- each is of a verdict on all orders, and with `--run` there is none. Where other texts of a driver are judged too, none of its findings is
 -- told, and it is no matter what was tried; and one thing is asked at a time

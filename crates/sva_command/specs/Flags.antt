@@ -11,7 +11,8 @@ AddsFlag name old new = (arg : Arg) × AddsArg old arg new × (rule_of arg ≡ f
 
 -- `judge` takes the flags that ask something beside its verdict
 abbrev pub AddsBeside : Command → Command → Type 0
-AddsBeside old new = (one : Command) × AddsFlag (codes "needed") old one × AddsFlag (codes "platforms") one new
+AddsBeside old new =
+    (one : Command) × (two : Command) × AddsFlag (codes "needed") old one × AddsFlag (codes "platforms") one two × AddsFlag (codes "chart") two new
 
 -- and those that say what is told of drivers
 abbrev pub AddsTelling : Command → Command → Type 0

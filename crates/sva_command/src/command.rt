@@ -7,13 +7,13 @@ ghost use Rattle.sva_command.specs.Flags.{AddsBeside, AddsTelling};
 ghost use Rattle.sva_command.specs.Command.{most_by, most_rule, most_text, svahost, texts, turns_by, turns_rule, turns_text, within};
 
 use crate::help::{
-    ABOUT, ALL, ALL_NEEDED, ALL_PLATFORMS, ALL_RUN, CHART, CHART_ENDS, CHART_USAGE, CHECK,
-    CHECK_ENDS, CHECK_USAGE, ENDS, EXPLORE, EXPLORE_ENDS, EXPLORE_USAGE, JUDGE, JUDGE_ENDS,
-    JUDGE_USAGE, LIVE, MOST, NEEDED, NEEDED_RUN, PLAIN, PLAIN_ENDS, PLAIN_USAGE, PLATFORMS,
-    PLATFORMS_NEEDED, PLATFORMS_RUN, REPLAY, REPLAY_ENDS, REPLAY_USAGE, RUN, SHOW, SHOW_ENDS,
-    SHOW_USAGE, STORM, STORM_ENDS, STORM_USAGE, STRICT, STRICT_NEEDED, STRICT_PLATFORMS,
-    STRICT_RUN, SVG, TEST, TEST_ENDS, TEST_USAGE, TOPICS, TRACE, TRACE_ENDS, TRACE_USAGE, TURNS,
-    VERSION, WAITS, WHY, WHY_ENDS, WHY_USAGE, WHYS,
+    ABOUT, ALL, ALL_CHART, ALL_NEEDED, ALL_PLATFORMS, ALL_RUN, CHART, CHART_ENDS, CHART_NEEDED,
+    CHART_PLATFORMS, CHART_RUN, CHART_USAGE, CHECK, CHECK_ENDS, CHECK_USAGE, DRAWN, ENDS, EXPLORE,
+    EXPLORE_ENDS, EXPLORE_USAGE, JUDGE, JUDGE_ENDS, JUDGE_USAGE, LIVE, MOST, NEEDED, NEEDED_RUN,
+    PLAIN, PLAIN_ENDS, PLAIN_USAGE, PLATFORMS, PLATFORMS_NEEDED, PLATFORMS_RUN, REPLAY, REPLAY_ENDS,
+    REPLAY_USAGE, RUN, SHOW, SHOW_ENDS, SHOW_USAGE, STORM, STORM_ENDS, STORM_USAGE, STRICT,
+    STRICT_CHART, STRICT_NEEDED, STRICT_PLATFORMS, STRICT_RUN, SVG, TEST, TEST_ENDS, TEST_USAGE,
+    TOPICS, TRACE, TRACE_ENDS, TRACE_USAGE, TURNS, VERSION, WAITS, WHY, WHY_ENDS, WHY_USAGE, WHYS,
 };
 use clap::builder::ValueParser;
 use clap::error::ErrorKind;
@@ -32,14 +32,16 @@ const MOST_MOMENTS: u64 = 1_000_000_000;
 /// How many are looked at where nothing is said of them. clap is given the same number as a text.
 const USUAL_MOMENTS: u64 = 1_000_000;
 
-/// What is asked of a driver beside its verdict: other texts are made of its own, and judged. A command that is meant asks
-/// one of these at most.
+/// What is asked of a driver beside its verdict: other texts are made of its own, and judged; or its witness is drawn. A
+/// command that is meant asks one of these at most.
 #[derive(Clone, Copy, PartialEq, Eq)]
 pub struct Beside {
     /// Is each line left out in turn?
     pub needed: bool,
     /// Are other platforms set?
     pub platforms: bool,
+    /// Is the witness drawn?
+    pub chart: bool,
 }
 
 /// A command of the program.
@@ -206,7 +208,8 @@ fn with_beside<'a>(judge: Command<'a>, alloc: Global) -> Result<Command<'a>, All
     ensures { IfOk result (λ command. AddsBeside judge.entry command) }
 {
     let with_needed = judge.arg(flag(alloc, "needed", NEEDED))?;
-    with_needed.arg(flag(alloc, "platforms", PLATFORMS))
+    let with_platforms = with_needed.arg(flag(alloc, "platforms", PLATFORMS))?;
+    with_platforms.arg(flag(alloc, "chart", DRAWN))
 }
 
 /// A command with the flags that say what is told of drivers.
@@ -315,7 +318,7 @@ fn conflict(alloc: Global, told: &'static str) -> Result<Asked, Error>
 pub fn is_any(beside: Beside) -> bool
     ensures { result ≡ is_any beside }
 {
-    beside.needed || beside.platforms
+    beside.needed || beside.platforms || beside.chart
 }
 
 /// What can't be meant with `--run`: there is no verdict on all orders.
@@ -326,6 +329,8 @@ fn clash_run(beside: Beside) -> Option<&'static str>
         Some(NEEDED_RUN)
     } else if beside.platforms {
         Some(PLATFORMS_RUN)
+    } else if beside.chart {
+        Some(CHART_RUN)
     } else {
         None
     }
@@ -339,6 +344,8 @@ fn clash_strict(beside: Beside) -> Option<&'static str>
         Some(STRICT_NEEDED)
     } else if beside.platforms {
         Some(STRICT_PLATFORMS)
+    } else if beside.chart {
+        Some(STRICT_CHART)
     } else {
         None
     }
@@ -352,6 +359,8 @@ fn clash_all(beside: Beside) -> Option<&'static str>
         Some(ALL_NEEDED)
     } else if beside.platforms {
         Some(ALL_PLATFORMS)
+    } else if beside.chart {
+        Some(ALL_CHART)
     } else {
         None
     }
@@ -361,10 +370,12 @@ fn clash_all(beside: Beside) -> Option<&'static str>
 fn clash_more(beside: Beside) -> Option<&'static str>
     ensures { is_some result ≡ is_more beside }
 {
-    if beside.needed && beside.platforms {
-        return Some(PLATFORMS_NEEDED);
+    match (beside.needed, beside.platforms, beside.chart) {
+        (true, true, _) => Some(PLATFORMS_NEEDED),
+        (true, _, true) => Some(CHART_NEEDED),
+        (_, true, true) => Some(CHART_PLATFORMS),
+        _ => None,
     }
-    None
 }
 
 /// Which two options of `judge` can't be meant together, if there are such.
@@ -451,6 +462,7 @@ fn beside_in(below: &ArgMatches<'_>) -> Beside
     Beside {
         needed: is_given(below, "needed"),
         platforms: is_given(below, "platforms"),
+        chart: is_given(below, "chart"),
     }
 }
 

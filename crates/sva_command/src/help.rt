@@ -122,6 +122,25 @@ pub const ALL_PLATFORMS: &str = "the argument '--all' cannot be used with '--pla
 /// What is told of `--platforms` with `--needed`.
 pub const PLATFORMS_NEEDED: &str = "the argument '--platforms' cannot be used with '--needed'";
 
+/// What `-h` says of `--chart`.
+pub const DRAWN: &str =
+    "The list of events is drawn as a sequence chart, with what is in flight meanwhile";
+
+/// What is told of `--chart` with `--run`.
+pub const CHART_RUN: &str = "the argument '--chart' cannot be used with '--run'";
+
+/// What is told of `--strict` with `--chart`.
+pub const STRICT_CHART: &str = "the argument '--strict' cannot be used with '--chart'";
+
+/// What is told of `--all` with `--chart`.
+pub const ALL_CHART: &str = "the argument '--all' cannot be used with '--chart'";
+
+/// What is told of `--chart` with `--needed`.
+pub const CHART_NEEDED: &str = "the argument '--chart' cannot be used with '--needed'";
+
+/// What is told of `--chart` with `--platforms`.
+pub const CHART_PLATFORMS: &str = "the argument '--chart' cannot be used with '--platforms'";
+
 /// What is told of `--all` with `--run`.
 pub const ALL_RUN: &str = "the argument '--all' cannot be used with '--run'";
 

@@ -22,7 +22,7 @@ use Rattle.sva_script_reports.specs.Shows.{show_of}
 use Rattle.sva_script_reports.specs.Whys.{whys_of}
 use Rattle.sva_script_reports.specs.Traces.{trace_of}
 use Rattle.sva_why.specs.Why.{why_of}
-use Rattle.sva_program.specs.Run.{HasCause, Makes, Reports, Rules, RulesOf, RunsTo, WhereKnown, explored_of, is_strict, ran_of, ruled_of, status_of, status_of_untried}
+use Rattle.sva_program.specs.Run.{HasCause, Makes, Reports, Rules, RulesIf, RulesOf, RunsTo, WhereKnown, explored_of, is_strict, ran_of, ruled_of, status_of, status_of_untried}
 use Rattle.sva_program.specs.Run.{question_of, style_of, wanted_of_driver}
 use Rattle.sva_command.specs.Command.{Asks, AsksStrict}
 use Rattle.sva_command.specs.declared.command.Asked.{Asked}
@@ -221,6 +221,11 @@ unruled_of : (run : Bool) (question : Option Question) (wanted : driver.Wanted) 
 unruled_of run (Some question) wanted text old = nothing_of old []
 unruled_of run None wanted text old = unruled run wanted text old
 
+unruled_by : (chart run : Bool) (question : Option Question) (wanted : driver.Wanted) (text : List ℕ) (old : Option (List ℕ))
+    → RulesIf chart run question wanted text old old (Err Memory)
+unruled_by true run question wanted text old = nothing_of old []
+unruled_by false run question wanted text old = unruled_of run question wanted text old
+
 unwritten_by : (asked : Asked) (input old : Option (List ℕ)) → Reports asked input old old (Err Memory)
 unwritten_by Replay input old = lacking (unwritten_where Outcome _ input old (λ text. (nothing_of old (report_of text), tt)))
 unwritten_by Check input old = lacking (unwritten_where Outcome _ input old (λ text. (nothing_of old (check_of text), tt)))
@@ -233,7 +238,7 @@ unwritten_by (Chart svg) input old =
     lacking (unwritten_where Outcome _ input old (λ text. (show_of text, (refl, λ wrong. refl), unprinted (show_of text) old)))
 unwritten_by (Explore most whys few_ends) input old = (Err Memory, refl, unwritten_where (Option Judged) _ input old (λ text. nothing_of old []))
 unwritten_by (Judge run most strict all beside) input old =
-    (Err Memory, refl, unwritten_where (Option Ruling) _ input old (λ text. unruled_of run (question_of beside) (wanted_of_driver most all) text old))
+    (Err Memory, refl, unwritten_where (Option Ruling) _ input old (λ text. unruled_by beside.chart run (question_of beside) (wanted_of_driver most all) text old))
 unwritten_by (Trace live whys) None old = lacking tt
 unwritten_by (Trace live whys) (Some text) old = lacking (unprinted (trace_of why_of (style_of live whys) text) old)
 

@@ -11,6 +11,7 @@ use Rattle.sva_streams.specs.declared.streams.DriveFault.TheVariants.{Read, Writ
 use Rattle.sva_streams.specs.declared.streams.Outcome.{Outcome}
 use Rattle.sva_streams.specs.declared.streams.Outcome.TheVariants.{Done, Faulted}
 use Rattle.sva_charts.specs.Charts.{Charts}
+use Rattle.sva_charts.specs.Witnesses.{ChartsDriver}
 use Rattle.sva_script_reports.specs.declared.rows.Columns.{Columns}
 use Rattle.sva_script_reports.specs.declared.rows.Columns.TheVariants.{Padded, Tabbed}
 use Rattle.sva_script_reports.specs.declared.rows.Style.{Style}
@@ -164,6 +165,15 @@ abbrev pub RulesOf : (run : Bool) → Option Question → driver.Wanted → (tex
 RulesOf run (Some question) wanted text old new found = TellsVaried question text wanted.most old new found
 RulesOf run None wanted text old new found = Rules run wanted text old new found
 
+-- or its witness was drawn
+abbrev pub RulesIf : (chart run : Bool) → Option Question → driver.Wanted → (text : List ℕ) → (old new : Option (List ℕ))
+    → Result (Option Ruling) DriveFault → Type 0
+RulesIf true run question wanted text old new found = ChartsDriver text wanted.most old new found
+RulesIf false run question wanted text old new found = RulesOf run question wanted text old new found
+
+abbrev pub RulesBy : (run : Bool) → Beside → driver.Wanted → (text : List ℕ) → (old new : Option (List ℕ)) → Result (Option Ruling) DriveFault → Type 0
+RulesBy run beside wanted text old new found = RulesIf beside.chart run (question_of beside) wanted text old new found
+
 -- What a command wrote. What a storm makes of its input depends on its threads: they have played the scenario in so many turns each, and
 -- what is written is what the audit of their receipts found, the sum of its own counts or a bad receipt; where memory lacked, nothing is. A
 -- trace has written the rows of what came before a read fault. Of a chart it is known what it says where the script is wrong, and that
@@ -183,7 +193,7 @@ Reports (Chart svg) input old new = RunsTo (λ found. WhereKnown (λ text. Chart
 Reports (Explore most whys few_ends) input old new =
     ExploresTo (λ found. WhereKnown (λ text. Explores why_of text (wanted_of most whys few_ends) old new found) input old new found)
 Reports (Judge run most strict all beside) input old new =
-    RulesTo (λ found. WhereKnown (λ text. RulesOf run (question_of beside) (wanted_of_driver most all) text old new found) input old new found)
+    RulesTo (λ found. WhereKnown (λ text. RulesBy run beside (wanted_of_driver most all) text old new found) input old new found)
 Reports (Trace live whys) input old new = RunsTo (λ found. IfSome input (λ text. Prints (trace_of why_of (style_of live whys) text) old new found))
 
 -- a text for the user: something is said, and where the value's own text is known and isn't empty, it is that one

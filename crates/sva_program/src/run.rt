@@ -4,7 +4,7 @@ ghost use Rattle.std.specs.Prelude.{◌≡◌, ◌≢◌, ◌≤◌, ◌<◌, �
 ghost use Rattle.std.specs.Io.KnownBytes.{Appends};
 ghost use Rattle.std.specs.IoError.{error_kind};
 ghost use Rattle.sva_command.specs.Command.{Asks, AsksExplore, AsksJudge, AsksRun, AsksStrict, AsksText, CallsHelp, CallsVersion, IsMistaken, texts};
-ghost use Rattle.sva_program.specs.Run.{HasCause, IsSaid, Reports, Rules, RulesOf, Says, WhereKnown, columns_of, complaint, explored_of, fault_line, is_strict, question_of, ran_of, ruled_of};
+ghost use Rattle.sva_program.specs.Run.{HasCause, IsSaid, Reports, Rules, RulesIf, RulesOf, Says, WhereKnown, columns_of, complaint, explored_of, fault_line, is_strict, question_of, ran_of, ruled_of};
 ghost use Rattle.sva_program.specs.Run.{status_of, status_of_untried, style_of, unread_line, wanted_of, wanted_of_driver};
 ghost use Rattle.sva_streams.specs.Streams.{IsNew, Writes};
 
@@ -16,7 +16,7 @@ use std::io;
 use std::io::{ErrorKind as IoErrorKind, Read, Write};
 use std::sync::Wait;
 use std::thread::Threads;
-use sva_charts::{Drawing, chart};
+use sva_charts::{Drawing, chart, chart_driver};
 use sva_command::{Asked, Beside, NO_TEXT, parse};
 use sva_driver_reports::{Ruling, judge, run};
 use sva_race_reports::{Judged, Wanted, explore};
@@ -165,7 +165,8 @@ pub(crate) fn perform<X: AllocGlobal + Threads + Wait + Sync, R: Read, W: Write,
         } => {
             let wanted = wanted_of_driver(most, all);
             let question = question_of(beside);
-            ruled(rule_of(rt.alloc(), run, question, wanted, reader, writer, watch))
+            let is_chart = beside.chart;
+            ruled(rule_by(rt.alloc(), run, is_chart, question, wanted, reader, writer, watch))
         }
         Asked::Trace { live, whys } => ran(trace::<Explainer, R, W>(
             rt.alloc(),
@@ -260,6 +261,31 @@ fn rule<R: Read, W: Write, P: Watch>(
         run(alloc, reader, writer)
     } else {
         judge(alloc, wanted, reader, writer, watch)
+    }
+}
+
+/// Draws the witness of a driver; or answers what is asked of it, judges it, or takes its lines one after another.
+fn rule_by<R: Read, W: Write, P: Watch>(
+    alloc: Global,
+    in_order: bool,
+    is_chart: bool,
+    question: Option<Question>,
+    wanted: sva_driver_reports::Wanted,
+    reader: &mut Told<R>,
+    writer: &mut Told<W>,
+    watch: &mut P,
+) -> Result<Option<Ruling>, DriveFault>
+    requires reader { IsNew reader.old }
+    requires writer { IsNew writer.old }
+    ensures ruled { WhereKnown (λ text. RulesIf is_chart in_order question wanted text (W.contents writer.old.inner)
+        (W.contents writer.new.inner) result)
+        (R.remaining reader.old.inner) (W.contents writer.old.inner) (W.contents writer.new.inner) result }
+    ensures cause { HasCause reader.new writer.new result }
+{
+    if is_chart {
+        chart_driver(alloc, wanted.most, reader, writer, watch)
+    } else {
+        rule_of(alloc, in_order, question, wanted, reader, writer, watch)
     }
 }
 

@@ -1,4 +1,4 @@
-use Rattle.std.proofs.Common.{◌≡◌, ◌×◌, ◌++◌, ◌+◌, length}
+use Rattle.std.proofs.Common.{◌≡◌, ◌++◌, ◌+◌, length}
 use Rattle.sva_script_reading.specs.Begins.{lines_from}
 use Rattle.sva_charts.specs.Witnesses.{rows_from}
 use Rattle.sva_charts.proofs.witness_rows.put_rows.Given as goal

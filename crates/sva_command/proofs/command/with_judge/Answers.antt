@@ -16,9 +16,10 @@ returns c =
     c.in_ok-with_strict.ensures.shape c.flag-2.ensures.local ∙ ap₂ with_rule run_is c.flag-2.ensures.rule in
     let told = c.in_ok-telling.ensures in
     let all_is = told.1.1.shape told.1.3 ∙ ap₂ with_rule strict_is told.1.2 in
-    let needed_is = told.2.1.1.shape told.2.1.3 ∙ ap₂ with_rule all_is told.2.1.2 in
-    let judge_is : app_of c.in_ok-telling.telling ≡ judge_app = told.2.2.1.shape told.2.2.3 ∙ ap₂ with_rule needed_is told.2.2.2 in
+    let needed_is = told.2.2.1.shape told.2.2.3 ∙ ap₂ with_rule all_is told.2.2.2 in
+    let platforms_is = told.2.3.1.shape told.2.3.3 ∙ ap₂ with_rule needed_is told.2.3.2 in
+    let judge_is : app_of c.in_ok-telling.telling ≡ judge_app = told.2.4.1.shape told.2.4.3 ∙ ap₂ with_rule platforms_is told.2.4.2 in
     IfOk-weaker c.subcommand.result _ _ (λ r added. added.shape
-    (told.2.2.1.globals ∙ ap₂ ◌||◌ {y = false} (told.2.1.1.globals ∙ ap₂ ◌||◌ {y = false} (told.1.1.globals
-    ∙ ap₂ ◌||◌ {y = false} (search rules) told.1.3) told.2.1.3) told.2.2.3)
+    (told.2.4.1.globals ∙ ap₂ ◌||◌ {y = false} (told.2.3.1.globals ∙ ap₂ ◌||◌ {y = false} (told.2.2.1.globals
+    ∙ ap₂ ◌||◌ {y = false} (told.1.1.globals ∙ ap₂ ◌||◌ {y = false} (search rules) told.1.3) told.2.2.3) told.2.3.3) told.2.4.3)
     ∙ ap (λ (a : App). with_subcommand (app_of c.args.svahost) a.top) judge_is) c.subcommand.ensures

@@ -11,7 +11,7 @@ use Rattle.sva_script_reports.specs.Traces.{trace_of}
 use Rattle.sva_why.specs.Why.{why_of}
 use Rattle.sva_race_reports.specs.Explored.{Explores}
 use Rattle.sva_driver_reports.specs.declared.wanted.Wanted.{Wanted}
-use Rattle.sva_program.specs.Run.{Reports, RulesOf, WhereKnown, question_of, wanted_of}
+use Rattle.sva_program.specs.Run.{Reports, RulesBy, WhereKnown, wanted_of}
 use Rattle.sva_program.proofs.RunLemmas.{caused, caused_exploring, caused_ruling, caused_run, printed, reported, run_reported}
 use Rattle.sva_program.proofs.run.perform.Goals as goal
 
@@ -218,18 +218,18 @@ returns-in-Trace-clause-cause g c =
 
 pub returns-in-Judge-clause-report : goal.returns-in-Judge-clause-report
 returns-in-Judge-clause-report g c =
-    let found = c.rule_of in
+    let found = c.rule_by in
     let input = g.R.Read.remaining c.args.reader.now.inner in
     let old = g.W.Write.contents c.args.writer.now.inner in
     let new = g.W.Write.contents found.new.writer.inner in
     subst (λ a. Reports a input old new c.ruled.result) (sym c.in-Judge.is) (
       found.result,
       c.ruled.ensures,
-      subst (λ (wanted : Wanted). WhereKnown (λ text. RulesOf c.in-Judge.run' (question_of c.in-Judge.beside) wanted text old new found.result) input old new found.result)
+      subst (λ (wanted : Wanted). WhereKnown (λ text. RulesBy c.in-Judge.run' c.in-Judge.beside wanted text old new found.result) input old new found.result)
           c.wanted_of_driver-wanted.ensures found.ensures.ruled,
     )
 
 pub returns-in-Judge-clause-cause : goal.returns-in-Judge-clause-cause
 returns-in-Judge-clause-cause g c =
-    let found = c.rule_of in
+    let found = c.rule_by in
     caused_ruling found.new.reader found.new.writer found.result c.ruled.result c.ruled.ensures found.ensures.cause

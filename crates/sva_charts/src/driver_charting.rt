@@ -91,12 +91,7 @@ pub fn driver_chart_text<P: Watch>(
 }
 
 /// Writes the chart of a report on a driver.
-fn put_chart(
-    alloc: Global,
-    text: &[u8],
-    report: &[u8],
-    out: &mut Vec<u8>,
-) -> Result<(), AllocError>
+fn put_chart(alloc: Global, text: &[u8], report: &[u8], out: &mut Vec<u8>) -> Result<(), AllocError>
     requires { out.old.items ≡ [] }
     ensures { OnOk result (witnesses.IsChartOf report.now out.new.items) }
 {

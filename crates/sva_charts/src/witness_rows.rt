@@ -146,12 +146,7 @@ fn put_sent_behind(out: &mut Vec<u8>, more: &[Sign], sent: &[Message]) -> Result
 }
 
 /// Appends the number of an event and that of its line.
-fn put_front(
-    alloc: Global,
-    out: &mut Vec<u8>,
-    number: u64,
-    line: &[u8],
-) -> Result<(), AllocError>
+fn put_front(alloc: Global, out: &mut Vec<u8>, number: u64, line: &[u8]) -> Result<(), AllocError>
     ensures { OnOk result (out.new.items ≡ out.old.items ++ witnesses.front_of number line.now) }
 {
     let mut text = Vec::new(alloc);

@@ -166,7 +166,16 @@ pub(crate) fn perform<X: AllocGlobal + Threads + Wait + Sync, R: Read, W: Write,
             let wanted = wanted_of_driver(most, all);
             let question = question_of(beside);
             let is_chart = beside.chart;
-            ruled(rule_by(rt.alloc(), run, is_chart, question, wanted, reader, writer, watch))
+            ruled(rule_by(
+                rt.alloc(),
+                run,
+                is_chart,
+                question,
+                wanted,
+                reader,
+                writer,
+                watch,
+            ))
         }
         Asked::Trace { live, whys } => ran(trace::<Explainer, R, W>(
             rt.alloc(),

@@ -7,7 +7,7 @@ use Rattle.sva_charts.proofs.witness_rows.put_rows.Goals as goal
 pub loop-number-preserved : goal.loop-number-preserved
 loop-number-preserved c = (
   rows_next c.args.rows.now _ (lines_from (c.next.new.self.number + 1) c.next.new.self.rest.now) (c.in-Some._number, c.in-Some.line.now)
-    c.in-Some.ensures.line c.loop-number.place c.loop-number.out.items c.put_row.new.out.items _ c.in_ok-put_row.ensures c.loop-number.invariant.0,
+      c.in-Some.ensures.line c.loop-number.place c.loop-number.out.items c.put_row.new.out.items _ c.in_ok-put_row.ensures c.loop-number.invariant.0,
   omega (arith, c.loop-number.invariant.1, c.in-Some.ensures.counted),
 )
 

@@ -7,7 +7,7 @@ use Rattle.sva_charts.proofs.witness_rows.put_rows.Given as goal
 abbrev pub invariant-loop-number : goal.invariant-loop-number
 invariant-loop-number l =
     (l.out.items ++ rows_from l.rows l.place (lines_from (l.lines.number + 1) l.lines.rest.now)
-        ≡ l.initial.out.items ++ rows_from l.rows 0 (lines_from (l.events.number + 1) l.events.rest.now))
+    ≡ l.initial.out.items ++ rows_from l.rows 0 (lines_from (l.events.number + 1) l.events.rest.now))
     × (l.lines.number ≡ l.events.number + l.place)
 
 -- what is left gets shorter

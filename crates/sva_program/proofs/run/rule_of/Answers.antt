@@ -1,5 +1,6 @@
-use Rattle.std.proofs.Common.{ap}
+use Rattle.std.proofs.Common.{ap, subst, sym}
 use Rattle.std.proofs.lemmas.Result.{IfOk-weaker}
+use Rattle.sva_program.specs.Run.{RulesOf, WhereKnown}
 use Rattle.sva_program.proofs.RunLemmas.{caused, reported}
 use Rattle.sva_variants.specs.Questions.{TellsVaried}
 use Rattle.sva_program.proofs.run.rule_of.Goals as goal
@@ -9,8 +10,10 @@ returns-in-Some-clause-ruled g c =
     let input = g.R.Read.remaining c.args.reader.now.inner in
     let old = g.W.Write.contents c.args.writer.now.inner in
     let new = g.W.Write.contents c.vary.new.writer.inner in
-    reported (λ text. TellsVaried c.in-Some.question text c.args.wanted.most old new c.vary.result) input old new c.vary.result c.vary.ensures.varied
-    (λ read. ap (λ told. g.W.Write.contents told.inner) (c.vary.ensures.read read).0)
+    subst (λ q. WhereKnown (λ text. RulesOf c.args.in_order q c.args.wanted text old new c.vary.result) input old new c.vary.result)
+    (sym c.in-Some.is)
+    (reported (λ text. TellsVaried c.in-Some.question text c.args.wanted.most old new c.vary.result) input old new c.vary.result
+    c.vary.ensures.varied (λ read. ap (λ told. g.W.Write.contents told.inner) (c.vary.ensures.read read).0))
 
 pub returns-in-Some-clause-cause : goal.returns-in-Some-clause-cause
 returns-in-Some-clause-cause g c =

@@ -99,7 +99,8 @@ fn put_chart(alloc: Global, text: &[u8], report: &[u8], out: &mut Vec<u8>) -> Re
         None => out.extend_from_slice(report),
         Some(events) => {
             let sketch = sketch(alloc, text, report, events)?;
-            put_sketched(alloc, out, report, events, &sketch)
+            put_sketched(alloc, out, report, events, &sketch)?;
+            Ok(())
         }
     }
 }

@@ -1,6 +1,6 @@
 //! The rows of a driver's chart: one for each event of its witness.
 
-ghost use Rattle.std.specs.Prelude.{◌≡◌, ◌++◌, ◌+◌, ◌∷◌, OnOk, flat_map, map, replicate, slice_get};
+ghost use Rattle.std.specs.Prelude.{◌≡◌, ◌++◌, ◌+◌, ◌∷◌, OnOk, flat_map, map, option_map, replicate, slice_get};
 ghost use Rattle.sva_script_reading.specs.Begins.{lines_from};
 ghost use Rattle.sva_driver_words.specs.Pieces.{and_number};
 ghost use Rattle.sva_charts.specs.Witnesses as witnesses;
@@ -155,22 +155,28 @@ fn put_front(alloc: Global, out: &mut Vec<u8>, number: u64, line: &[u8]) -> Resu
     put_cell(out, 5, number_in(line))
 }
 
-/// Appends the row of an event, of which is drawn what stands at this place.
+/// What is drawn of the event at a place, if anything is.
+fn drawn_at(rows: &[Drawn], place: usize) -> Option<&Drawn>
+    ensures { option_map (λ drawn. drawn.now) result ≡ slice_get rows.entry.now place }
+{
+    rows.get(place)
+}
+
+/// Appends the row of an event, of which this is drawn.
 fn put_row(
     alloc: Global,
     out: &mut Vec<u8>,
     number: u64,
     line: &[u8],
-    rows: &[Drawn],
-    place: usize,
+    drawn: Option<&Drawn>,
 ) -> Result<(), AllocError>
     ensures { OnOk result (out.new.items ≡ out.old.items
-        ++ witnesses.row_text number line.now (slice_get rows.now place)) }
+        ++ witnesses.row_text number line.now (option_map (λ drawn. drawn.now) drawn.entry)) }
 {
     let mut words = Vec::new(alloc);
     split_event(line, &mut words)?;
     put_front(alloc, out, number, line)?;
-    match rows.get(place) {
+    match drawn {
         None => {
             put_words(out, words.as_slice())?;
             out.extend_from_slice(b"\n")
@@ -196,7 +202,7 @@ fn put_rows(
     let mut lines = events;
     let mut place = 0;
     while let Some((_number, line)) = lines.next() {
-        put_row(alloc, out, place as u64 + 1, line, rows, place)?;
+        put_row(alloc, out, place as u64 + 1, line, drawn_at(rows, place))?;
         place += 1;
     }
     Ok(())

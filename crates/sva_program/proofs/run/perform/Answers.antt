@@ -11,7 +11,7 @@ use Rattle.sva_script_reports.specs.Traces.{trace_of}
 use Rattle.sva_why.specs.Why.{why_of}
 use Rattle.sva_race_reports.specs.Explored.{Explores}
 use Rattle.sva_driver_reports.specs.declared.wanted.Wanted.{Wanted}
-use Rattle.sva_program.specs.Run.{Reports, RulesBy, WhereKnown, wanted_of}
+use Rattle.sva_program.specs.Run.{Reports, RulesBy, RulesIf, WhereKnown, wanted_of}
 use Rattle.sva_program.proofs.RunLemmas.{caused, caused_exploring, caused_ruling, caused_run, printed, reported, run_reported}
 use Rattle.sva_program.proofs.run.perform.Goals as goal
 
@@ -226,7 +226,9 @@ returns-in-Judge-clause-report g c =
       found.result,
       c.ruled.ensures,
       subst (λ (wanted : Wanted). WhereKnown (λ text. RulesBy c.in-Judge.run' c.in-Judge.beside wanted text old new found.result) input old new found.result)
-          c.wanted_of_driver-wanted.ensures found.ensures.ruled,
+          c.wanted_of_driver-wanted.ensures
+          (subst (λ question. WhereKnown (λ text. RulesIf c.in-Judge.beside.chart c.in-Judge.run' question c.wanted_of_driver-wanted.result text old new found.result)
+          input old new found.result) c.question_of-question.ensures found.ensures.ruled),
     )
 
 pub returns-in-Judge-clause-cause : goal.returns-in-Judge-clause-cause
